@@ -2,15 +2,15 @@
  *
  *     bench/peers/run [RUNS [PHASES [PARTS]]]
  *
- * RUNS is 5 and PHASES are all, as 'bcd', where they are left out. PARTS divides the counts of the phases a, e, f and g. Both keep every file in memory:
- * libhdf5 by its core driver, without a file behind it. Its low bound is the earliest, so the files are of the same form. What is read is
- * compared with what is to be read, by both. The floor of a phase is the time for copying as many bytes as it has to move into fresh
- * memory, in the same run: those of the cells, or of the image that is opened. */
+ * RUNS is 5 and PHASES are all, as 'bcd', where they are left out. PARTS divides the counts of the phases a, e, f, g and j. Both keep
+ * every file in memory: libhdf5 by its core driver, without a file behind it. Its low bound is the earliest, so the files are of the same
+ * form. What is read is compared with what is to be read, by both, and so is what f and j have written. The floor of a phase is the time
+ * for copying as many bytes as it has to move into fresh memory, in the same run: those of the cells, or of the image that is opened. */
 #include "both.h"
 
 #include <sys/mman.h>
 
-enum { SIDE = 4096, CHUNK = 64, STRIDED = 1365 * 818 * 2, CELLS = 1000000, SLAB = 16 };
+enum { SIDE = 4096, CHUNK = 64, STRIDED = 1365 * 818 * 2, CELLS = 1000000, SLAB = 16, APPENDED = 16 };
 
 static int part = 1; /* the counts of slow phases are divided by this */
 
@@ -38,9 +38,13 @@ static void new_array(h5i_session *session, const char *path, uint64_t cells) {
                           sizeof fill));
 }
 
-static void write_front(h5i_session *session, const char *path, const int32_t *values, uint64_t cells) {
-    const uint64_t start[] = {0}, one[] = {1}, count[] = {cells};
+static void write_from(h5i_session *session, const char *path, uint64_t first, const int32_t *values, uint64_t cells) {
+    const uint64_t start[] = {first}, one[] = {1}, count[] = {cells};
     OURS(h5i_write(session, TEXT(path), SLAB_OF(start, one, count, one), int32, (const uint8_t *)values, cells * 4));
+}
+
+static void write_front(h5i_session *session, const char *path, const int32_t *values, uint64_t cells) {
+    write_from(session, path, 0, values, cells);
 }
 
 static const int32_t ten[10] = {0, 1, 2, 3, 4, 5, 6, 7, 8, 9};
@@ -412,29 +416,50 @@ static double links_listed_ours(void) { return list_ours(0); }
 static double arrays_listed_theirs(void) { return list_theirs(1); }
 static double arrays_listed_ours(void) { return list_ours(1); }
 
-/* ---- f: an array that grows and shrinks */
+/* ---- f, j: an array that grows and shrinks, and one that only grows */
 
-static hid_t growing_theirs(hid_t file) {
-    hsize_t dims[1] = {100}, most[1] = {H5S_UNLIMITED}, chunk[1] = {10};
-    hid_t space = H5Screate_simple(1, dims, most), how = H5Pcreate(H5P_DATASET_CREATE);
-    H5(H5Pset_chunk(how, 1, chunk));
-    hid_t array = H5Dcreate2(file, "d", H5T_STD_I32LE, space, H5P_DEFAULT, how, H5P_DEFAULT);
+static hid_t growing_theirs(hid_t file, hsize_t dims, hsize_t chunk) {
+    hsize_t most = H5S_UNLIMITED;
+    hid_t space = H5Screate_simple(1, &dims, &most), how = H5Pcreate(H5P_DATASET_CREATE);
+    H5(H5Pset_chunk(how, 1, &chunk));
+    hid_t array = H5Dcreate2(file, "n", H5T_STD_I32LE, space, H5P_DEFAULT, how, H5P_DEFAULT);
     H5(array), H5(H5Sclose(space)), H5(H5Pclose(how));
     return array;
 }
 
-static void new_growing(h5i_session *session) {
-    const uint64_t dims[] = {100}, most[] = {LIBH5I_UNLIMITED};
-    const uint32_t chunk[] = {10};
+static void new_growing(h5i_session *session, uint64_t dims, uint32_t chunk) {
+    const uint64_t most = LIBH5I_UNLIMITED;
     const int32_t fill = 0;
-    OURS(h5i_create_array(session, TEXT("/d"), int32, LIST(dims), LIST(most), LIBH5I_CHUNKED, LIST(chunk), (const uint8_t *)&fill, 4));
+    OURS(h5i_create_array(session, TEXT("/n"), int32, &dims, 1, &most, 1, LIBH5I_CHUNKED, &chunk, 1, (const uint8_t *)&fill, 4));
 }
 
 static void size_theirs(hid_t array, hsize_t cells_now) { H5(H5Dset_extent(array, &cells_now)); }
-static void size_ours(h5i_session *session, uint64_t cells_now) { OURS(h5i_resize(session, TEXT("/d"), &cells_now, 1)); }
+static void size_ours(h5i_session *session, uint64_t cells_now) { OURS(h5i_resize(session, TEXT("/n"), &cells_now, 1)); }
 
-static double written_theirs(void) {
-    hid_t file = new_file("f"), array = growing_theirs(file);
+/* The array has just the first so many of the cells. */
+static void are_kept_theirs(hid_t array, hsize_t kept) {
+    hid_t space = H5Dget_space(array);
+    hsize_t dims;
+    H5(H5Sget_simple_extent_dims(space, &dims, NULL));
+    TRUE(dims == kept);
+    memset(room, 0, kept * 4);
+    H5(H5Dread(array, H5T_NATIVE_INT32, H5S_ALL, H5S_ALL, H5P_DEFAULT, room));
+    TRUE(memcmp(room, cells, kept * 4) == 0);
+    H5(H5Sclose(space));
+}
+
+static void are_kept_ours(h5i_session *session, uint64_t kept) {
+    const uint64_t start[] = {0}, one[] = {1}, count[] = {kept};
+    h5i_about about;
+    OURS(h5i_stat(session, TEXT("/n"), &about));
+    TRUE(about.dims[0] == kept);
+    memset(room, 0, kept * 4);
+    OURS(h5i_read(session, TEXT("/n"), SLAB_OF(start, one, count, one), (uint8_t *)room, kept * 4));
+    TRUE(memcmp(room, cells, kept * 4) == 0);
+}
+
+static double write_grown_theirs(hid_t file) {
+    hid_t array = growing_theirs(file, 100, 10);
     double from = now();
     for (int k = 0; k < 2000 / part; k++) {
         size_theirs(array, 1000);
@@ -443,45 +468,107 @@ static double written_theirs(void) {
     }
     H5(H5Fflush(file, H5F_SCOPE_GLOBAL));
     double time = now() - from;
-    H5(H5Dclose(array)), H5(H5Fclose(file));
+    are_kept_theirs(array, 5);
+    H5(H5Dclose(array));
     return time;
 }
 
-static double written_ours(void) {
-    h5i_session session = new_session();
-    new_growing(&session);
+static double write_grown_ours(h5i_session *session) {
+    new_growing(session, 100, 10);
     double from = now();
     for (int k = 0; k < 2000 / part; k++) {
-        size_ours(&session, 1000);
-        write_front(&session, "/d", cells, 1000);
-        size_ours(&session, 5);
+        size_ours(session, 1000);
+        write_front(session, "/n", cells, 1000);
+        size_ours(session, 5);
     }
     double time = now() - from;
-    h5i_close(&session);
+    are_kept_ours(session, 5);
     return time;
 }
 
-static double sized_theirs(void) {
-    hid_t file = new_file("f"), array = growing_theirs(file);
+static double resize_theirs(hid_t file) {
+    hid_t array = growing_theirs(file, 100, 10);
     double from = now();
     for (int k = 0; k < 20000 / part; k++)
         size_theirs(array, k % 2 ? 5 : 1000);
     H5(H5Fflush(file, H5F_SCOPE_GLOBAL));
     double time = now() - from;
-    H5(H5Dclose(array)), H5(H5Fclose(file));
+    H5(H5Dclose(array));
     return time;
 }
 
-static double sized_ours(void) {
-    h5i_session session = new_session();
-    new_growing(&session);
+static double resize_ours(h5i_session *session) {
+    new_growing(session, 100, 10);
     double from = now();
     for (int k = 0; k < 20000 / part; k++)
-        size_ours(&session, k % 2 ? 5 : 1000);
+        size_ours(session, k % 2 ? 5 : 1000);
+    return now() - from;
+}
+
+static double append_theirs(hid_t file) {
+    hsize_t start[1], size[1] = {APPENDED};
+    hid_t array = growing_theirs(file, 0, APPENDED), memory = H5Screate_simple(1, size, NULL);
+    double from = now();
+    for (int k = 0; k < 100000 / part; k++) {
+        start[0] = (hsize_t)k * APPENDED;
+        size_theirs(array, start[0] + APPENDED);
+        hid_t space = H5Dget_space(array);
+        H5(H5Sselect_hyperslab(space, H5S_SELECT_SET, start, NULL, size, NULL));
+        H5(H5Dwrite(array, H5T_NATIVE_INT32, memory, space, H5P_DEFAULT, cells + start[0]));
+        H5(H5Sclose(space));
+    }
+    H5(H5Fflush(file, H5F_SCOPE_GLOBAL));
     double time = now() - from;
+    are_kept_theirs(array, 100000 / part * APPENDED);
+    H5(H5Sclose(memory)), H5(H5Dclose(array));
+    return time;
+}
+
+static double append_ours(h5i_session *session) {
+    new_growing(session, 0, APPENDED);
+    double from = now();
+    for (int k = 0; k < 100000 / part; k++) {
+        uint64_t start = (uint64_t)k * APPENDED;
+        size_ours(session, start + APPENDED);
+        write_from(session, "/n", start, cells + start, APPENDED);
+    }
+    double time = now() - from;
+    are_kept_ours(session, 100000 / part * APPENDED);
+    return time;
+}
+
+/* The time of edits of an array alone in its file, or with a rest of 64 MB in it, which is there before. */
+static double beside_theirs(double (*edit)(hid_t file), bool has_rest) {
+    hid_t file = has_rest ? file_of(big_image, big_length, H5F_ACC_RDWR) : new_file("n");
+    double time = edit(file);
+    H5(H5Fclose(file));
+    return time;
+}
+
+static double beside_ours(double (*edit)(h5i_session *session), bool has_rest) {
+    h5i_session session = {0};
+    uint64_t place;
+    if (has_rest)
+        OURS(h5i_open(&session, big_image, big_length, &place));
+    else
+        OURS(h5i_create(&session));
+    double time = edit(&session);
     h5i_close(&session);
     return time;
 }
+
+static double written_theirs(void) { return beside_theirs(write_grown_theirs, false); }
+static double written_ours(void) { return beside_ours(write_grown_ours, false); }
+static double written_beside_theirs(void) { return beside_theirs(write_grown_theirs, true); }
+static double written_beside_ours(void) { return beside_ours(write_grown_ours, true); }
+static double sized_theirs(void) { return beside_theirs(resize_theirs, false); }
+static double sized_ours(void) { return beside_ours(resize_ours, false); }
+static double sized_beside_theirs(void) { return beside_theirs(resize_theirs, true); }
+static double sized_beside_ours(void) { return beside_ours(resize_ours, true); }
+static double appended_theirs(void) { return beside_theirs(append_theirs, false); }
+static double appended_ours(void) { return beside_ours(append_ours, false); }
+static double appended_beside_theirs(void) { return beside_theirs(append_theirs, true); }
+static double appended_beside_ours(void) { return beside_ours(append_ours, true); }
 
 /* ---- g: every second one of 10000 links, and of 10000 datasets, is unlinked */
 
@@ -620,7 +707,7 @@ static const struct {
     const size_t *length; /* the same, where it is known later */
 } phases[] = {
     {'a', true, "10000 datasets created and written", a_theirs, a_ours, 0, NULL},
-    {'b', false, "64 MB written, in chunks", b_theirs, b_ours, BIG, NULL},
+    {'b', false, "64 MB written, in 4096 chunks not yet stored", b_theirs, b_ours, BIG, NULL},
     {'c', false, "2233140 strided cells read", strided_theirs, strided_ours, STRIDED * 4, NULL},
     {'c', false, "64 MB read, in chunks", whole_theirs, whole_ours, BIG, NULL},
     {'c', false, "64 MB opened and read", opened_theirs, opened_ours, BIG, NULL},
@@ -629,16 +716,20 @@ static const struct {
     {'e', false, "10000 links opened and listed", links_listed_theirs, links_listed_ours, 0, &lengths[0]},
     {'e', false, "10000 datasets listed with types", arrays_listed_theirs, arrays_listed_ours, 0, &lengths[1]},
     {'f', true, "2000 times grown, written, shrunk", written_theirs, written_ours, 0, NULL},
+    {'f', true, "the same beside 64 MB", written_beside_theirs, written_beside_ours, 0, NULL},
     {'f', true, "20000 times resized", sized_theirs, sized_ours, 0, NULL},
+    {'f', true, "the same beside 64 MB", sized_beside_theirs, sized_beside_ours, 0, NULL},
     {'g', true, "5000 of 10000 links unlinked", links_gone_theirs, links_gone_ours, 0, NULL},
     {'g', true, "5000 of 10000 datasets unlinked", arrays_gone_theirs, arrays_gone_ours, 0, NULL},
     {'h', false, "1000000 reads of 16 cells", h_theirs, h_ours, 0, NULL},
     {'i', false, "20000 times an attribute set, of 50", i_theirs, i_ours, 0, NULL},
+    {'j', true, "100000 times a chunk appended", appended_theirs, appended_ours, 0, NULL},
+    {'j', true, "the same beside 64 MB", appended_beside_theirs, appended_beside_ours, 0, NULL},
 };
 
 int main(int count, char **words) {
     int runs = count > 1 ? atoi(words[1]) : 5;
-    const char *wanted = count > 2 ? words[2] : "abcdefghi";
+    const char *wanted = count > 2 ? words[2] : "abcdefghij";
     part = count > 3 ? atoi(words[3]) : 1;
     if (runs < 1 || runs > MOST_RUNS || part < 1) {
         fprintf(stderr, "usage: peers [RUNS [PHASES [PARTS]]]\n");

@@ -12,9 +12,7 @@ from .stored_cells import with_cells
 from .support import InFolder, empty_image, h5i
 
 # pylint: disable=wrong-import-order
-from h5oracle.model import (  # noqa: E402
-    CreateDataset, CreateGroup, Dataset, Flat, HardLink, RemoveAttr, Resize, SetAttr, SoftLink, Tree, Unlink, Write, new_boxes, object_at, refusal, same_tree,
-)
+from h5oracle.model import Dataset, Tree, Write, new_boxes, object_at, refusal, same_tree  # noqa: E402
 from h5oracle.script import BadLine, edit_of, escape, path_text  # noqa: E402
 from h5oracle.values import TYPES, product  # noqa: E402
 from randscript import Maker  # noqa: E402
@@ -24,16 +22,16 @@ GROUPS = dict(group=16, many=24, line=12, link=14, soft=12, attr=8, unattr=3, du
 # And where arrays of every form are made beside them, and all is repacked at times.
 ARRAYS = dict(dataset=30, group=8, many=12, link=10, soft=6, attr=10, unattr=4, dump=12, root=2, ls=1, repack=3, bad=6, note=1, write=1, unlink=1,
               resize=1, view=1)
-# Where objects and links are made and taken, and now and then cells are written for which the image is written anew.
-LINKS = dict(near=40, link=14, soft=10, unlink=30, many=8, group=8, line=5, dataset=5, attr=5, unattr=3, bad=3, write=3)
+# Where objects and links are made and taken, and now and then cells are written, and an array resized.
+LINKS = dict(near=40, link=14, soft=10, unlink=30, many=8, group=8, line=5, dataset=5, attr=5, unattr=3, bad=3, write=3, resize=1)
 # Where cells are written, and arrays resized.
 WRITES = dict(dataset=14, write=40, resize=14, dump=14, unlink=3, link=5, soft=2, group=4, attr=4, unattr=2, root=1, ls=1, repack=2, bad=5, note=1)
+# Where little else is done, and each edit is judged.
+CHUNKS = dict(dataset=12, write=48, resize=26, unlink=5, link=3, soft=2, group=3, attr=3, unattr=2, repack=1, bad=2)
 # And where views are open meanwhile.
 VIEWS = WRITES | dict(view=16, show=30, close=4, dump=5)
-# A chunk of more bytes, which the program takes, would be written again by each edit behind the write that stores it.
+# A chunk of more bytes, which the program takes, would be in each image behind the write that stores it.
 LARGE_CHUNK, LARGEST_CHUNK = 1 << 16, 1 << 30
-# Edits that are made where things stand, whatever the image holds.
-IN_PLACE = (CreateGroup, CreateDataset, HardLink, SoftLink, Unlink, SetAttr, RemoveAttr)
 # Where nothing else is done, so that most writes are made in a file as others have laid it out.
 CELLS = dict(write=6, dump=1, view=2, show=2)
 
@@ -46,11 +44,14 @@ class Drawn:
     script: bytes
     answers: bytes
     tree: Tree
-    # The file behind it: the plain image where one was written anew, else the old one but for cells; None where objects,
-    # attributes or links were made or taken in place since.
+    # The file behind it: the plain image behind a `repack`, else the old one, in both but for stored cells that were written; None where
+    # other edits were made since.
     after: bytes | None
-    anew: bool
     edits: int
+
+    def is_judged(self):
+        """Whether the file is edited, and all its bytes are known."""
+        return self.edits > 0 and self.after is not None
 
     def stores(self):
         """How the cells of the arrays are stored, and of how many dimensions they are."""
@@ -63,8 +64,8 @@ class LineMaker(Maker):
     def __init__(self, rng, image, kinds):
         super().__init__(rng, today.session_of(image))
         self.kinds, self.image = kinds, image
-        # The image was written anew, and objects, attributes or links were made or taken in place since.
-        self.anew = self.set = False
+        # The image was repacked, and edits that do more than write stored cells were made since.
+        self.repacked = self.set = False
         # The last line was an edit that was made in place.
         self.is_last_in_place = False
 
@@ -77,25 +78,20 @@ class LineMaker(Maker):
     def run(self, line):
         """Runs a line: the line, its answer, and whether an edit was accepted."""
         edit = self.accepted_edit(line)
-        in_place = isinstance(edit, IN_PLACE) or isinstance(edit, Write) and self.is_in_place(edit)
+        stored = isinstance(edit, Write) and self.are_stored(edit)
         text, edited = today.answers(self.session, line + b"\n")
-        self.is_last_in_place = edited and in_place
-        if edited and not isinstance(edit, Write):
-            self.set = in_place
-        if edited and not in_place:
-            self.set = False
-            if isinstance(edit, Resize) and not self.anew:
-                self.keep_chunks(object_at(self.session.tree, edit.path))
-            self.anew = True
+        self.is_last_in_place = edited and edit is not None
+        if self.is_last_in_place:
+            self.set |= not stored
+        elif edited:
+            self.repacked, self.set = True, False
         return line, (text, edited)
 
     def after(self):
-        """The image behind the lines so far, where an edit was accepted, and `None` where objects, attributes or links were
-        made or taken in place.
-        """
+        """The image behind the lines so far, and `None` where edits were made in place that do more than write stored cells."""
         if self.set:
             return None
-        return self.session.image() if self.anew else with_cells(self.image, self.session.tree)
+        return self.session.image() if self.repacked else with_cells(self.image, self.session.tree)
 
     def accepted_edit(self, line):
         """The edit of a line, if there is one and no rule of the tree refuses it."""
@@ -105,22 +101,12 @@ class LineMaker(Maker):
             return None
         return None if edit is None or refusal(self.session.tree, self.session.given, edit, today.STAGE) else edit
 
-    def is_in_place(self, edit):
+    def are_stored(self, edit):
         """Whether all cells that the edit writes are stored."""
         thing = self.session.tree.objects[object_at(self.session.tree, edit.path)]
         if thing.store == "chunked":
             return not new_boxes(self.session.tree, edit)
         return thing.flat is not None or not edit.hyper.cells()
-
-    def keep_chunks(self, number):
-        """Of an array that is resized, chunks that others stored outside of its sizes stay where they are inside of the new ones; all
-        their cells are the fill. The reference's tree has none of them.
-        """
-        reading, _ = today.opened(self.image)
-        thing = self.session.tree.objects[number]
-        for offsets, _ in reading.stored_chunks.get(number, []):
-            if offsets not in thing.chunks and all(at < size for at, size in zip(offsets, thing.dims)):
-                thing.chunks[offsets] = Flat(product(thing.chunk), thing.fixed, thing.fill)
 
     def make_dataset(self):
         """A new array, whose chunks are small, or larger than any may be."""
@@ -173,7 +159,7 @@ def drawn_on(image, rng, kinds, lines):
     made = [maker.line() for _ in range(lines)]
     edits = sum(edited for _, (_, edited) in made)
     return Drawn(image, b"".join(line + b"\n" for line, _ in made), b"".join(text for _, (text, _) in made), maker.session.tree,
-                 maker.after() if edits else image, maker.anew, edits)
+                 maker.after() if edits else image, edits)
 
 
 class DrawnScripts(InFolder):
@@ -192,15 +178,15 @@ class DrawnScripts(InFolder):
 
     def assert_all_right(self, seeds, *words, **options):
         """All scripts that `drawn` makes of the seeds and these words: how many edits are accepted, how arrays are stored, and how
-        many of the files were not written anew.
+        many of the edited files are judged byte by byte.
         """
-        edits, stores, in_place = 0, set(), 0
+        edits, stores, judged = 0, set(), 0
         with ProcessPoolExecutor() as pool:
             for seed, one in enumerate(pool.map(partial(drawn_of, words, options), seeds)):
                 with self.subTest(seed=seed):
                     self.assert_right(one)
-                edits, stores, in_place = edits + one.edits, stores | one.stores(), in_place + (one.edits > 0 and not one.anew)
-        return edits, stores, in_place
+                edits, stores, judged = edits + one.edits, stores | one.stores(), judged + one.is_judged()
+        return edits, stores, judged
 
 
 def drawn_of(words, options, seed):

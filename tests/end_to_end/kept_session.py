@@ -1,4 +1,4 @@
-"""A script in one session of the program, with the image behind each line; and the judgement of each, of edits in place byte by byte."""
+"""A script in one session of the program, with the image behind each line; and the judgement of each, of edits byte by byte."""
 
 import re
 from dataclasses import dataclass
@@ -62,12 +62,12 @@ class GivenBack:
     def __init__(self):
         self.free = bytearray()
 
-    def is_written_anew(self):
-        """The image was written anew, and has no free byte."""
+    def is_repacked(self):
+        """The image has the plain layout, and no free byte."""
         self.free = bytearray()
 
     def edited(self, old, new):
-        """What is wrong with where the blocks of an edit in place stand: at the end, where a free block is as long."""
+        """What is wrong with where the blocks of an edit stand: at the end, where a free block is as long."""
         free = self.free.ljust(new.superblock.end, b"\0")
         held = blocks_of(old, new)
         for at, (length, _) in held.items():
@@ -94,7 +94,7 @@ class Judge:
         self.given_back = GivenBack()
 
     def wrong_with(self, step, edited, in_place, tree):
-        """What is wrong with a step. It was to be an edit or none, in place or anew, and to leave this tree."""
+        """What is wrong with a step. It was to be an edit in place, a `repack` or neither, and to leave this tree."""
         if not edited:
             return [] if step.before == step.after else ["what is no edit has changed the image"]
         old, (self.reading, refused) = self.reading, today.opened(step.after)
@@ -105,5 +105,5 @@ class Judge:
         if in_place:
             wrong += self.given_back.edited(old, self.reading)
         else:
-            self.given_back.is_written_anew()
+            self.given_back.is_repacked()
         return wrong + [unlike] * (unlike is not None)

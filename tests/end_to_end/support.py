@@ -52,9 +52,9 @@ def h5i(*words, **options):
     return run_command(PROGRAM, *words, **options)
 
 
-# The reference as the program is: all lines of scripts are taken, objects, attributes and links are edited in place and other edits never refused
-# for what they would need there, views are lent or patched, and the later forms are not read.
-STAGE = "9+11"
+# The reference as the program is: all lines of scripts are taken, all edits are made in place, views are lent or patched, and the later
+# forms are not read.
+STAGE = "10+11"
 
 
 def reference(*words, **options):

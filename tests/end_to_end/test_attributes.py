@@ -76,7 +76,7 @@ class AsTheReference(InFolder):
     """Scripts that the program and the reference answer alike, with images that are the same tree."""
 
     def assert_run(self, path, script):
-        """The answers are the reference's, and so is the tree; the image has the plain layout where it was written anew."""
+        """The answers are the reference's, and so is the tree; the image has the plain layout behind a `repack`."""
         before = self.read(path)
         session = today.session_of(before)
         wanted, edited = today.answers(session, script)

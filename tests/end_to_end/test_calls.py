@@ -47,7 +47,7 @@ def asked(seed, word, kinds):
             lines.append(line.decode("ascii"))
             wanted.append(called(maker.session, line, text))
     after = maker.after()
-    # Of a file whose attributes were edited in place the layout is not the reference's.
+    # Behind edits in place that do more than write stored cells the layout is not the reference's.
     return lines + ["image"], wanted + [None if after is None else hashlib.sha256(after).hexdigest()]
 
 

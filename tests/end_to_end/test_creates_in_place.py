@@ -1,14 +1,12 @@
 """Groups and arrays made where their group stands: what the new object is, where its bytes come to stand, and when there is no room."""
 
 import os
-import resource
-import subprocess
 
 from . import today
 from .kept_session import image_behind
-from .support import PROGRAM, InFolder, empty_image, h5i, library, patched, reference
+from .support import InFolder, empty_image, h5i, library, patched, reference
 from .test_links_in_place import IMAGE_FULL, LIMIT, Judged
-from .test_scripts import limited
+from .test_scripts import unwritten
 
 # pylint: disable=wrong-import-order
 from h5oracle.growth import edit_bound  # noqa: E402
@@ -92,11 +90,8 @@ class Room(InFolder):
                     image = patched(image, at, le(number, 8).hex())
                 path = self.written("long.h5", image)
                 os.truncate(path, length)
-                # No file of this length is written: the limit of a file's size comes before.
                 with self.subTest(line=line, length=length):
-                    done = subprocess.run([PROGRAM, "run", path], input=line + b"\nunlink /d\n", preexec_fn=limited(resource.RLIMIT_FSIZE, 1 << 20),
-                                          capture_output=True, check=False, timeout=300)
-                    self.assertEqual((done.returncode, done.stdout), (4, answer + b"ok 0\n"))
+                    self.assertEqual(unwritten(path, line + b"\nunlink /d\n"), (4, answer + b"ok 0\n"))
                 os.remove(path)
 
     def test_an_array_that_is_too_long_alone(self):
@@ -107,3 +102,5 @@ class Room(InFolder):
                 script = b"dataset /q u8 %d contiguous\n" % cells
                 self.assertEqual(h5i("run", path, script=script), (1, IMAGE_FULL, b""))
                 self.assertEqual(self.read(path), before)
+        # One byte less is not refused.
+        self.assertEqual(unwritten(path, b"dataset /q u8 2147472952 contiguous\n"), (4, b"ok 0\n"))

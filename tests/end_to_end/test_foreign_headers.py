@@ -70,7 +70,7 @@ class ForeignHeaders(InFolder):
         self.assertEqual(reference("check", path)[0], 0)
         self.assertEqual(h5i("ls", path), (0, b"/ group\n", b""))
         self.assert_holds(path, "/", b"/ group\n@note u8 {2} 7 8\n")
-        # The attribute's message becomes NIL; written anew, the file is the empty one again.
+        # The attribute's message becomes NIL; repacked, the file is the empty one again.
         self.assertEqual(h5i("run", path, script=b"unattr / note\n"), (0, b"ok 0\n", b""))
         self.assertEqual(self.read(path), patched(whole, 800 + first, "0000"))
         self.assertEqual(h5i("run", path, script=b"repack\n"), (0, b"ok 0\n", b""))

@@ -17,7 +17,6 @@ from h5oracle.session import Edited  # noqa: E402
 from mutate import mutant, patch  # noqa: E402
 
 CASES = 16
-# Lines of other kinds are edits in place, which the stand-in does not make.
 KINDS = [dict(resize=12, dump=8, root=2, ls=3, repack=3, note=1)]
 
 
@@ -127,10 +126,11 @@ class Broken(StandIn):
 class Fuzz(InFolder):
     """The command."""
 
-    def fuzz(self, library, *words, kinds=KINDS):
-        """The status and the lines of a run."""
+    def fuzz(self, library, *words, kinds=KINDS, judge=lambda *_: []):
+        """The status and the lines of a run. No judge minds where the stand-in makes an edit, which is never in place."""
         text = io.StringIO()
-        with contextlib.redirect_stdout(text), contextlib.redirect_stderr(text), mock.patch.object(fuzzing, "KINDS", kinds):
+        changed = mock.patch.object(fuzzing, "KINDS", kinds), mock.patch.object(today, "wrong_with", judge)
+        with contextlib.redirect_stdout(text), contextlib.redirect_stderr(text), changed[0], changed[1]:
             status = fuzz_command.main(list(words), library)
         return status, text.getvalue().splitlines()
 
@@ -155,10 +155,11 @@ class Fuzz(InFolder):
     def test_another_status(self):
         self.assert_told(OtherStatuses(), r"its call: the library has b'0', the reference b'\d+'")
 
-    def test_objects_and_links_for_which_the_image_is_written_anew(self):
-        for word in ("group", "dataset", "soft", "unlink"):
+    def test_edits_for_which_the_image_is_written_anew(self):
+        for word in ("group", "dataset", "soft", "unlink", "write", "resize"):
             with self.subTest(word=word):
-                self.assert_told(StandIn(), rf"^line \d+, b.{word} .*: .*( changed| moved|image grew by )", kinds=[{word: 1}])
+                pattern = rf"^line \d+, b.{word} .*: .*( changed| moved|image grew by )"
+                self.assert_told(StandIn(), pattern, kinds=[{word: 1}], judge=today.wrong_with)
 
     def test_what_is_told_otherwise(self):
         self.assert_told(OtherKinds(), r"^at b'/.*' behind all lines: what is told: the library has \('soft link', b'x'\), the reference \('group'")

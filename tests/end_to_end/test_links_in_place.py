@@ -5,19 +5,19 @@ how much it has grown are judged by the reference.
 import json
 import os
 import random
-import resource
-import subprocess
 import tempfile
+from collections import Counter
 from concurrent.futures import ProcessPoolExecutor
+from functools import partial
 
 from . import today
 from .drawn_groups import RootGroup, drawn_group, loosened
 from .drawn_images import IMAGES, linked_image
 from .drawn_scripts import LINKS, LineMaker
 from .kept_session import Judge, image_behind, steps
-from .support import PROGRAM, InFolder, empty_image, h5i, library, patched, reference
+from .support import InFolder, empty_image, h5i, library, patched, reference
 from .test_group_scripts import CHANGE, LIST, links_of
-from .test_scripts import limited
+from .test_scripts import unwritten
 
 # pylint: disable=wrong-import-order
 from h5oracle.foreign import Foreign  # noqa: E402
@@ -57,6 +57,11 @@ def loose_root(leaf, internal):
     return LooseRoot(tree, Superblock(0, leaf, internal, 32, 0, 0), random.Random(1), wild=0, late=False).write()
 
 
+def new_image(_):
+    """The image of a new file."""
+    return empty_image()
+
+
 def image_of_others(rng):
     """An image in a layout drawn at random, whose keys name any text that they may."""
     if rng.random() < 0.5:
@@ -65,11 +70,11 @@ def image_of_others(rng):
     return loosened(image[:number_at(image, 40, 8)], rng, rng.choice([0, 0.3, 0.9]))
 
 
-def drawn_lines(rng, image, to_the_end):
-    """Random lines on an image: of each its answer, whether it is an edit, and one in place, and the tree behind it. At the end they take
-    all links away, where this is wanted.
+def drawn_lines(rng, image, kinds, to_the_end):
+    """Random lines of these kinds on an image: of each its answer, whether it is an edit, and one in place, and the tree behind it. At the
+    end they take all links away, where this is wanted.
     """
-    maker = LineMaker(rng, image, LINKS | dict(unlink=rng.choice([8, LINKS["unlink"], 60])))
+    maker = LineMaker(rng, image, kinds | dict(unlink=kinds["unlink"] * rng.choice([0.25, 1, 2])))
 
     def told(line, ran):
         return line, *ran, maker.is_last_in_place, maker.session.tree.copy()
@@ -81,55 +86,50 @@ def drawn_lines(rng, image, to_the_end):
             yield told(*ran)
 
 
-def judged(seed, others):
-    """What is wrong with a random session, line by line, and how many edits were made in place."""
-    rng = random.Random(f"links {others} {seed}")
-    image = image_of_others(rng) if others else empty_image()
-    wanted = list(drawn_lines(rng, image, seed % 2))
-    judge, in_place = Judge(image), 0
+def judged(word, kinds, image_of, seed):
+    """What is wrong with a random session, line by line, and how many edits of each kind it makes. The word and the seed draw it."""
+    rng = random.Random(f"{word} {image_of.__name__} {seed}")
+    image = image_of(rng)
+    wanted = list(drawn_lines(rng, image, kinds, seed % 2))
+    judge, made = Judge(image), Counter()
     with tempfile.TemporaryDirectory() as folder:
         for step, (_, answer, edited, is_in_place, tree) in zip(steps(os.path.join(folder, "e.h5"), image, [line for line, *_ in wanted]), wanted):
             if edited and is_in_place and step.answer == TOO_DEEP:
                 # Then the reference's tree has one edit more.
                 group = parent_of(judge.reading.tree, edit_of(step.line.split(b" ")).path)
                 deep = judge.reading.facts[group]["level"] == DEEPEST and step.before == step.after
-                return [] if deep else [(step.line, ["no tree is as deep"])], in_place
+                return [] if deep else [(step.line, ["no tree is as deep"])], made
             wrong = [] if step.answer == answer else [f"it is answered {step.answer}"]
             wrong += judge.wrong_with(step, edited, is_in_place, tree)
             if wrong:
-                return [(step.line, wrong)], in_place
-            in_place += is_in_place
-    return [], in_place
+                return [(step.line, wrong)], made
+            made[step.line.split(b" ")[0]] += is_in_place
+    return [], made
 
 
-def judged_on_a_new_file(seed):
-    """A session on a file that is empty at first."""
-    return judged(seed, False)
+class Sessions(InFolder):
+    """Random sessions, each edit of which is judged."""
 
-
-def judged_on_a_file_of_others(seed):
-    """A session on a file that others have laid out."""
-    return judged(seed, True)
-
-
-class RandomSessions(InFolder):
-    """Sessions of all edits of links, with attributes and creates between them."""
-
-    def assert_all_right(self, judge):
-        """Nothing is wrong in any session, and most edits were made in place."""
-        made = 0
+    def assert_all_right(self, *words):
+        """Nothing is wrong in any session that `judged` draws of these words, and many lines are edits: how many of each kind."""
+        made = Counter()
         with ProcessPoolExecutor() as pool:
-            for seed, (wrong, in_place) in zip(SEEDS, pool.map(judge, SEEDS)):
+            for seed, (wrong, edits) in zip(SEEDS, pool.map(partial(judged, *words), SEEDS)):
                 with self.subTest(seed=seed):
                     self.assertEqual(wrong, [])
-                made += in_place
-        self.assertGreater(made, LINES // 3 * len(SEEDS))
+                made += edits
+        self.assertGreater(made.total(), LINES // 3 * len(SEEDS))
+        return made
+
+
+class RandomSessions(Sessions):
+    """Sessions of all edits of links, with attributes and creates between them."""
 
     def test_on_new_files(self):
-        self.assert_all_right(judged_on_a_new_file)
+        self.assert_all_right("links", LINKS, new_image)
 
     def test_on_files_of_others(self):
-        self.assert_all_right(judged_on_a_file_of_others)
+        self.assert_all_right("links", LINKS, image_of_others)
 
 
 class Judged(InFolder):
@@ -347,9 +347,7 @@ class Limits(InFolder):
             for line, occupied in lines.items():
                 script += line + b"\nunlink /" + line.rpartition(b"/")[2] + b"\n"
                 answers += b"ok 0\nok 0\n" if occupied <= most else IMAGE_FULL + b"refused 6 NotFound\n"
-            # No file of this length is written: the limit of a file's size comes before. An unlink is never refused for the length.
+            # An unlink is never refused for the length.
             with self.subTest(length=length):
-                done = subprocess.run([PROGRAM, "run", path], input=script + b"unlink /d\nls\n", preexec_fn=limited(resource.RLIMIT_FSIZE, 1 << 20),
-                                      capture_output=True, check=False, timeout=300)
-                self.assertEqual((done.returncode, done.stdout), (4, answers + b"ok 0\n/ group\n"))
+                self.assertEqual(unwritten(path, script + b"unlink /d\nls\n"), (4, answers + b"ok 0\n/ group\n"))
             os.remove(path)

@@ -70,7 +70,7 @@ class RandomScripts(InFolder):
     """Scripts, mostly on a file that is empty at first."""
 
     def assert_runs(self, image, script):
-        """The program's answers are the reference's, and so is its file, or the tree of one that was not written anew."""
+        """The program's answers are the reference's, and so is its file, or the tree of one that was not repacked at the end."""
         session = today.session_of(image)
         wanted, edited = today.answers(session, script)
         path = self.written("e.h5", image)

@@ -19,6 +19,13 @@ def limited(kind, most):
     return set_it
 
 
+def unwritten(path, script):
+    """The status and the answers of a run that would make a file longer than a limit of files' sizes, so that it is not written."""
+    done = subprocess.run([PROGRAM, "run", path], input=script, preexec_fn=limited(resource.RLIMIT_FSIZE, 1 << 20),
+                          capture_output=True, check=False, timeout=300)
+    return done.returncode, done.stdout
+
+
 class Answers(InFolder):
     """Lines and their answers."""
 

@@ -12,7 +12,6 @@ from .test_repack import EDIT
 
 # pylint: disable=wrong-import-order
 from h5oracle.model import Dataset  # noqa: E402
-from h5oracle.script import tree_text  # noqa: E402
 
 SEEDS = range(3 * IMAGES // 5)
 LINES = 300
@@ -35,8 +34,8 @@ class WriteScripts(DrawnScripts):
 
     def test_cells_that_are_stored(self):
         """Nothing of an image that others wrote changes but cells that are written, where they all are stored."""
-        _, stores, in_place = self.assert_all_right(FEW_SEEDS, "cells", CELLS, FEW_LINES, others=True)
-        self.assertGreater(in_place, len(FEW_SEEDS) // 3)
+        _, stores, judged = self.assert_all_right(FEW_SEEDS, "cells", CELLS, FEW_LINES, others=True)
+        self.assertGreater(judged, len(FEW_SEEDS) // 3)
         self.assertGreater(len(stores), 15)
 
 
@@ -54,9 +53,7 @@ class Library(DrawnScripts):
         """What the library reads of the files are these trees."""
         for path, tree, text in zip(paths, trees, self.library_texts(paths), strict=True):
             with self.subTest(path=os.path.basename(path)):
-                # The library does not tell of kept messages, nor whether contiguous cells are stored.
-                lines = [line for line in tree_text(tree) if line != "not stored" and not line.startswith("%")]
-                self.assertEqual(text, today.printed(lines))
+                self.assertEqual(text, today.read_by_the_library(tree))
 
     def test_the_library_reads_edits_and_reads_again(self):
         made, paths = readable(), []
@@ -69,9 +66,9 @@ class Library(DrawnScripts):
         again = [drawn_on(self.read(path), random.Random(f"edited {k}"), CELLS, FEW_LINES) for k, path in enumerate(paths)]
         for path, one in zip(paths, again, strict=True):
             self.assertEqual(h5i("run", path, script=one.script), (today.status_of(one.answers), one.answers, b""))
-            self.assertTrue(self.read(path) == one.after)
+            self.assertIn(one.after, (None, self.read(path)))
         self.assert_read(paths, [one.tree for one in again])
-        self.assertGreater(sum(one.edits > 0 and not one.anew for one in again), len(again) // 4)
+        self.assertGreater(sum(one.is_judged() for one in again), len(again) // 4)
 
     def test_h5dump_prints_the_cells(self):
         path = self.new()

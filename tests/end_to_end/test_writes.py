@@ -173,7 +173,7 @@ class Chunks(Transcripts):
     """Arrays in chunks."""
 
     def test_edge_chunks(self):
-        path = self.accepted(ALL_EDGES)
+        path = self.accepted([*ALL_EDGES, "repack"])
         image = self.read(path)
         self.assertEqual(len(image), 3924)
         self.assertEqual(image, edges_image())
@@ -182,13 +182,17 @@ class Chunks(Transcripts):
 
     def test_cells_that_are_cut_off_are_gone(self):
         path = self.accepted([*ALL_EDGES, "resize /c 1,1", "resize /c 5,4"])
-        self.assertEqual(h5i("dump", path, "/c"), (0, EDGES.splitlines(keepends=True)[0] + b"1 0 0 0\n" + b"0 0 0 0\n" * 4, b""))
+        wanted = (0, EDGES.splitlines(keepends=True)[0] + b"1 0 0 0\n" + b"0 0 0 0\n" * 4, b"")
+        self.assertEqual(h5i("dump", path, "/c"), wanted)
+        self.assertEqual(chunks_of(self.read(path)), {(0, 0): "010000000000"})
+        self.accepted(["repack"], path)
+        self.assertEqual(h5i("dump", path, "/c"), wanted)
         image = self.read(path)
         self.assertEqual(len(image), 3894)
         self.assertEqual(chunks_of(image), {(0, 0): "010000000000"})
 
     def test_a_tree_of_65_chunks(self):
-        path = self.accepted(["dataset /t u8 65/inf chunked:1", "write /t 0 1 65 1 " + ",".join(map(str, range(65)))])
+        path = self.accepted(["dataset /t u8 65/inf chunked:1", "write /t 0 1 65 1 " + ",".join(map(str, range(65))), "repack"])
         image = self.read(path)
         self.assertEqual(len(image), 7609)
         self.assertEqual(image[-65:], bytes(range(65)))
@@ -198,16 +202,20 @@ class Chunks(Transcripts):
             > dump /t
             /t dataset u8 {0/inf} chunked {1} fill 0
             """)
+        # Where the chunks and all nodes but the first were stands nothing.
+        self.assertEqual(today.wrong_with(image, self.read(path), b"resize /t 0"), [])
+        self.accepted(["repack"], path)
         self.assertEqual(len(self.read(path)), 1256)
 
     def test_one_cell_after_another(self):
-        whole = self.accepted(["dataset /t u8 65/inf chunked:1", "write /t 0 1 65 1 " + ",".join(map(str, range(65)))])
-        other = self.accepted(["dataset /t u8 65/inf chunked:1", *(f"write /t {k * 7 % 65} 1 1 1 {k * 7 % 65}" for k in range(65))], self.new("other.h5"))
+        whole = self.accepted(["dataset /t u8 65/inf chunked:1", "write /t 0 1 65 1 " + ",".join(map(str, range(65))), "repack"])
+        single = [f"write /t {k * 7 % 65} 1 1 1 {k * 7 % 65}" for k in range(65)]
+        other = self.accepted(["dataset /t u8 65/inf chunked:1", *single, "repack"], self.new("other.h5"))
         self.assertEqual(self.read(other), self.read(whole))
 
     def test_chunks_that_others_left_outside(self):
         # Of the array's one cell, in a chunk with a second one, and a chunk that is outside altogether.
-        path = self.accepted(["dataset /c u8 7/inf chunked:2", "write /c 0 1 2 1 1,7", "write /c 6 1 1 1 9"])
+        path = self.accepted(["dataset /c u8 7/inf chunked:2", "write /c 0 1 2 1 1,7", "write /c 6 1 1 1 9", "repack"])
         image = self.read(path)
         [first, last] = [at for at, _, kind in open_image(image).blocks if kind == "chunk"]
         image = patched(patched(patched(image, first, "0107"), last, "0909"), SIZE, slots(1))
@@ -223,8 +231,9 @@ class Chunks(Transcripts):
             /c dataset u8 {8/inf} chunked {2} fill 0
             1 0 0 0 0 0 0 0
             """)
-        # Both hold a cell of the new sizes; what was outside is the fill.
-        self.assertEqual(chunks_of(self.read(path)), {(0,): "0100", (6,): "0000"})
+        # The first holds a cell of the old sizes; what was outside of them is the fill, or stored no more.
+        self.assertEqual(today.wrong_with(image, self.read(path), b"resize /c 8"), [])
+        self.assertEqual(chunks_of(self.read(path)), {(0,): "0100"})
 
     def test_chunks_are_stored_where_they_are_met(self):
         path = self.accepted(["dataset /c i16be 9/inf,9 chunked:2,4 fill=-2", "write /c 1,3 3,2 2,2 1,1 1,2,3,4"])
@@ -275,6 +284,10 @@ class Selections(Transcripts):
             /d dataset i32le {3} contiguous fill 0
             0 5 0
             """)
+        # The block stands at the end. Written without gaps, it stands where it stood before.
+        wanted = patched(patched(image, ADDRESS, slots(1260)), 40, slots(1272)) + bytes.fromhex("000000000500000000000000")
+        self.assertEqual(self.read(path), wanted)
+        self.accepted(["repack"], path)
         self.assertEqual(self.read(path), image[:-12] + bytes.fromhex("000000000500000000000000"))
 
     def test_strides_and_blocks(self):

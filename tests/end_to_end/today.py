@@ -1,7 +1,7 @@
 """The reference implementation, held to what the program carries today.
 
 Which images are opened, what is listed and dumped of them, and what is answered to scripts is the reference's own answer, at the
-stage at which objects, attributes and links are edited in place, views are lent or patched, and the later forms are not read.
+stage at which all edits are made in place, views are lent or patched, and the later forms are not read.
 """
 
 import os
@@ -13,7 +13,7 @@ sys.path.insert(0, os.path.dirname(support.REFERENCE))
 
 # pylint: disable=wrong-import-position
 from h5oracle import judge, reader  # noqa: E402
-from h5oracle.script import attr_line, dump_lines, ls_lines, run_script, unescape  # noqa: E402, F401
+from h5oracle.script import attr_line, dump_lines, ls_lines, run_script, tree_text, unescape  # noqa: E402, F401
 from h5oracle.model import same_tree  # noqa: E402
 from h5oracle.session import Session  # noqa: E402
 from h5oracle.values import OpenFault, Stage  # noqa: E402
@@ -21,8 +21,6 @@ from h5oracle.values import OpenFault, Stage  # noqa: E402
 STAGE = Stage.read(support.STAGE)
 # How lines begin that count as refused.
 REFUSED = (b"bad line", b"refused ", b"fault ")
-# How lines begin that edit where things stand, and so does a write of cells that are stored.
-IN_PLACE = (b"group ", b"dataset ", b"attr ", b"unattr ", b"link ", b"soft ", b"unlink ")
 
 
 def opened(data):
@@ -53,6 +51,11 @@ def dump(tree, path):
     return printed(dump_lines(tree, path))
 
 
+def read_by_the_library(tree):
+    """What the usual library reads of a file with this tree. It does not tell of kept messages, nor whether contiguous cells are stored."""
+    return printed(line for line in tree_text(tree) if line != "not stored" and not line.startswith("%"))
+
+
 def attributes(thing):
     """The attributes of an object as `dump` prints them."""
     return [attr_line(thing.attrs[name]) for name in sorted(thing.attrs)]
@@ -65,14 +68,14 @@ def answers(session, script):
 
 
 def plain_after(image, script):
-    """The plain image behind a script that edits this one, or `None` where the file may have another layout: objects, attributes and links
-    are made and taken where they stand, and so are cells written that are stored.
+    """The plain image behind a script that edits this one, or `None` where the file may have another layout: `repack` alone writes a plain
+    image, and all edits are made where things stand.
     """
     session = session_of(image)
     plain = image == session.image()
     for line in script.split(b"\n"):
-        if answers(session, line + b"\n")[1] and not line.startswith(b"write "):
-            plain = not line.startswith(IN_PLACE)
+        if answers(session, line + b"\n")[1]:
+            plain = line == b"repack"
     return session.image() if plain else None
 
 

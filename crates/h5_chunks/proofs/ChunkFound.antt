@@ -76,7 +76,7 @@ module _ (rank : ℕ) (key offsets : List ℕ) (same : length offsets ≡ rank) 
   abbrev pub key_is_chunk : Type 0
   key_is_chunk = slice_cmp nat_cmp (all_offsets_in rank key) (offsets ++ 0 ∷ []) ≡ Equal
 
-  heads : key_is_chunk → offsets_in rank key ≡ offsets
+  pub heads : key_is_chunk → offsets_in rank key ≡ offsets
   heads is =
       let f = λ (d : ℕ). number_at key (8 + 8 * d) 8 in
       let all : all_offsets_in rank key ≡ offsets ++ 0 ∷ [] = slice_cmp-IsAntisymmetric nat_cmp-IsAntisymmetric (all_offsets_in rank key) (offsets ++ 0 ∷ []) is in
@@ -131,10 +131,10 @@ module _ (image : List ℕ) (shape : Shape) (root : ℕ) (read : AreChunksRead i
       ∙ ap (chunks_at (reading_of image (shape_kind image shape) owned) rank) (bottom_same image shape root owned (values chunks) tree)
       ∙ chunks_same image shape root owned (values chunks) tree
 
-  items_are : items_under V (chunk_lists rank) level root ≡ entries chunks
+  pub items_are : items_under V (chunk_lists rank) level root ≡ entries chunks
   items_are = chunks_under V rank level root ∙ sym entries_are
 
-  each_rises : AllByRecursion (λ at. IsOrderedBy (rising_chunk_sides rank) V (chunk_lists rank) (V at)) owned
+  pub each_rises : AllByRecursion (λ at. IsOrderedBy (rising_chunk_sides rank) V (chunk_lists rank) (V at)) owned
   each_rises =
       let ordered = chunk_order_there image (shape_kind image shape) root level owned (values chunks) stored_there rank (read.stored).listed.ordered in
       all_in (λ at. IsOrderedBy (rising_chunk_sides rank) V (chunk_lists rank) (V at)) owned (λ at there.

@@ -40,12 +40,12 @@ module _ (image : List ℕ) (shape : Shape) (root level : ℕ) (owned addresses 
   abbrev rank : ℕ
   rank = length shape.sizes
 
-  some_children : (d l at : ℕ) → d + l ≡ level → 1 ≤ level → In at (row_below V d (root ∷ [])) → 1 ≤ length (V at).children
+  pub some_children : (d l at : ℕ) → d + l ≡ level → 1 ≤ level → In at (row_below V d (root ∷ [])) → 1 ≤ length (V at).children
   some_children d l at e high there =
       let filled = row_filled image (shape_kind image shape) root level owned addresses has d l at e there high in
       omega (arith, filled, length-children (shape_kind image shape) (node_bytes image (shape_kind image shape) at) (V at) refl)
 
-  some_under : (l d at : ℕ) → d + l ≡ level → 1 ≤ level → In at (row_below V d (root ∷ [])) → 1 ≤ length (items_under V (chunk_lists rank) l at)
+  pub some_under : (l d at : ℕ) → d + l ≡ level → 1 ≤ level → In at (row_below V d (root ∷ [])) → 1 ≤ length (items_under V (chunk_lists rank) l at)
   some_under zero d at e high there =
       let all : length (all_of (chunk_lists rank (V at))) ≡ length (chunks_in rank (V at)) = ap (λ (cs : List (List ℕ × ℕ)). length cs) (chunks_all rank (V at)) in
       omega (arith, all, length-chunks rank (V at) (one_more_key image shape at (V at) refl), some_children d 0 at e high there)

@@ -106,7 +106,7 @@ fn push_place<'a>(
 }
 
 /// Whether the chunk with this key holds a cell of an extent of these sizes: its first one.
-fn is_held(key: &[u8], sizes: &[u64]) -> bool
+pub(crate) fn is_held(key: &[u8], sizes: &[u64]) -> bool
     requires long { length key.now ≡ 8 + 8 * (length sizes.now + 1) }
     requires few { length sizes.now ≤ 32 }
     ensures { result ≡ is_inside sizes.now (offsets_in (length sizes.now) key.now) }

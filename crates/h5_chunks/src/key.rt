@@ -3,12 +3,24 @@
 ghost use Rattle.std.specs.Prelude.{◌≡◌, ◌+◌, ◌*◌, ◌≤◌, ◌↔◌, IsTrue, length};
 ghost use Rattle.std.specs.List.{AllZip};
 ghost use Rattle.h5_model.specs.Format.Chunks.{IsChunkKey, IsOffset, offsets_in};
+ghost use Rattle.h5_chunks.specs.Lists.{key_length as length_of_key};
 ghost use Rattle.h5_chunks.specs.Shapes.{AreChunkSizes};
 
 use h5_bytes::{u32_at, u64_at};
 
 /// Where a key's offsets begin, behind the chunk's size and the filter mask.
 pub const OFFSETS: usize = 8;
+
+/// How many bytes the longest key has: one of 32 dimensions.
+pub(crate) const LONGEST_KEY: usize = 272;
+
+/// How many bytes a key of so many dimensions has.
+pub fn key_length(rank: usize) -> usize
+    requires { rank ≤ 32 }
+    ensures { result ≡ length_of_key rank }
+{
+    OFFSETS + 8 * (rank + 1)
+}
 
 /// Whether a key is that of a whole chunk of these sizes and so many bytes. Takes no memory.
 pub(crate) fn is_chunk_key(sizes: &[u64], bytes: u64, key: &[u8]) -> bool

@@ -1,17 +1,19 @@
 //! The way down to a chunk (File Format Specification 3.0, section III.A.1).
 
-ghost use Rattle.std.specs.Prelude.{◌≡◌, ◌+◌, ◌*◌, ◌≤◌, ℕ, None, List, length, IfNone, IfSome};
+ghost use Rattle.std.specs.Prelude.{◌≡◌, ◌+◌, ◌*◌, ◌≤◌, ℕ, None, List, [], length, IfNone, IfSome};
 ghost use Rattle.std.specs.FinMap.{get};
 ghost use Rattle.std.specs.List.{AllByRecursion};
-ghost use Rattle.h5_model.specs.Format.Nodes.{chunk_kind};
+ghost use Rattle.h5_model.specs.Format.Nodes.{chunk_kind, node_at};
 ghost use Rattle.h5_model.specs.Format.PlainSuperblock.{plain_chunk_k};
+ghost use Rattle.h5_model.specs.Format.Reached.{level_at, shape_kind};
+ghost use Rattle.h5_btree.specs.Descent.{IsWayTo};
 ghost use Rattle.h5_chunks.specs.Read.{AreChunksRead};
 ghost use Rattle.h5_chunks.specs.Told.{chunks_told};
 ghost use Rattle.h5_chunks.specs.Way.{EndsForChunk, chunk_behind};
 
 use crate::offsets::key_order;
 use crate::shape::ChunkShape;
-use h5_btree::{ChildPlace, NodeKind, Sought, find_place};
+use h5_btree::{ChildPlace, NodeKind, Sought, Way, find_place, find_way};
 use h5_space::{CHUNK_K, Image};
 use std::marker::Model;
 
@@ -53,9 +55,30 @@ fn place_of<'a>(
     find_place(image.bytes(), root, &sought).unwrap()
 }
 
+/// The way down to the chunk at these offsets, or to where it would stand; `None` where no chunk is stored. Takes no
+/// memory. That the chunks were read, and that there is an offset for each size of a chunk, are the caller's conditions.
+pub(crate) fn way_to(
+    image: &Image,
+    shape: &ChunkShape<'_>,
+    root: u64,
+    offsets: &[u64],
+) -> Option<Way>
+    requires chunks { AreChunksRead image.now.bytes shape.now root }
+    requires rank { length offsets.now ≡ length shape.now.sizes }
+    ensures leads { IfSome result (IsWayTo (node_at image.now.bytes (shape_kind image.now.bytes shape.now))
+        (chunk_behind offsets.now)
+        (level_at image.now.bytes (shape_kind image.now.bytes shape.now) root) root) }
+    ensures empty { IfNone result
+        ((node_at image.now.bytes (shape_kind image.now.bytes shape.now) root).children ≡ []) }
+    ensures none { IfNone result (get (chunks_told image.now.bytes shape.now root) offsets.now ≡ None) }
+{
+    let sought = SoughtChunk::new(shape, offsets);
+    find_way(image.bytes(), root, &sought).unwrap()
+}
+
 /// A chunk that is sought by its offsets. It stands behind a key that is not above it.
 #[derive(Drop)]
-struct SoughtChunk<'a> {
+pub(crate) struct SoughtChunk<'a> {
     offsets: &'a [u64],
 }
 
@@ -71,7 +94,7 @@ impl<'a> Model for SoughtChunk<'a> {
 
 impl<'a> SoughtChunk<'a> {
     /// The chunk of this shape at these offsets.
-    fn new(shape: &ChunkShape<'_>, offsets: &'a [u64]) -> Self
+    pub(crate) fn new(shape: &ChunkShape<'_>, offsets: &'a [u64]) -> Self
         requires { length offsets.now ≡ length shape.now.sizes }
         ensures offsets { result ≡ offsets.now }
         ensures few { length offsets.now ≤ 32 }

@@ -26,34 +26,6 @@ impl TreeKey for ChunkKey<'_> {
     }
 }
 
-/// Appends the key of a chunk of `bytes` bytes, below 2^32, at these offsets, which are counted in cells.
-///
-/// # Errors
-///
-/// `AllocError` if memory is refused.
-pub fn push_chunk_key(out: &mut Vec<u8>, bytes: u64, offsets: &[u64]) -> Result<(), AllocError>
-    requires { bytes < 2 ^ 32 }
-    ensures { OnOk result (out.new.items ≡ out.old.items ++ chunk_key (record {
-      bytes = bytes;
-      offsets = offsets.now;
-    })) }
-{
-    push_middle(out, bytes as u32)?;
-    push_zeros(out, 4)?;
-    push_offsets(out, offsets)?;
-    push_word(out, 0)
-}
-
-/// Appends these offsets.
-fn push_offsets(out: &mut Vec<u8>, offsets: &[u64]) -> Result<(), AllocError>
-    ensures { OnOk result (out.new.items ≡ out.old.items ++ words offsets.now) }
-{
-    for offset in offsets {
-        push_word(out, *offset)?;
-    }
-    Ok(())
-}
-
 /// Appends the key that stands behind the last chunk of a tree and belongs to no chunk. `key` is the key of that last
 /// chunk, `sizes` are the sizes of a chunk.
 ///

@@ -1,30 +1,23 @@
--- What an edit that is carried, and a repack, is answered by what was written of the tree.
-use Rattle.std.proofs.Common.{◌≡◌, ℕ, ◌+◌, ◌^◌, ◌≤◌, List, length, refl, sym, ap, ◌∙◌, subst, true, Option, Some, None, arith}
+-- What a repack is answered by what was written of the tree.
+use Rattle.std.proofs.Common.{◌≡◌, ℕ, ◌^◌, ◌≤◌, List, length, sym, ap, ◌∙◌, subst, Option, arith}
 use Rattle.std.specs.Prelude.{IfOk, IfErr, MatchResult, Result, Ok, Err}
 use Rattle.std.specs.Ordering.{nat_cmp}
 use Rattle.std.specs.FinMap.{FinMap}
-use Rattle.h5_edit.specs.Changed.Edited.{edited}
-use Rattle.h5_edit.specs.declared.change.edit.ObjectEdit.{ObjectEdit}
 use Rattle.h5_edit.specs.Fits.Laws.{AreBytes}
-use Rattle.h5_edit.proofs.FitLaws.EditedTrees.{edited_plain}
 use Rattle.h5_edit.proofs.FitLaws.OpenedTrees.{opened_plain}
-use Rattle.h5_repack.specs.Image.Plain.{ArePlain, AreLow, IsPlainTree}
+use Rattle.h5_repack.specs.Image.Plain.{ArePlain, IsPlainTree}
 use Rattle.h5_repack.specs.Image.Written.{StoredIn, counts_of, plain_image}
 use Rattle.h5_repack.specs.Image.Written as image
 use Rattle.h5_repack.proofs.ImageLaws.ImageLength.{image_length}
 use Rattle.h5_model.specs.Format.PlainLength.{plain_length}
 use Rattle.h5_model.specs.Format.Superblock.{leaf_k, internal_k, AreK}
-use Rattle.h5_model.specs.Tree.Objects.{Tree, with_object}
-use Rattle.h5_model.proofs.RefusalLaws.{IsState-accepted}
-use Rattle.h5_model.specs.declared.edits.Edit.{Edit}
+use Rattle.h5_model.specs.Tree.Objects.{Tree}
 use Rattle.h5_query.specs.Renumbered.Headers.{table_with}
 use Rattle.h5_repack.specs.Bodies.Laws.{IsPlainReading}
 use Rattle.h5_laws.specs.Trees.Sound.{IsSoundTree}
-use Rattle.h5_laws.proofs.SoundLaws.Applied.{sound_applied}
 use Rattle.h5_laws.proofs.SoundLaws.Read.{reads_sound}
 use Rattle.h5_query.specs.Opened.Sound.{IsSound}
-use Rattle.h5_query.specs.Opened.State.{FileState, state_of}
-use Rattle.h5_query.proofs.OpenedLaws.Indexed.{next_free}
+use Rattle.h5_query.specs.Opened.State.{FileState}
 use Rattle.h5_repack.specs.Objects.Objects.{AreObjects, stored_in}
 use Rattle.h5_repack.specs.declared.objects.object.NewObject.{NewObject}
 use Rattle.h5_repack.specs.Written.{IsTreeToWrite, IsWritten, IsUnwritten}
@@ -32,15 +25,11 @@ use Rattle.h5_repack.specs.declared.write.Written.{Written}
 use Rattle.h5_repack.specs.declared.write.WriteFault.{WriteFault}
 use Rattle.h5_repack.specs.declared.write.WriteFault.TheVariants.{TooLong, TooDeep, NoMemory}
 use Rattle.h5_edit.specs.Answers.{answer_to, fault_of_write}
-use Rattle.h5_edit.specs.Carried.{IsLongAnew, IsRefused, IsShortAnew, tree_after}
-use Rattle.h5_edit.specs.Fitting.{IsFitting}
-use Rattle.h5_edit.specs.Made.{IsEditMade}
 use Rattle.h5_edit.specs.Repacked.{IsRepackMade, IsRepackRefused}
-use Rattle.h5_edit.specs.StoredChunks.{AreStoredAfter, Selecting, selecting_of}
+use Rattle.h5_edit.specs.StoredChunks.{AreStoredAfter}
 use Rattle.h5_repack.proofs.ImageLaws.PlainImages.{plain_reads, plain_ends}
-use Rattle.h5_edit.proofs.LowRead.{anew_low, read_low}
+use Rattle.h5_edit.proofs.LowRead.{read_low}
 use Rattle.h5_edit.proofs.Numbered.{standing_map}
-use Rattle.h5_edit.proofs.Refusals.{by_memory, by_length}
 use Rattle.h5_edit.proofs.StoredLaws.{length_with}
 
 -- ---- one tree, written
@@ -89,90 +78,20 @@ module _ {f : FileState} (sound : IsSound f) where
   sound_there : IsSoundTree f.tree
   sound_there = reads_sound f.image f.table f.tree (sound.placed, sound.reads)
 
-  -- ---- edits
-
-  module _ {edit : Edit} {number : ℕ} {e : ObjectEdit} (fitting : IsFitting f edit number e) where
-    abbrev after : Tree
-    after = with_object f.tree number (edited e)
-
-    sound_change : IsSoundTree after
-    sound_change = subst IsSoundTree fitting.gives (sound_applied f.tree f.next f.next edit sound_there (next_free f sound) fitting.accepted)
-
-    module _ (low : AreBytes f.image) where
-      plain_after : ArePlain after
-      plain_after = subst ArePlain fitting.gives (edited_plain f edit low sound fitting.anew fitting.accepted fitting.roomy)
-
-      module _ (new : List (Option NewObject)) (are : AreObjects new after) (chunks_none : AreStoredAfter f after None (stored_in new)) where
-        pub tree_to_write : IsTreeToWrite new after
-        tree_to_write = record { objects_are = are; sound = sound_change; plain = plain_after }
-
-        abbrev length_after : ℕ
-        length_after = plain_length leaf internal 32 (counts_of (stored_in new)) after
-
-        chunks_after : AreStoredAfter f after (selecting_of f edit) (stored_in new)
-        chunks_after = subst (λ (met : Selecting). AreStoredAfter f after met (stored_in new)) (sym fitting.unselected) chunks_none
-
-        -- ---- not written
-
-        refused : (fault : WriteFault) → IsUnwritten leaf internal (stored_in new) after fault → IsRefused f edit (fault_of_write fault)
-        refused TooLong long =
-            by_length f edit fitting.anew fitting.accepted fitting.roomy
-            (subst (λ (t : Tree). IsLongAnew f t (selecting_of f edit)) (sym fitting.gives) (length_after, length_with f after (selecting_of f edit) (stored_in new) chunks_after, long))
-        refused TooDeep deep = absurd (deep.3 (subst (AreLow leaf internal) fitting.gives (anew_low f sound edit fitting.anew) deep.0 deep.1 deep.2))
-        refused NoMemory no_memory = by_memory f edit fitting.anew
-
-        -- ---- written
-
-        made : (w : Written) → IsWritten leaf internal (stored_in new) after w → length w.headers.items ≡ length new → length new ≡ f.next
-            → IsEditMade f edit (record { image = w.image; headers = w.headers; object = Some (record { 0 = number }) })
-        made w is numbered counted = record {
-          accepted = record {
-            accepted = fitting.accepted;
-            given = λ _. (
-              true,
-              fitting.anew,
-              (
-                fitting.roomy,
-                subst (λ (t : Tree). IsShortAnew f t (selecting_of f edit)) (sym fitting.gives)
-                    (length_after, length_with f after (selecting_of f edit) (stored_in new) chunks_after, short leaf internal (stored_in new) after k_there sound_change plain_after w is),
-              ),
-            );
-          };
-          way = fitting.anew;
-          anew = record {
-            reads = subst (λ (t : Tree). IsPlainReading w.image.items leaf internal (table_with w.headers.items) t) (sym fitting.gives)
-                (read_as leaf internal (stored_in new) after k_there sound_change plain_after w is);
-            numbered = numbered ∙ counted ∙ fitting.counted;
-            few = (IsState-accepted (state_of f) edit sound.numbers fitting.accepted).low;
-          };
-          object = fitting.named;
-        }
-
-        pub answered : (l i : ℕ) → l ≡ leaf → i ≡ internal → length new ≡ f.next → (r : Result Written WriteFault)
-            → IfOk r (λ w. (t : Tree) → IsTreeToWrite new t → IsWritten l i (stored_in new) t w) → IfOk r (λ w. length w.headers.items ≡ length new)
-            → IfErr r (λ fault. (t : Tree) → IsTreeToWrite new t → IsUnwritten l i (stored_in new) t fault)
-            → MatchResult (answer_to r (Some (record { 0 = number }))) (IsEditMade f edit) (IsRefused f edit)
-        answered l i same same' counted (Ok w) written numbered not_written =
-            made w (subst (λ n. IsWritten n internal (stored_in new) after w) same (subst (λ n. IsWritten l n (stored_in new) after w) same' (written after tree_to_write)))
-            numbered counted
-        answered l i same same' counted (Err fault) written numbered not_written =
-            refused fault
-            (subst (λ n. IsUnwritten n internal (stored_in new) after fault) same (subst (λ n. IsUnwritten l n (stored_in new) after fault) same' (not_written after tree_to_write)))
-
   -- ---- a repack
 
-  module _ (low : AreBytes f.image) (new : List (Option NewObject)) (are : AreObjects new f.tree) (kept : AreStoredAfter f f.tree None (stored_in new)) where
+  module _ (low : AreBytes f.image) (new : List (Option NewObject)) (are : AreObjects new f.tree) (kept : AreStoredAfter f f.tree (stored_in new)) where
     pub tree_there : IsTreeToWrite new f.tree
     tree_there = record { objects_are = are; sound = sound_there; plain = opened_plain f low sound }
 
     not_repacked : (fault : WriteFault) → IsUnwritten leaf internal (stored_in new) f.tree fault → IsRepackRefused f (fault_of_write fault)
     not_repacked TooLong long =
-        (plain_length leaf internal 32 (counts_of (stored_in new)) f.tree, length_with f f.tree None (stored_in new) kept, long)
+        (plain_length leaf internal 32 (counts_of (stored_in new)) f.tree, length_with f f.tree (stored_in new) kept, long)
     not_repacked TooDeep deep = absurd (deep.3 (read_low f.image f.table f.tree (sound.placed, sound.reads) deep.0 deep.1 deep.2))
     not_repacked NoMemory no_memory = tt
 
     was_repacked : (w : Written) → IsWritten leaf internal (stored_in new) f.tree w → length w.headers.items ≡ length new → length new ≡ f.next
-        → IsRepackMade f (record { image = w.image; headers = w.headers; object = None })
+        → IsRepackMade f (record { image = w.image; headers = w.headers })
     was_repacked w is numbered counted =
         let long = length_is leaf internal (stored_in new) f.tree k_there sound_there (opened_plain f low sound) w is in
         let few = short leaf internal (stored_in new) f.tree k_there sound_there (opened_plain f low sound) w is in
@@ -182,7 +101,6 @@ module _ {f : FileState} (sound : IsSound f) where
             numbered = numbered ∙ counted;
             few = sound.numbers.low;
           };
-          object = refl;
           long = record { stored = stored_in new; chunks = kept; counted = long };
           few = omega (arith, long, few);
         }
@@ -190,7 +108,7 @@ module _ {f : FileState} (sound : IsSound f) where
     pub repacked : (l i : ℕ) → l ≡ leaf → i ≡ internal → length new ≡ f.next → (r : Result Written WriteFault)
         → IfOk r (λ w. (t : Tree) → IsTreeToWrite new t → IsWritten l i (stored_in new) t w) → IfOk r (λ w. length w.headers.items ≡ length new)
         → IfErr r (λ fault. (t : Tree) → IsTreeToWrite new t → IsUnwritten l i (stored_in new) t fault)
-        → MatchResult (answer_to r None) (IsRepackMade f) (IsRepackRefused f)
+        → MatchResult (answer_to r) (IsRepackMade f) (IsRepackRefused f)
     repacked l i same same' counted (Ok w) written numbered not_written =
         was_repacked w (subst (λ n. IsWritten n internal (stored_in new) f.tree w) same (subst (λ n. IsWritten l n (stored_in new) f.tree w) same' (written f.tree tree_there)))
         numbered counted

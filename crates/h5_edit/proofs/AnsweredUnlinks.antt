@@ -1,6 +1,6 @@
 -- What an unlink that no rule refuses makes of an opened image, by what was changed in place (File Format Specification 3.0, sections III.C
 -- and IV.A.1.a).
-use Rattle.std.proofs.Common.{◌≡◌, ℕ, List, [], ◌∷◌, ◌++◌, refl, sym, ap, ◌∙◌, subst, Bool, true, false, Option, Some, None, arith}
+use Rattle.std.proofs.Common.{◌≡◌, ℕ, List, [], ◌∷◌, ◌++◌, refl, sym, ap, ◌∙◌, subst, Bool, true, false, Option, None, arith}
 use Rattle.std.proofs.lemmas.Bool.Decides.{nat_tests}
 use Rattle.std.specs.FinMap.{get, len, empty_of_len}
 use Rattle.std.specs.List.{flat_map}
@@ -103,7 +103,7 @@ module _ {f : FileState} (sound : IsSound f) (path : List ℕ) (r : Removal) (is
       let wider : IsChangedInPlace f now after f.next (touched_at f.tree parent is.link) 0
       = changed_wider f now after f.next (ends_of parent is.link) (touched_at f.tree parent is.link) 0 0 (ends_touched f.tree parent is.link) (omega arith) made in
       record {
-        accepted = record { accepted = is.allowed; given = λ accepted. (false, refl, tt) };
+        accepted = record { accepted = is.allowed; given = λ _. tt };
         state = (λ i. record { tree = made.state.0 i; next = made.state.1 i }) ∙ ap (λ (t : Tree). record { tree = t; next = f.next }) (sym gives);
         sound = made.sound;
         whole = made.whole;
@@ -111,12 +111,9 @@ module _ {f : FileState} (sound : IsSound f) (path : List ℕ) (r : Removal) (is
         internal = made.internal;
         object = named;
         refreshed = refreshed;
-        anew = false;
-        way = refl;
-        made = (
-          0,
-          refl,
-          subst (λ (ns : List ℕ). IsChangedInPlace f now (tree_after f edit) f.next ns 0) (sym touched_is)
-              (subst (λ (t : Tree). IsChangedInPlace f now t f.next (touched_at f.tree parent is.link) 0) (sym gives) wider),
-        );
+        bytes = 0;
+        growth = refl;
+        trimmed = tt;
+        changed = subst (λ (ns : List ℕ). IsChangedInPlace f now (tree_after f edit) f.next ns 0) (sym touched_is)
+            (subst (λ (t : Tree). IsChangedInPlace f now t f.next (touched_at f.tree parent is.link) 0) (sym gives) wider);
       }

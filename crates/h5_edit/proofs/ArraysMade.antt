@@ -3,7 +3,6 @@ use Rattle.std.proofs.Common.{◌≡◌, inl, ℕ, ◌+◌, ◌*◌, ◌<◌, �
 use Rattle.std.specs.Prelude.{MatchResult, Result, if◌then◌else◌}
 use Rattle.std.specs.List.{AllZip}
 use Rattle.h5_btree.specs.declared.insertion.InsertFault.{InsertFault}
-use Rattle.h5_btree.specs.declared.insertion.InsertFault.TheVariants as insertion
 use Rattle.h5_laws.specs.Trees.Sound.{IsSoundTree}
 use Rattle.h5_layout.specs.Described.{Described}
 use Rattle.h5_model.specs.Edits.Applied.{new_dataset, new_object}

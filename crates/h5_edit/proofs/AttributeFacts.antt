@@ -111,7 +111,7 @@ module _ (f : FileState) (path : List ℕ) (attr : AttrSpec) (number : ℕ) (at 
   pub refused_full : r ≡ Err add.HeaderFull → IsRefused f sets fault.HeaderFull
   refused_full is = record {
     given = Some fault.HeaderFull;
-    allowed = λ _. (false, refl, set_full f path attr (total_is true (header_full.0 is)));
+    allowed = λ _. set_full f path attr (total_is true (header_full.0 is));
     answer = rw accepted refl;
   }
 
@@ -121,7 +121,7 @@ module _ (f : FileState) (path : List ℕ) (attr : AttrSpec) (number : ℕ) (at 
       let more = past.1 in
       record {
         given = Some fault.ImageFull;
-        allowed = λ _. (false, refl, set_long f path attr (total_is false past.0) (omega (arith, more, long)));
+        allowed = λ _. set_long f path attr (total_is false past.0) (omega (arith, more, long));
         answer = rw accepted refl;
       }
 
@@ -171,7 +171,7 @@ module _ (f : FileState) (path : List ℕ) (number : ℕ) (now : FileState) (e :
     pub attribute_set : IsGivenInPlace f (SetAttr path attr) None → (bytes : ℕ) → bytes ≡ attribute_bound attr
         → IsChangedInPlace f now (with_change with_it) f.next (number ∷ []) bytes → IsEdited f (SetAttr path attr) now e
     attribute_set given bytes long is = record {
-      accepted = record { accepted = at.allowed; given = λ _. (false, refl, given) };
+      accepted = record { accepted = at.allowed; given = λ _. given };
       state = (λ i. record { tree = is.state.0 i; next = is.state.1 i }) ∙ ap (λ (t : Tree). record { tree = t; next = f.next }) tree_set;
       sound = is.sound;
       whole = is.whole;
@@ -179,14 +179,11 @@ module _ (f : FileState) (path : List ℕ) (number : ℕ) (now : FileState) (e :
       internal = is.internal;
       object = named ∙ sym at.object;
       refreshed = refreshed;
-      anew = false;
-      way = refl;
-      made = (
-        bytes,
-        long,
-        subst (λ (ns : List ℕ). IsChangedInPlace f now (tree_after f (SetAttr path attr)) f.next ns bytes) (sym touched_set)
-            (subst (λ (t : Tree). IsChangedInPlace f now t f.next (number ∷ []) bytes) tree_set is),
-      );
+      bytes = bytes;
+      growth = long;
+      trimmed = tt;
+      changed = subst (λ (ns : List ℕ). IsChangedInPlace f now (tree_after f (SetAttr path attr)) f.next ns bytes) (sym touched_set)
+          (subst (λ (t : Tree). IsChangedInPlace f now t f.next (number ∷ []) bytes) tree_set is);
     }
 
   module _ (name : List ℕ) (at : IsAt f.tree f.next path (RemoveAttr path name) number) where
@@ -204,7 +201,7 @@ module _ (f : FileState) (path : List ℕ) (number : ℕ) (now : FileState) (e :
     pub attribute_removed : IsGivenInPlace f (RemoveAttr path name) None → IsChangedInPlace f now (with_change without_it) f.next (number ∷ []) 0
         → IsEdited f (RemoveAttr path name) now e
     attribute_removed given is = record {
-      accepted = record { accepted = at.allowed; given = λ _. (false, refl, given) };
+      accepted = record { accepted = at.allowed; given = λ _. given };
       state = (λ i. record { tree = is.state.0 i; next = is.state.1 i }) ∙ ap (λ (t : Tree). record { tree = t; next = f.next }) tree_removed;
       sound = is.sound;
       whole = is.whole;
@@ -212,12 +209,9 @@ module _ (f : FileState) (path : List ℕ) (number : ℕ) (now : FileState) (e :
       internal = is.internal;
       object = named ∙ sym at.object;
       refreshed = refreshed;
-      anew = false;
-      way = refl;
-      made = (
-        0,
-        refl,
-        subst (λ (ns : List ℕ). IsChangedInPlace f now (tree_after f (RemoveAttr path name)) f.next ns 0) (sym touched_removed)
-            (subst (λ (t : Tree). IsChangedInPlace f now t f.next (number ∷ []) 0) tree_removed is),
-      );
+      bytes = 0;
+      growth = refl;
+      trimmed = tt;
+      changed = subst (λ (ns : List ℕ). IsChangedInPlace f now (tree_after f (RemoveAttr path name)) f.next ns 0) (sym touched_removed)
+          (subst (λ (t : Tree). IsChangedInPlace f now t f.next (number ∷ []) 0) tree_removed is);
     }

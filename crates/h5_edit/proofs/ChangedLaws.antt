@@ -2,10 +2,7 @@ pub mod PushedLaws
 pub mod RestLaws
 pub mod OthersLaws
 pub mod CellLaws
-pub mod ResizedLaws
-pub mod StoredArrays
 pub mod LinkLaws
 pub mod NumberedLaws
-pub mod ChangeLaws
+pub mod WrittenSlots
 pub mod StoredSlots
-pub mod MetLaws

@@ -4,9 +4,5 @@ pub mod PlainObjects
 pub mod Bounds
 pub mod PlainArrays
 pub mod NewArrays
-pub mod ResizedArrays
-pub mod WrittenArrays
 pub mod NewAttributes
 pub mod OpenedTrees
-pub mod ChangedTrees
-pub mod EditedTrees

@@ -24,7 +24,7 @@ use Rattle.h5_shape.specs.declared.slab.SlabFault.TheVariants as slab_fault
 use Rattle.h5_shape.proofs.RunLaws.{places_of_runs, runs-maximal}
 use Rattle.h5_edit.specs.Refusals.Allowed.{AreSelectedStanding}
 use Rattle.h5_edit.specs.Refusals.Rules.{value_rules}
-use Rattle.h5_edit.proofs.MetStored.{place_low}
+use Rattle.h5_edit.proofs.SelectedStored.{place_low}
 use Rattle.h5_edit.proofs.RuleLaws.Writes.{cells_allowed}
 use Rattle.h5_edit.proofs.WrittenRuns.{ends_in, length_range, places_one}
 

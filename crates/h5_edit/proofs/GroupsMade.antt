@@ -9,7 +9,7 @@ use Rattle.h5_laws.specs.Trees.Sound.{IsSoundTree}
 use Rattle.h5_model.specs.Edits.Applied.{new_object}
 use Rattle.h5_model.specs.Format.Addresses.{SymbolTable}
 use Rattle.h5_model.specs.Format.Sizes.{group_node}
-use Rattle.h5_model.specs.Format.Superblock.{AreK, leaf_k, internal_k}
+use Rattle.h5_model.specs.Format.Superblock.{leaf_k, internal_k}
 use Rattle.h5_model.specs.Tree.Objects.{Object, Group}
 use Rattle.h5_model.specs.declared.edits.Edit.TheVariants.{CreateGroup}
 use Rattle.h5_query.specs.ObjectAdded.{IsToBeMade, stored_content, content_of, object_bytes, place_in, tree_with}

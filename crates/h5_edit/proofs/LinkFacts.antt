@@ -17,7 +17,7 @@ use Rattle.h5_model.specs.Format.Addresses.{SymbolTable}
 use Rattle.h5_model.specs.Format.Heap.{segment_block}
 use Rattle.h5_model.specs.Format.Sizes.{group_node, symbol_node, text_span}
 use Rattle.h5_model.specs.Format.Superblock.{leaf_k, internal_k, chunk_k}
-use Rattle.h5_model.specs.Tree.Objects.{Tree, Object, Content, Group, Array, Link, Links, ToObject, Soft, dataset_in, dataset_of, link_in, links_in, links_of}
+use Rattle.h5_model.specs.Tree.Objects.{Tree, Object, Content, Group, Array, Links, ToObject, Soft, dataset_in, dataset_of, link_in, links_in, links_of}
 use Rattle.h5_model.specs.Tree.Paths.{last_of, names_of, parent_at, parent_from}
 use Rattle.h5_model.specs.declared.dataset.Spec.{Spec}
 use Rattle.h5_model.specs.declared.edits.Edit.{Edit}
@@ -42,8 +42,8 @@ use Rattle.h5_query.specs.Opened.State.{FileState, state_of}
 use Rattle.h5_query.proofs.OpenedLaws.Indexed.{next_free}
 use Rattle.h5_query.proofs.PathLaws.{last-parent}
 use Rattle.h5_edit.specs.Answers.{added_answer, insert_fault}
-use Rattle.h5_edit.specs.Carried.{AreGroupFacts, IsGivenByGroup, IsGivenInPlace, IsMadeAnew, IsRefused, tree_after}
-use Rattle.h5_edit.specs.Edited.{IsEdited, IsGrowth, made_numbers}
+use Rattle.h5_edit.specs.Carried.{AreGroupFacts, IsGivenByGroup, IsGivenInPlace, IsRefused, tree_after}
+use Rattle.h5_edit.specs.Edited.{IsEdited, IsGrowth, IsTrimmedBy, made_numbers}
 use Rattle.h5_edit.specs.Refusals.Allowed.{IsLinkPlaced, IsPlaceAllowed}
 use Rattle.h5_edit.specs.declared.rules.place.NewPlace.{NewPlace}
 use Rattle.h5_edit.proofs.Fitting.{link_free, linked_at}
@@ -86,12 +86,12 @@ pub record IsLinkEdit (f : FileState) (path : List ℕ) (parent : ℕ) (name : L
   pub bound : (r : Room) → r.leaf_k ≡ leaf_k f.image → r.internal_k ≡ internal_k f.image → r.heap ≡ (segment_block f.image table.heap).len → bound_of r f.tree edit ≡ room
   pub light : (r : Room) → must_add r edit ≡ false
   pub one : (r : Room) → new_entries r f.tree edit ≡ 1
-  pub way : IsMadeAnew f edit false
   pub given : (given : Option EditFault) → IsGivenByGroup f path edit given → IsGivenInPlace f edit given
   pub growth : (facts : Facts) → AreGroupFacts f path facts → IsGrowth f edit (bound_of facts.room f.tree edit)
   pub tree : after ≡ tree_after f edit
   pub counted : next ≡ (state_after (state_of f) edit).next
   pub touches : made_numbers f edit ++ touched_by f.tree edit ≡ touched
+  pub trimmed : (now : FileState) → IsTrimmedBy edit f now
 
 -- what a link may add, by the K values and the segment
 linked_room : (r : Room) (image : List ℕ) (table : SymbolTable) (occupied : ℕ) → r.leaf_k ≡ leaf_k image → r.internal_k ≡ internal_k image
@@ -109,9 +109,9 @@ module _ (f : FileState) where
         ∙ linked_room r f.image table (text_span place.name.now) leaf internal heap;
     light = λ r. refl;
     one = λ r. refl;
-    way = refl;
     given = λ given so. so;
     growth = λ facts are. (facts, are, refl);
+    trimmed = λ now. tt;
     tree = sym (ap (λ (o : Option ℕ). option_map_or (λ n. linked f.tree path (ToObject n)) o f.tree) leads ∙ linked_at f placed (ToObject number));
     counted = refl;
     touches = ap₂ (λ (p : Option (ℕ × List ℕ)) (o : Option ℕ). option_map_or (λ q. q.0 ∷ []) p [] ++ option_map_or (λ n. n ∷ []) o []) placed.parent leads;
@@ -127,9 +127,9 @@ module _ (f : FileState) where
         ∙ linked_room r f.image table (text_span place.name.now + text_span text) leaf internal heap;
     light = λ r. refl;
     one = λ r. refl;
-    way = refl;
     given = λ given so. so;
     growth = λ facts are. (facts, are, refl);
+    trimmed = λ now. tt;
     tree = sym (linked_at f placed (Soft text));
     counted = refl;
     touches = ap (λ (p : Option (ℕ × List ℕ)). option_map_or (λ q. q.0 ∷ []) p []) placed.parent;
@@ -150,9 +150,9 @@ module _ (f : FileState) where
           omega (arith, named, linked, node, long);
       light = λ r. refl;
       one = λ r. refl;
-      way = refl;
       given = λ given so. so;
       growth = λ facts are. (facts, are, refl);
+      trimmed = λ now. tt;
       tree = ap (λ (t : Tree). insert t f.next (new_object (Group empty))) (sym (linked_at f placed (ToObject f.next)));
       counted = refl;
       touches = ap (λ (p : Option (ℕ × List ℕ)). f.next ∷ option_map_or (λ q. q.0 ∷ []) p []) placed.parent;
@@ -170,9 +170,9 @@ module _ (f : FileState) where
           omega (arith, named, linked, long);
       light = λ r. refl;
       one = λ r. refl;
-      way = refl;
       given = λ given so. so;
       growth = λ facts are. (facts, are, refl);
+      trimmed = λ now. tt;
       tree = ap (λ (t : Tree). insert t f.next (new_object (Array (new_dataset spec)))) (sym (linked_at f placed (ToObject f.next)));
       counted = refl;
       touches = ap (λ (p : Option (ℕ × List ℕ)). f.next ∷ option_map_or (λ q. q.0 ∷ []) p []) placed.parent;
@@ -238,15 +238,11 @@ module _ (f : FileState) (path : List ℕ) (parent : ℕ) (name : List ℕ) (edi
     refused_deep : r ≡ Err insertion.TreeTooDeep → IsRefused f edit fault.TreeTooDeep
     refused_deep so = record {
       given = Some fault.TreeTooDeep;
-      allowed = λ _. (
-        false,
-        is.way,
-        is.given (Some fault.TreeTooDeep) (
-          facts_of true,
-          are_facts true (λ _. deep.0 so, λ _. refl),
-          (no_header true, (0, omega (arith, is.one (facts_of true).room), refl)),
-          tt,
-        ),
+      allowed = λ _. is.given (Some fault.TreeTooDeep) (
+        facts_of true,
+        are_facts true (λ _. deep.0 so, λ _. refl),
+        (no_header true, (0, omega (arith, is.one (facts_of true).room), refl)),
+        tt,
       );
       answer = rw accepted refl;
     }
@@ -257,12 +253,8 @@ module _ (f : FileState) (path : List ℕ) (parent : ℕ) (name : List ℕ) (edi
         let long = past.1 in
         record {
           given = Some fault.ImageFull;
-          allowed = λ _. (
-            false,
-            is.way,
-            is.given (Some fault.ImageFull)
-                (facts_of false, has_room past.0, (no_header false, ap (λ (n : ℕ). nat_lt (2 ^ 31) (length f.image + n)) (bound_is false) ∙ grind (arith, nat_tests, long)), refl),
-          );
+          allowed = λ _. is.given (Some fault.ImageFull)
+              (facts_of false, has_room past.0, (no_header false, ap (λ (n : ℕ). nat_lt (2 ^ 31) (length f.image + n)) (bound_is false) ∙ grind (arith, nat_tests, long)), refl);
           answer = rw accepted refl;
         }
 
@@ -271,7 +263,7 @@ module _ (f : FileState) (path : List ℕ) (parent : ℕ) (name : List ℕ) (edi
     link_refused (insertion.Space space.ImageFull) so = refused_long so
     link_refused (insertion.Space space.NoMemory) so = record {
       given = Some fault.NoMemory;
-      allowed = λ _. (false, is.way, is.given (Some fault.NoMemory) tt);
+      allowed = λ _. is.given (Some fault.NoMemory) tt;
       answer = refl;
     }
 
@@ -280,7 +272,7 @@ module _ (f : FileState) (path : List ℕ) (parent : ℕ) (name : List ℕ) (edi
     module _ (u : Unit {0}) (ok : r ≡ Ok u) (now : FileState) (e : Edited) (named : option_map (λ (o : ObjectNo). o.0) e.object ≡ named_object f.tree edit f.next) (refreshed : e.refreshed ≡ 0) where
       pub link_made : IsChangedInPlace f now after next touched room → IsEdited f edit now e
       link_made changed = record {
-        accepted = record { accepted = accepted; given = λ _. (false, is.way, link_given u ok) };
+        accepted = record { accepted = accepted; given = λ _. link_given u ok };
         state = (λ i. record { tree = changed.state.0 i; next = changed.state.1 i }) ∙ (λ i. record { tree = is.tree i; next = is.counted i });
         sound = changed.sound;
         whole = changed.whole;
@@ -288,16 +280,13 @@ module _ (f : FileState) (path : List ℕ) (parent : ℕ) (name : List ℕ) (edi
         internal = changed.internal;
         object = named;
         refreshed = refreshed;
-        anew = false;
-        way = is.way;
-        made = (
-          bound_of (facts_of false).room f.tree edit,
-          is.growth (facts_of false) (has_room (fits_ok u ok)),
-          subst (λ (n : ℕ). IsChangedInPlace f now (tree_after f edit) (state_after (state_of f) edit).next (made_numbers f edit ++ touched_by f.tree edit) n) (sym (bound_is false))
-              (subst (λ (ns : List ℕ). IsChangedInPlace f now (tree_after f edit) (state_after (state_of f) edit).next ns room) (sym is.touches)
-              (subst (λ (n : ℕ). IsChangedInPlace f now (tree_after f edit) n touched room) is.counted
-              (subst (λ (t : Tree). IsChangedInPlace f now t next touched room) is.tree changed))),
-        );
+        bytes = bound_of (facts_of false).room f.tree edit;
+        growth = is.growth (facts_of false) (has_room (fits_ok u ok));
+        trimmed = is.trimmed now;
+        changed = subst (λ (n : ℕ). IsChangedInPlace f now (tree_after f edit) (state_after (state_of f) edit).next (made_numbers f edit ++ touched_by f.tree edit) n) (sym (bound_is false))
+            (subst (λ (ns : List ℕ). IsChangedInPlace f now (tree_after f edit) (state_after (state_of f) edit).next ns room) (sym is.touches)
+            (subst (λ (n : ℕ). IsChangedInPlace f now (tree_after f edit) n touched room) is.counted
+            (subst (λ (t : Tree). IsChangedInPlace f now t next touched room) is.tree changed)));
       }
 
   -- of an object that is made: what it is answered

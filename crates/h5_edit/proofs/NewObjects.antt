@@ -1,15 +1,15 @@
 -- New groups and arrays as they are added to an opened image: how many bytes they have, and what has to hold before (File Format
 -- Specification 3.0, sections III.A.1, III.D and IV.A).
-use Rattle.std.proofs.Common.{◌≡◌, ℕ, ◌+◌, ◌*◌, ◌<◌, ◌≤◌, ◌^◌, Bool, true, false, List, [], ◌∷◌, ◌++◌, length, replicate, take, drop, Option, Some, None, refl, sym, ap, ap₂, ◌∙◌, subst, arith, length-append}
+use Rattle.std.proofs.Common.{◌≡◌, ℕ, ◌+◌, ◌*◌, ◌<◌, Bool, true, false, List, [], ◌++◌, length, replicate, take, drop, Option, None, refl, sym, ap, ap₂, ◌∙◌, subst, arith, length-append}
 use Rattle.std.specs.Prelude.{nat_lt, if◌then◌else◌, sum_by}
 use Rattle.std.specs.List.{AllZip}
 use Rattle.std.specs.Ordering.{nat_cmp}
 use Rattle.std.specs.Cmp.Lexicographic.{slice_cmp}
 use Rattle.std.specs.FinMap.{empty, entries, len, len-empty}
 use Rattle.std.proofs.lemmas.Bool.Decides.{nat_tests}
-use Rattle.std.proofs.lemmas.List.{length-replicate, take-append-drop}
+use Rattle.std.proofs.lemmas.List.{take-append-drop}
 use Rattle.h5_layout.specs.Described.{Described}
-use Rattle.h5_model.specs.Edits.Applied.{makes_object, new_dataset, new_object, new_storage}
+use Rattle.h5_model.specs.Edits.Applied.{new_dataset, new_object, new_storage}
 use Rattle.h5_model.specs.Edits.Bounds.{contiguous_data, new_header}
 use Rattle.h5_model.specs.Edits.Refusal.{refusal_of}
 use Rattle.h5_model.specs.Format.Fixed.{IsFixed}

@@ -1,9 +1,10 @@
 -- An image that is written anew has one length: which chunks of it are stored is a function of the image and the tree.
-use Rattle.std.proofs.Common.{◌≡◌, inl, inr, ℕ, ◌+◌, List, [], ◌∷◌, length, Option, Some, None, refl, sym, ap, ap₂, ◌∙◌, subst, arith}
+use Rattle.std.proofs.Common.{◌≡◌, inl, inr, ℕ, ◌+◌, List, [], ◌∷◌, length, Option, Some, None, refl, sym, ap, ap₂, ◌∙◌, arith}
 use Rattle.std.specs.Prelude.{option_and_then}
 use Rattle.std.specs.Cmp.{nat_cmp_total}
 use Rattle.std.specs.FinMap.{get, entries}
 use Rattle.std.proofs.lemmas.Option.{same_Some}
+use Rattle.h5_layout.specs.HeldChunks.{held_chunks}
 use Rattle.h5_layout.specs.StoredAt.{HasStoredChunks}
 use Rattle.h5_model.specs.Format.Chunks.{Chunks}
 use Rattle.h5_model.specs.Format.Datatype.{fixed_of}
@@ -22,10 +23,8 @@ use Rattle.h5_query.specs.Opened.State.{FileState}
 use Rattle.h5_query.proofs.DataLaws.{told_chunks}
 use Rattle.h5_repack.specs.Image.Written.{StoredIn, counts_of}
 use Rattle.h5_repack.proofs.ImageLaws.Totals.{total, total-sum_by}
-use Rattle.h5_edit.specs.Carried.{IsLongAnew, IsShortAnew}
-use Rattle.h5_edit.specs.StoredChunks.{AreStoredAfter, AreStoredAs, AreStoredOf, HasLengthAnew, Selecting, selected_in}
-use Rattle.h5_model.specs.Views.Selection.{Slab}
-use Rattle.h5_layout.proofs.StoredWith.{stored_with_once}
+use Rattle.h5_edit.specs.Repacked.{IsLongAnew, IsShortAnew}
+use Rattle.h5_edit.specs.StoredChunks.{AreStoredAfter, AreStoredOf, HasLengthAnew}
 use Rattle.h5_edit.proofs.StoredLaws.{dataset_is}
 
 -- ---- the chunks at a header
@@ -61,16 +60,9 @@ module _ (image : List ℕ) (header : ℕ) (c d : Chunks) (x : HasStoredChunks i
       ∙ sym (told_chunks image y.dataset.fixed y.array.layout y.array.chunks y.data_blocks y.array.stored)
       ∙ y.chunks_are
 
-same_as : (sizes chunk : List ℕ) (stored : Chunks) (met : Option Slab) (a b : List (List ℕ)) → AreStoredAs sizes chunk stored met a → AreStoredAs sizes chunk stored met b → a ≡ b
-same_as sizes chunk stored None a b p q = p ∙ sym q
-same_as sizes chunk stored (Some slab) a b p q = stored_with_once sizes chunk stored slab a b p q
-
-same_offsets : (image sizes chunk : List ℕ) (met : Option Slab) (found : Option ℕ) (a b : List (List ℕ)) → AreStoredOf image sizes chunk met found a
-    → AreStoredOf image sizes chunk met found b → a ≡ b
-same_offsets image sizes chunk met None a b p q = p ∙ sym q
-same_offsets image sizes chunk met (Some header) a b p q =
-    same_as sizes chunk p.0 met a b p.2
-    (subst (λ (chunks : Chunks). AreStoredAs sizes chunk chunks met b) (sym (one_stored image header p.0 q.0 p.1 q.1)) q.2)
+same_offsets : (image sizes : List ℕ) (found : Option ℕ) (a b : List (List ℕ)) → AreStoredOf image sizes found a → AreStoredOf image sizes found b → a ≡ b
+same_offsets image sizes None a b p q = p ∙ sym q
+same_offsets image sizes (Some header) a b p q = p.2 ∙ ap (held_chunks sizes) (one_stored image header p.0 q.0 p.1 q.1) ∙ sym q.2
 
 -- ---- the length
 
@@ -90,8 +82,8 @@ same_total : {X : Type 0} (f g : X → ℕ) (xs : List X) → ((x : X) → In x 
 same_total f g [] same = refl
 same_total f g (x ∷ xs) same = ap₂ (λ m n. m + n) (same x (inl refl)) (same_total f g xs (λ y there. same y (inr there)))
 
-module _ (f : FileState) (tree : Tree) (met : Selecting) where
-  same_length : (s t : StoredIn) → AreStoredAfter f tree met s → AreStoredAfter f tree met t → (leaf internal k : ℕ)
+module _ (f : FileState) (tree : Tree) where
+  same_length : (s t : StoredIn) → AreStoredAfter f tree s → AreStoredAfter f tree t → (leaf internal k : ℕ)
       → plain_length leaf internal k (counts_of s) tree ≡ plain_length leaf internal k (counts_of t) tree
   unfolding plain_length
   same_length s t p q leaf internal k = ap (λ n. 96 + n) (total-sum_by _ (entries tree) ∙ same_total _ _ (entries tree) each ∙ sym (total-sum_by _ (entries tree))) where
@@ -99,13 +91,13 @@ module _ (f : FileState) (tree : Tree) (met : Selecting) where
         ≡ header_size e.1 + content_bytes leaf internal k (counts_of t e.0) (e.1).content
     each e there = ap (λ n. header_size e.1 + n) (same_content leaf internal k (counts_of s e.0) (counts_of t e.0) (e.1).content (λ d chunk is chunked.
         let found = dataset_is tree e.0 e.1 (Array d) (get_of_entry nat_cmp_total tree e.0 e.1 there) is in
-        ap length (same_offsets f.image d.sizes chunk (selected_in met e.0) (get f.table e.0) (s e.0) (t e.0) (p e.0 d found chunk chunked) (q e.0 d found chunk chunked))))
+        ap length (same_offsets f.image d.sizes (get f.table e.0) (s e.0) (t e.0) (p e.0 d found chunk chunked) (q e.0 d found chunk chunked))))
 
-  pub one_length : (m n : ℕ) → HasLengthAnew f tree met m → HasLengthAnew f tree met n → m ≡ n
+  pub one_length : (m n : ℕ) → HasLengthAnew f tree m → HasLengthAnew f tree n → m ≡ n
   one_length m n x y = x.counted ∙ same_length x.stored y.stored x.chunks y.chunks (leaf_k f.image) (internal_k f.image) 32 ∙ sym y.counted
 
   -- so it passes 2^31 bytes or does not
-  pub not_both : IsLongAnew f tree met → IsShortAnew f tree met → ⊥
+  pub not_both : IsLongAnew f tree → IsShortAnew f tree → ⊥
   not_both long short =
       let same = one_length long.0 short.0 long.1 short.1 in
       let above = long.2 in

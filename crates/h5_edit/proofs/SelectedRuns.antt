@@ -10,7 +10,7 @@ use Rattle.h5_query.specs.Opened.State.{FileState}
 use Rattle.h5_shape.specs.Runs.{AreMaximal, places_in}
 use Rattle.h5_shape.specs.declared.runs.CellRun.{CellRun}
 use Rattle.h5_edit.specs.Stored.{AreRunsStored, AreSelectedStored}
-use Rattle.h5_edit.proofs.MetStored.{place_low}
+use Rattle.h5_edit.proofs.SelectedStored.{place_low}
 
 each_some : (runs : List CellRun) → AreMaximal runs → AllByRecursion (λ (r : CellRun). 0 < r.length) runs
 each_some [] maximal = tt

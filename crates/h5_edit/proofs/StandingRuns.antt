@@ -25,12 +25,12 @@ use Rattle.h5_query.specs.Written.{AreStanding, IsCellStored, IsStoredRun, with_
 use Rattle.h5_shape.specs.Runs.{AreMaximal, cell_runs, places_in}
 use Rattle.h5_shape.specs.declared.runs.CellRun.{CellRun}
 use Rattle.h5_shape.proofs.RunLaws.{places_of_runs, runs-maximal}
-use Rattle.h5_edit.specs.LacksStorage.{lacks_cells}
+use Rattle.h5_layout.specs.Lacking.{lacks_cells}
 use Rattle.h5_edit.specs.Refusals.Allowed.{AreSelectedStanding, IsTarget}
-use Rattle.h5_edit.specs.Stored.{AreRunsStored, AreValuesWritten, IsPlanned, IsWriteMade}
+use Rattle.h5_edit.specs.Stored.{AreRunsStored, AreValuesWritten, HasStorage, IsPlanned, IsWriteMade}
 use Rattle.h5_edit.specs.declared.rules.write.WriteTarget.{WriteTarget}
 use Rattle.h5_edit.proofs.ArraysThere.{one_there}
-use Rattle.h5_edit.proofs.WriteSteps.{in_place, in_place_asked}
+use Rattle.h5_edit.proofs.WriteSteps.{has_all, runs_asked, runs_made, storing}
 use Rattle.h5_edit.proofs.WrittenRuns.{AreFirstWritten, all_first, all_written, none_first, one_more, places_one, run_stored}
 
 -- ---- a cell with an address is stored
@@ -54,7 +54,7 @@ none_fails test from (suc n) all =
 -- ---- the one run
 
 module _ {f : FileState} {path : List ℕ} {hyper : Hyper} {values : List ℤ} {t : WriteTarget} (is : IsTarget f path hyper values t) (c : StandingCells)
-    (some : t.standing ≡ Some c) where
+    (some : t.standing ≡ Some c) (sound_before : IsSound f) where
   abbrev a : Described
   a = is.write.array
 
@@ -86,8 +86,11 @@ module _ {f : FileState} {path : List ℕ} {hyper : Hyper} {values : List ℤ} {
   plan : IsPlanned f path hyper values t.number (record { runs = run ∷ []; missing = None })
   plan = record { write = is.write; found = none_lacks; places = places; maximal = maximal; few = is.few }
 
+  has : HasStorage f path hyper values t.number f
+  has = has_all (storing plan sound_before)
+
   asked : (d : Dataset) × AreRunsStored f t.number (run ∷ []) values d
-  asked = in_place_asked plan refl
+  asked = runs_asked plan f has
 
   none_yet : AreFirstWritten f t.number (run ∷ []) values asked.0 asked.1 0 (run ∷ []) f
   none_yet = none_first f t.number (run ∷ []) values asked.0 asked.1 (run ∷ []) refl
@@ -116,7 +119,7 @@ module _ {f : FileState} {path : List ℕ} {hyper : Hyper} {values : List ℤ} {
 
   -- ---- what it makes
 
-  module _ (sound_before : IsSound f) (now : FileState)
+  module _ (now : FileState)
       (changed : now ≡ record f { image = now.image; tree = with_object f.tree t.number (with_dataset (with_run c.place values)) })
       (leaf : leaf_k now.image ≡ leaf_k f.image) (internal : internal_k now.image ≡ internal_k f.image) (sound : IsSound now) (whole : IsWholeFile f → IsWholeFile now)
       (in_place_now : IsChangedInPlace f now (with_object f.tree t.number (with_dataset (with_run c.place values))) f.next (t.number ∷ []) 0)
@@ -131,4 +134,4 @@ module _ {f : FileState} {path : List ℕ} {hyper : Hyper} {values : List ℤ} {
         refl
 
     pub standing_written : IsWriteMade f path hyper values t.number now
-    standing_written = in_place plan sound_before refl now wrote
+    standing_written = runs_made plan f has sound_before now wrote

@@ -1,59 +1,56 @@
 -- A write of an opened image that no rule refuses, step by step: what is asked of each, and what it makes.
-use Rattle.std.proofs.Common.{◌≡◌, ℕ, ℤ, ◌^◌, ◌≤◌, List, Option, Some, None, refl, sym, ap, ◌∙◌, subst}
-use Rattle.std.specs.Prelude.{option_and_then}
+use Rattle.std.proofs.Common.{◌≡◌, ℕ, ℤ, ◌^◌, ◌≤◌, true, List, [], ◌∷◌, Option, Some, None, length, sym, ap, ◌∙◌, subst}
+use Rattle.std.proofs.lemmas.Option.{same_Some}
+use Rattle.std.specs.List.{Contains, list_all}
 use Rattle.h5_layout.specs.Described.{Described}
-use Rattle.h5_model.specs.Edits.Applied.{State}
+use Rattle.h5_model.specs.Edits.Applied.{with_dataset}
 use Rattle.h5_model.specs.Edits.Refusal.{first_holding}
-use Rattle.h5_model.specs.Tree.Objects.{Dataset, dataset_of}
+use Rattle.h5_model.specs.Format.Fixed.{fits}
+use Rattle.h5_model.specs.Tree.Objects.{Tree, Dataset, dataset_of, with_object}
 use Rattle.h5_model.specs.Tree.Paths.{dataset_at}
 use Rattle.h5_model.specs.Tree.Places.{cells}
 use Rattle.h5_model.specs.Views.Selection.{Slab, axes_of, selection_of}
 use Rattle.h5_model.specs.declared.edits.Edit.TheVariants.{Write}
 use Rattle.h5_model.specs.declared.edit_fault.EditFault.{EditFault}
-use Rattle.h5_model.specs.declared.edit_fault.EditFault.TheVariants as fault
 use Rattle.h5_model.specs.declared.hyperslab.Hyper.{Hyper}
 use Rattle.h5_model.proofs.RefusalLaws.{Writes, accepted_write}
+use Rattle.h5_query.specs.ChangedInPlace.{IsChangedInPlace}
 use Rattle.h5_query.specs.Opened.Sound.{IsSound}
 use Rattle.h5_query.specs.Opened.State.{FileState}
 use Rattle.h5_query.specs.Selected.{hyper_rules}
-use Rattle.h5_query.specs.Written.{IsArrayThere}
+use Rattle.h5_query.specs.Written.{IsArrayThere, IsCellStored}
+use Rattle.h5_query.proofs.ChangedThen.{changed_none}
 use Rattle.h5_shape.specs.Runs.{AreMaximal, places_in}
 use Rattle.h5_shape.specs.declared.runs.CellRun.{CellRun}
-use Rattle.h5_edit.specs.Carried.{IsRefused}
-use Rattle.h5_edit.specs.Changed.Missing.{IsFound}
-use Rattle.h5_edit.specs.Changed.Sizes.{stored_all}
-use Rattle.h5_edit.specs.LacksStorage.{lacks_cells}
+use Rattle.h5_layout.specs.Storage.{storage_bytes}
+use Rattle.h5_edit.specs.Carried.{IsAccepted}
+use Rattle.h5_layout.specs.Lacking.{IsFound}
+use Rattle.h5_layout.specs.Lacking.{stored_all, stored_storage}
+use Rattle.h5_edit.specs.Edited.{IsGrowth}
 use Rattle.h5_edit.specs.Refusals.Allowed.{IsWriteAt}
-use Rattle.h5_edit.specs.Stored.{AreRunsStored, AreValuesWritten, IsPlanned, IsStoredAnew, IsStoring, IsWriteMade}
-use Rattle.h5_edit.specs.declared.change.missing.Missing.{Missing}
+use Rattle.h5_edit.specs.Stored.{AreRunsStored, AreValuesWritten, HasStorage, IsPlanned, IsStoring, IsWriteMade, with_places}
+use Rattle.h5_layout.specs.declared.lacking.Missing.{Missing}
 use Rattle.h5_edit.specs.declared.written.WritePlan.{WritePlan}
 use Rattle.h5_edit.proofs.ChangedTwice.{dataset_changed}
-use Rattle.h5_edit.proofs.MetStored.{none_lacking}
-use Rattle.h5_edit.proofs.Refusals.{short_of_memory}
+use Rattle.h5_edit.proofs.SelectedStored.{none_lacking}
 use Rattle.h5_edit.proofs.RuleLaws.Writes.{path_allowed, slab_refused, write_left}
 use Rattle.h5_edit.proofs.SelectedRuns.{runs_stored}
-use Rattle.h5_edit.proofs.WrittenTrees.{edited_anew, edited_in_place, sizes_are}
+use Rattle.h5_edit.proofs.StorageGiven.{nothing_accepted, nothing_grows, written_array}
+use Rattle.h5_edit.proofs.WrittenTrees.{edited_in_place, sizes_are, tree_in_place, tree_made}
 
 module _ {f : FileState} {path : List ℕ} {hyper : Hyper} {values : List ℤ} {number : ℕ} where
   -- ---- the plan
 
   module _ (is : IsWriteAt f path hyper values number) where
-    -- memory is short
-    pub no_memory : IsRefused f (Write path hyper values) fault.NoMemory
-    no_memory = short_of_memory f (Write path hyper values) (λ _. (lacks_cells f.image is.array (axes_of hyper), (number, is.array, is.at.object, is.there, refl)))
-
     abbrev accepted : (d : Dataset) × (dataset_at f.tree path ≡ Some d) × Writes d (axes_of hyper) values
     accepted = accepted_write f.tree f.next path hyper values is.at.allowed
-
-    abbrev pub array_at_number : (d : Dataset) × (dataset_of f.tree number ≡ Some d)
-    array_at_number = (accepted.0, sym (ap (option_and_then (dataset_of f.tree)) is.at.object) ∙ accepted.1)
 
     module _ (a : Described) (there : IsArrayThere f number a) where
       -- no rule of a selection refuses it
       pub selected_somehow : (e : EditFault) → first_holding (hyper_rules a.sizes hyper) ≡ Some e → ⊥
       selected_somehow e refused =
           let d = accepted.0 in
-          let same = sizes_are f number a there d array_at_number.1 in
+          let same = sizes_are f number a there d (written_array is) in
           let none = sym (write_left f.tree f.next path hyper values d (path_allowed f.tree f.next path hyper values is.at.allowed) accepted.1) ∙ is.at.allowed in
           let some = slab_refused d.sizes d.fixed hyper values e (subst (λ (sizes : List ℕ). first_holding (hyper_rules sizes hyper) ≡ Some e) same refused) in
           absurd (let never : None ≡ Some e = sym none ∙ some in cc)
@@ -69,73 +66,84 @@ module _ {f : FileState} {path : List ℕ} {hyper : Hyper} {values : List ℤ} {
         few = few;
       }
 
-  module _ {p : WritePlan} (is : IsPlanned f path hyper values number p) where
+  -- ---- the storage
+
+  pub storing : {p : WritePlan} → IsPlanned f path hyper values number p → IsSound f → IsStoring f path hyper values number p.missing
+  storing is sound = record { sound = sound; write = is.write; found = is.found }
+
+  -- where nothing is missing
+  pub has_all : IsStoring f path hyper values number None → HasStorage f path hyper values number f
+  has_all is =
+      let d = (accepted is.write).0 in
+      let array = written_array is.write in
+      record {
+        accepted = nothing_accepted is.write is.found is.sound;
+        bytes = 0;
+        growth = nothing_grows is.write is.found;
+        changed = changed_none f (number ∷ []) is.sound;
+        before = d;
+        was = array;
+        storage = d.storage;
+        array = array;
+        stored = none_lacking f number is.write.array is.write.there (axes_of hyper) is.found;
+        gives = tree_in_place f path hyper values number is.write.at.object is.write.array is.write.there d array is.found;
+      }
+
+  -- and where the storage was made
+  module _ (m : Missing) (is : IsStoring f path hyper values number (Some m)) (now : FileState) where
+    pub has_made : IsAccepted f (Write path hyper values) → IsGrowth f (Write path hyper values) (storage_bytes f.image is.write.array m)
+        → IsChangedInPlace f now (with_object f.tree number (with_dataset stored_all)) f.next (number ∷ []) (storage_bytes f.image is.write.array m)
+        → ((place : ℕ) → Contains (selection_of (is.write.array).sizes (axes_of hyper)) place → IsCellStored now number place)
+        → HasStorage f path hyper values number now
+    has_made allowed growth changed stored =
+        let d = (accepted is.write).0 in
+        let array = written_array is.write in
+        let tree = changed.state.0 in
+        let there : dataset_of now.tree number ≡ Some (stored_all d) = ap (λ (t : Tree). dataset_of t number) tree ∙ dataset_changed f.tree number d array stored_all in
+        record {
+          accepted = allowed;
+          bytes = storage_bytes f.image is.write.array m;
+          growth = growth;
+          changed = subst (λ (t : Tree). IsChangedInPlace f now t f.next (number ∷ []) (storage_bytes f.image is.write.array m)) (sym tree) changed;
+          before = d;
+          was = array;
+          storage = stored_storage d.sizes d.storage;
+          array = there;
+          stored = λ e array_now place at.
+              let same : e ≡ stored_all d = same_Some e (stored_all d) (sym array_now ∙ there) in
+              let sizes : e.sizes ≡ (is.write.array).sizes = ap (λ (x : Dataset). x.sizes) same ∙ sym (sizes_are f number is.write.array is.write.there d array) in
+              stored place (subst (λ (s : List ℕ). Contains (selection_of s (axes_of hyper)) place) sizes at);
+          gives = ap (λ (t : Tree). with_object t number (with_dataset (with_places (selection_of d.sizes (axes_of hyper)) values))) tree
+              ∙ tree_made f path hyper values number is.write.at.object is.write.array is.write.there d array m is.found.1 is.found.0;
+        }
+
+  -- ---- the runs
+
+  module _ {p : WritePlan} (is : IsPlanned f path hyper values number p) (mid : FileState) (has : HasStorage f path hyper values number mid) where
     abbrev found : (d : Dataset) × (dataset_at f.tree path ≡ Some d) × Writes d (axes_of hyper) values
     found = accepted is.write
 
-    abbrev d : Dataset
-    d = found.0
+    same : found.0 ≡ has.before
+    same = same_Some found.0 has.before (sym (written_array is.write) ∙ has.was)
 
-    array : dataset_of f.tree number ≡ Some d
-    array = (array_at_number is.write).1
+    sizes : (is.write.array).sizes ≡ has.before.sizes
+    sizes = sizes_are f number is.write.array is.write.there found.0 (written_array is.write) ∙ ap (λ (x : Dataset). x.sizes) same
 
-    sizes : (is.write.array).sizes ≡ d.sizes
-    sizes = sizes_are f number is.write.array is.write.there d array
-
-    places : places_in p.runs ≡ selection_of d.sizes (axes_of hyper)
+    places : places_in p.runs ≡ selection_of has.before.sizes (axes_of hyper)
     places = is.places ∙ ap (λ (s : List ℕ). selection_of s (axes_of hyper)) sizes
 
-    few : cells d.sizes ≤ 2 ^ 40
-    few = subst (λ (s : List ℕ). cells s ≤ 2 ^ 40) sizes is.few
-
-    -- of what is opened with the storage that was missing
-    fresh_array : (fresh : FileState) → IsStoredAnew f path hyper values number fresh → dataset_of fresh.tree number ≡ Some (stored_all d)
-    fresh_array fresh made = ap (λ (s : State). dataset_of s.tree number) made.anew.state ∙ dataset_changed f.tree number d array stored_all
-
-    -- ---- what is asked
-
-    -- of the runs in place
-    pub in_place_asked : p.missing ≡ None → (e : Dataset) × AreRunsStored f number p.runs values e
-    in_place_asked none = (
-      d,
-      runs_stored f number d array (axes_of hyper)
-          (none_lacking f number is.write.array is.write.there (axes_of hyper) (subst (IsFound f.image is.write.array (axes_of hyper)) none is.found))
-          values (found.2).counted (found.2).fitting p.runs places is.maximal few,
+    -- what is asked of them
+    pub runs_asked : (e : Dataset) × AreRunsStored mid number p.runs values e
+    runs_asked = (
+      record has.before { storage = has.storage },
+      runs_stored mid number (record has.before { storage = has.storage }) has.array (axes_of hyper) has.stored values
+          ((found.2).counted ∙ ap (λ (x : Dataset). length (selection_of x.sizes (axes_of hyper))) same)
+          (subst (λ (x : Dataset). list_all (fits x.fixed) values ≡ true) same (found.2).fitting)
+          p.runs places is.maximal (subst (λ (s : List ℕ). cells s ≤ 2 ^ 40) sizes is.few),
     )
 
-    -- of the storage
-    module _ {m : Missing} (some : p.missing ≡ Some m) where
-      abbrev missed : IsFound f.image is.write.array (axes_of hyper) (Some m)
-      missed = subst (IsFound f.image is.write.array (axes_of hyper)) some is.found
-
-      pub storing : IsStoring f path hyper values number m
-      storing = record {
-        accepted = is.write.at.allowed;
-        object = is.write.at.object;
-        array = is.write.array;
-        there = is.write.there;
-        lacking = missed.0;
-        missing = missed.1;
-      }
-
-    -- of the runs in what is opened with it
-    pub fresh_asked : (fresh : FileState) → IsStoredAnew f path hyper values number fresh → (e : Dataset) × AreRunsStored fresh number p.runs values e
-    fresh_asked fresh made = (
-      stored_all d,
-      runs_stored fresh number (stored_all d) (fresh_array fresh made) (axes_of hyper) made.stored values (found.2).counted (found.2).fitting p.runs places is.maximal few,
-    )
-
-    -- ---- what it makes
-
-    module _ (sound : IsSound f) where
-      pub in_place : p.missing ≡ None → (now : FileState) → AreValuesWritten f number (places_in p.runs) values now → IsWriteMade f path hyper values number now
-      in_place none now wrote e named refreshed =
-          edited_in_place f sound path hyper values number is.write.at is.write.array is.write.there d array e named refreshed
-          (subst (IsFound f.image is.write.array (axes_of hyper)) none is.found) now
-          (subst (λ (ps : List ℕ). AreValuesWritten f number ps values now) places wrote)
-
-      pub anew : {m : Missing} → p.missing ≡ Some m → (fresh : FileState) → IsStoredAnew f path hyper values number fresh → (now : FileState)
-          → AreValuesWritten fresh number (places_in p.runs) values now → IsWriteMade f path hyper values number now
-      anew {m} some fresh made now wrote e named refreshed =
-          edited_anew f sound path hyper values number is.write.at is.write.array is.write.there d array e named refreshed m (missed some).1 (missed some).0 fresh made now
-          (subst (λ (ps : List ℕ). AreValuesWritten fresh number ps values now) places wrote)
+    -- and what they make
+    pub runs_made : IsSound f → (now : FileState) → AreValuesWritten mid number (places_in p.runs) values now → IsWriteMade f path hyper values number now
+    runs_made sound now wrote e named refreshed =
+        edited_in_place f path hyper values number is.write.at e named refreshed mid has sound now
+        (subst (λ (ps : List ℕ). AreValuesWritten mid number ps values now) places wrote)

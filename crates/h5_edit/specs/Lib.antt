@@ -1,13 +1,11 @@
 pub mod StoredChunks
-pub mod ExtentMaxima
 pub mod Carried
 pub mod Made
 pub mod Repacked
 pub mod Edited
-pub mod LacksStorage
+pub mod StorageFacts
 pub mod Stored
 pub mod Answers
-pub mod Fitting
 pub mod Refusals
 pub mod Fits
 pub mod Changed
@@ -19,6 +17,7 @@ pub use Rattle.h5_query.specs.Pieces
 pub use Rattle.h5_query.specs.Selected
 pub use Rattle.h5_query.specs.declared.found.Found as FoundType
 pub use Rattle.h5_query.specs.Opened
+pub use Rattle.h5_query.specs.Resized
 pub use Rattle.h5_query.specs.OpenedObjectType
 pub use Rattle.h5_query.specs.Renumbered
 pub use Rattle.h5_layout.specs.Lent

@@ -13,9 +13,9 @@ ghost use Rattle.h5_edit.specs.Answers.{added_answer};
 ghost use Rattle.h5_edit.specs.Carried.{IsRefused};
 ghost use Rattle.h5_edit.specs.Edited.{IsEdited};
 
-use crate::anew::k_of;
 use crate::created::array::{array_from, block_cells};
-use crate::links::link_fault;
+use crate::k_values::k_of;
+use crate::links::insertion_fault;
 use crate::rules::{NewPlace, check_create_dataset, check_create_group};
 use h5_btree::InsertFault;
 use h5_model::{EditFault, Edited, ObjectNo, Spec};
@@ -48,7 +48,7 @@ pub fn create_group(alloc: Global, opened: &mut Opened, path: &[u8]) -> Result<E
     let place = check_create_group(opened, path)?;
     let k = k_of(opened.image());
     let Some(at) = opened.place_for(bare_group_length(k.internal)) else {
-        return Err(link_fault(no_room(opened, &place)));
+        return Err(insertion_fault(no_room(opened, &place)));
     };
     let mut bytes = Vec::new(alloc);
     push_bare_group(alloc, &mut bytes, k.leaf, k.internal, at)?;
@@ -94,7 +94,7 @@ pub fn create_dataset(
     let header = array_header_length(&array, &others);
     let data = data_length(&array, &Cells::Filled);
     let Some(at) = place_with(opened, header, data) else {
-        return Err(link_fault(no_room(opened, &place)));
+        return Err(insertion_fault(no_room(opened, &place)));
     };
     let address = cells_address(&array, &Cells::Filled, at + header);
     let mut bytes = Vec::new(alloc);
@@ -148,6 +148,6 @@ fn answered(added: Result<(), InsertFault>, number: u32) -> Result<Edited, EditF
             object: Some(ObjectNo(number)),
             refreshed: 0,
         }),
-        Err(fault) => Err(link_fault(fault)),
+        Err(fault) => Err(insertion_fault(fault)),
     }
 }

@@ -1,21 +1,19 @@
 //! Edits of an opened image: why one is refused, in the order of the refusals' numbers, and what an accepted one makes of it (File Format
 //! Specification 3.0, sections III.C and IV.A).
 //!
-//! New objects, links, attributes and cells that are stored are edited where they stand. Other sizes of an array and a write of cells that
-//! are not all stored write the whole image anew.
+//! Each edit is made where its objects stand. To repack an image is to write it anew.
 #![tactic(auto)]
 
-mod anew;
 mod attributes;
 mod change;
 mod created;
+mod k_values;
 mod links;
 mod made;
 mod opening;
 mod repacked;
 mod resized;
 mod rules;
-mod stored;
 mod unlinked;
 mod written;
 

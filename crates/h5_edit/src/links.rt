@@ -42,7 +42,7 @@ pub fn hard_link(opened: &mut Opened, target: &[u8], path: &[u8]) -> Result<Edit
             object: Some(object),
             refreshed: 0,
         }),
-        Err(fault) => Err(link_fault(fault)),
+        Err(fault) => Err(insertion_fault(fault)),
     }
 }
 
@@ -74,12 +74,12 @@ pub fn soft_link(opened: &mut Opened, text: &[u8], path: &[u8]) -> Result<Edited
             object: None,
             refreshed: 0,
         }),
-        Err(fault) => Err(link_fault(fault)),
+        Err(fault) => Err(insertion_fault(fault)),
     }
 }
 
-/// What an edit is answered whose link could not be put.
-pub(crate) fn link_fault(fault: InsertFault) -> EditFault
+/// What an edit is answered whose link or chunk could not be put.
+pub(crate) fn insertion_fault(fault: InsertFault) -> EditFault
     ensures { result ≡ insert_fault fault }
 {
     match fault {

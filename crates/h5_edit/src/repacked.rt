@@ -1,11 +1,11 @@
-//! An opened image written anew, with nothing changed.
+//! An opened image written anew, with nothing changed (File Format Specification 3.0, sections II.A, III and IV.A).
 
 ghost use Rattle.std.specs.Prelude.{MatchResult};
 ghost use Rattle.h5_query.specs.Opened.Sound.{IsSound};
 ghost use Rattle.h5_edit.specs.Repacked.{IsRepackMade, IsRepackRefused};
 
-use crate::anew::k_of;
 use crate::change::opened_objects;
+use crate::k_values::k_of;
 use crate::made::{Made, answer};
 use h5_model::EditFault;
 use h5_query::Opened;
@@ -24,8 +24,8 @@ pub fn repack(alloc: Global, opened: &Opened) -> Result<Made, EditFault>
     ensures sound { IsSound opened.now }
 {
     let k = k_of(opened.image());
-    let Ok(objects) = opened_objects(alloc, opened, 0, None) else {
+    let Ok(objects) = opened_objects(alloc, opened) else {
         return Err(EditFault::NoMemory);
     };
-    answer(write_tree(alloc, k.leaf, k.internal, &objects), None)
+    answer(write_tree(alloc, k.leaf, k.internal, &objects))
 }

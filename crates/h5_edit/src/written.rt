@@ -3,16 +3,17 @@
 ghost use Rattle.std.specs.Prelude.{◌≡◌, ℕ, ℤ, List, IfOk, MatchResult};
 ghost use Rattle.h5_model.specs.Tree.Objects.{Dataset};
 ghost use Rattle.h5_model.specs.declared.edits.Edit.TheVariants.{Write};
+ghost use Rattle.h5_model.specs.declared.hyperslab.Hyper.{Hyper as TheHyper};
 ghost use Rattle.h5_query.specs.Opened.Sound.{IsSound};
 ghost use Rattle.h5_shape.specs.Runs.{places_in};
 ghost use Rattle.h5_edit.specs.Carried.{IsRefused};
 ghost use Rattle.h5_edit.specs.Edited.{IsEdited};
 ghost use Rattle.h5_edit.specs.Refusals.Allowed.{IsWriteAt};
-ghost use Rattle.h5_edit.specs.Stored.{AreRunsStored, AreValuesWritten, IsPlanned, IsWriteMade};
+ghost use Rattle.h5_edit.specs.Stored.{AreRunsStored, AreValuesWritten, HasStorage, IsPlanned, IsStoring, IsWriteMade};
 
-use crate::change::{Missing, missing_of};
+use crate::links::insertion_fault;
 use crate::rules::check_write;
-use crate::stored::stored_anew;
+use h5_layout::{Missing, missing_of};
 use h5_model::{EditFault, Edited, Hyper, ObjectNo};
 use h5_query::{Opened, described_of, slab_within};
 use h5_shape::CellRuns;
@@ -20,10 +21,10 @@ use std::alloc::{AllocError, Global};
 
 /// Writes values into the selected cells of the array at the path: one value for each cell, in row-major order.
 ///
-/// If all selected cells are stored, the cells are written where they stand: no byte outside the blocks of the array
-/// changes, no header moves, and the image keeps its length. Otherwise the image is first written anew with the
-/// storage that is missing: the block of a contiguous array, or the chunks that hold a selected cell. The other cells
-/// of that storage are the fill.
+/// The storage that is missing is made first, where the array stands: the block of a contiguous array, or the chunks that hold a selected
+/// cell. The other cells of that storage are the fill. Then the cells are written where they stand. No other object changes, and no header
+/// moves. The image keeps its length if all selected cells are stored. Otherwise it grows by no more than that block, or the missing chunks
+/// with 17 nodes of their tree for each, and a node.
 ///
 /// # Errors
 ///
@@ -41,8 +42,9 @@ use std::alloc::{AllocError, Global};
 /// - `OutOfExtent`: a selected cell is outside the sizes.
 /// - `ValueCount`: there is not one value for each selected cell.
 /// - `ValueRange`: a value is not one of the type.
-/// - `ImageFull`: cells without storage are to be written, and the image with that storage would have more than
-///   2147483648 bytes.
+/// - `TreeTooDeep`: one of the missing chunks, in its turn, finds the root of the array's B-tree at level 15 and all on the way to the chunk
+///   full. Where the first one does, always; where another does, `ImageFull` may come in its place.
+/// - `ImageFull`: the image, and the bytes that the missing storage may add, are more than 2147483648 bytes.
 /// - `NoMemory`: memory is refused. It may come in place of any other.
 pub fn write(
     alloc: Global,
@@ -68,7 +70,8 @@ pub fn write(
 
 /// Writes values into the selected cells of the array of this number, run by run. The storage that is missing is made first.
 ///
-/// `ImageFull` where the image with that storage would pass 2147483648 bytes, `NoMemory` where memory is refused. A refusal changes nothing.
+/// `TreeTooDeep` where a chunk finds no room in the tree, `ImageFull` where the image may pass 2147483648 bytes with that storage, `NoMemory`
+/// where memory is refused. A refusal changes nothing.
 fn write_selected(
     alloc: Global,
     opened: &mut Opened,
@@ -82,15 +85,32 @@ fn write_selected(
         IsRefused opened.old (Write path hyper.now values.now) e × (opened.new ≡ opened.old)) }
 {
     let WritePlan { runs, missing } = plan_write(alloc, opened, number, hyper)?;
-    match missing {
-        None => write_runs(alloc, opened, number, runs, values),
-        Some(missing) => {
-            let mut fresh = stored_anew(alloc, opened, number, &missing)?;
-            write_runs(alloc, &mut fresh, number, runs, values);
-            *opened = fresh;
-        }
-    }
+    make_missing(alloc, opened, number, missing)?;
+    write_runs(alloc, opened, number, runs, values);
     Ok(())
+}
+
+/// Makes the storage that is missing of the array of this number, if any is. A refusal changes nothing.
+fn make_missing(
+    alloc: Global,
+    opened: &mut Opened,
+    number: u32,
+    missing: Option<Missing>,
+) -> Result<(), EditFault>
+    requires { (path : List ℕ) × (hyper : TheHyper) × (values : List ℤ)
+        × IsStoring opened.old path hyper values number missing }
+    ensures { (path : List ℕ) (hyper : TheHyper) (values : List ℤ)
+        → IsStoring opened.old path hyper values number missing
+        → MatchResult result (λ _. HasStorage opened.old path hyper values number opened.new) (λ e.
+        IsRefused opened.old (Write path hyper values) e × (opened.new ≡ opened.old)) }
+{
+    let Some(missing) = missing else {
+        return Ok(());
+    };
+    match opened.make_storage(alloc, number, &missing) {
+        Ok(()) => Ok(()),
+        Err(fault) => Err(insertion_fault(fault)),
+    }
 }
 
 /// How selected cells are written: as runs of consecutive places, and what is missing of their storage, or `None` where each of them is

@@ -1,6 +1,5 @@
 pub mod Sounds
 pub mod Opens
-pub mod Made
 pub mod GatherLaws
 pub mod ArrayFacts
 pub mod SlabLaws

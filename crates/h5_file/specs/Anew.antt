@@ -1,5 +1,5 @@
 -- What a file is once it was repacked (File Format Specification 3.0, sections II.A, III and IV.A).
-use Rattle.std.specs.Prelude.{◌^◌, ◌≤◌, None, length}
+use Rattle.std.specs.Prelude.{◌^◌, ◌≤◌, length}
 use Rattle.h5_edit.specs.Made.{HoldsAnew}
 use Rattle.h5_edit.specs.Opened.State.{FileState}
 use Rattle.h5_edit.specs.StoredChunks.{HasLengthAnew}
@@ -8,5 +8,5 @@ use Rattle.h5_edit.specs.StoredChunks.{HasLengthAnew}
 -- cell.
 pub record IsRepacked (before after : FileState) : Type 0 where
   pub anew : HoldsAnew before before.tree before.next after
-  pub long : HasLengthAnew before before.tree None (length after.image)
+  pub long : HasLengthAnew before before.tree (length after.image)
   pub few : length after.image ≤ 2 ^ 31

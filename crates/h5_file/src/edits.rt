@@ -1,11 +1,10 @@
-//! Edits of a file. Objects and links are made and taken away, attributes are set and removed, and cells that are stored are written, where
-//! they stand. Other sizes of an array, and a write of cells that are not all stored, write the image anew.
+//! Edits of a file. Each is made where its objects stand; to repack a file is to write its image anew (File Format Specification 3.0,
+//! sections II.A, III and IV.A).
 
 ghost use Rattle.std.specs.Prelude.{◌≡◌, ℕ, IfOk, OnErr, MatchResult};
-ghost use Rattle.h5_model.specs.declared.edits.Edit.{Edit as TheEdit};
 ghost use Rattle.h5_model.specs.declared.edits.Edit.TheVariants.{CreateGroup, CreateDataset, HardLink, SoftLink, Unlink, SetAttr, RemoveAttr, Write, Resize};
 ghost use Rattle.h5_edit.specs.Carried.{IsRefused};
-ghost use Rattle.h5_edit.specs.Made.{HoldsAnew, IsAnew, IsEditMade};
+ghost use Rattle.h5_edit.specs.Made.{HoldsAnew, IsAnew};
 ghost use Rattle.h5_edit.specs.Repacked.{IsRepackRefused};
 ghost use Rattle.h5_model.specs.Tree.Objects.{Tree};
 ghost use Rattle.h5_edit.specs.Edited.{IsEdited};
@@ -13,8 +12,8 @@ ghost use Rattle.h5_file.specs.Anew.{IsRepacked};
 
 use crate::file::File;
 use h5_edit::{
-    Made, create_dataset, create_group, hard_link, open_made, remove_attr, repack, resize,
-    set_attr, soft_link, unlink, write,
+    create_dataset, create_group, hard_link, open_made, remove_attr, repack, resize, set_attr,
+    soft_link, unlink, write,
 };
 use h5_model::{AttrSpec, Edit, EditFault, Edited, Hyper, Spec};
 use std::alloc::AllocError;
@@ -247,7 +246,11 @@ impl File {
 
     /// Gives the array in chunks at the path other sizes, in cells, one for each dimension. A cell that is inside the
     /// old and the new sizes keeps its value. The other cells that the array then has are the fill. Cells outside the
-    /// new sizes are gone for good.
+    /// new sizes are gone for good: the chunks that hold no cell any more go, and in the others such a cell is the fill.
+    ///
+    /// The array is changed where it stands. No other object changes, and no header moves. The image keeps its length
+    /// where the Dataspace message has maxima. Where it has none it is replaced by one that has, for which the image
+    /// grows by at most 40 bytes and 16 for each dimension.
     ///
     /// # Errors
     ///
@@ -265,22 +268,23 @@ impl File {
     /// - `TooManyCells`: the product of the sizes, with sizes of 0 left out, is above 2^40.
     /// - `HeaderFull`: the Dataspace message of the array has no maxima, so it needs a new one, and the header has
     ///   65534 messages or more.
-    /// - `ImageFull`: the image would have more than 2147483648 bytes.
+    /// - `ImageFull`: the image, and the bytes that a Dataspace message may add where a new one is needed, are more than
+    ///   2147483648 bytes.
     /// - `NoMemory`: memory is refused. It may come in place of any other.
     pub fn resize(&mut self, path: &[u8], dims: &[u64]) -> Result<Edited, EditFault>
         ensures edited { MatchResult result (IsEdited self.old (Resize path.now dims.now) self.new)
             (λ e. IsRefused self.old (Resize path.now dims.now) e × (self.new ≡ self.old)) }
     {
-        let made = resize(self.alloc, &self.opened, path, dims)?;
-        self.take(made)
+        resize(self.alloc, &mut self.opened, path, dims)
     }
 
     /// Writes values into the selected cells of the array at the path: one value for each cell, in row-major order.
     ///
-    /// If all selected cells are stored, the cells are written where they stand: no byte outside the blocks of the
-    /// array changes, no header moves, and the image keeps its length. Otherwise the image is first written anew with
-    /// the storage that is missing: the block of a contiguous array, or the chunks that hold a selected cell. The
-    /// other cells of that storage are the fill.
+    /// The storage that is missing is made first, where the array stands: the block of a contiguous array, or the chunks
+    /// that hold a selected cell. The other cells of that storage are the fill. Then the cells are written where they
+    /// stand. No other object changes, and no header moves. The image keeps its length if all selected cells are stored.
+    /// Otherwise it grows by no more than that block, or the missing chunks with 17 nodes of their tree for each, and a
+    /// node.
     ///
     /// # Errors
     ///
@@ -298,8 +302,10 @@ impl File {
     /// - `OutOfExtent`: a selected cell is outside the sizes.
     /// - `ValueCount`: there is not one value for each selected cell.
     /// - `ValueRange`: a value is not one of the type.
-    /// - `ImageFull`: cells without storage are to be written, and the image with that storage would have more than
-    ///   2147483648 bytes.
+    /// - `TreeTooDeep`: one of the missing chunks, in its turn, finds the root of the array's B-tree at level 15 and all
+    ///   on the way to the chunk full. Where the first one does, always; where another does, `ImageFull` may come in its
+    ///   place.
+    /// - `ImageFull`: the image, and the bytes that the missing storage may add, are more than 2147483648 bytes.
     /// - `NoMemory`: memory is refused. It may come in place of any other.
     pub fn write(
         &mut self,
@@ -331,22 +337,8 @@ impl File {
         Ok(())
     }
 
-    /// Takes the image that an edit gives in place of the file's own. Its objects keep their numbers.
-    fn take(&mut self, made: Made) -> Result<Edited, EditFault>
-        requires { (edit : TheEdit) × IsEditMade self.old edit made }
-        ensures { (edit : TheEdit) → IsEditMade self.old edit made
-            → MatchResult result (IsEdited self.old edit self.new) (λ e.
-            IsRefused self.old edit e × (self.new ≡ self.old)) }
-    {
-        self.replace(made.image, &made.headers)?;
-        Ok(Edited {
-            object: made.object,
-            refreshed: 0,
-        })
-    }
-
-    /// Takes an image that was written anew, of the file's tree or another, in place of the file's own, and gives its objects the numbers
-    /// of these headers. Fails where memory is refused; the file is then as it was.
+    /// Takes an image that was written anew in place of the file's own, and gives its objects the numbers of these headers. Fails where
+    /// memory is refused; the file is then as it was.
     fn replace(&mut self, image: Vec<u8>, headers: &[Option<u64>]) -> Result<(), AllocError>
         requires { (tree : Tree) × (next : ℕ) × IsAnew self.old tree next image.items headers.now }
         ensures anew { IfOk result (λ _. (tree : Tree) (next : ℕ)

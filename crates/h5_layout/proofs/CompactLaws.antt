@@ -4,6 +4,7 @@ use Rattle.std.specs.Prelude.{option_map}
 use Rattle.std.specs.Borrow.{Bor}
 use Rattle.std.specs.Option.{option_copied, IsSome}
 use Rattle.std.specs.List.{find}
+use Rattle.std.proofs.lemmas.Option.{same_Some}
 use Rattle.h5_model.specs.Format.Messages.{count_of, first_body}
 use Rattle.h5_header.specs.Listed.{messages_in, IsWithin}
 use Rattle.h5_header.specs.declared.message.Message.{Message as Placed}
@@ -18,7 +19,7 @@ message_found image list None is once =
     absurd (omega (arith, none_stands 8 (messages_in image list) none, once))
 message_found image list (Some b) is once = refl
 
-found_is : (list : List Placed) (r : Option (Bor Placed)) (b : Bor Placed) → option_copied r ≡ find (λ (m : Placed). m.kind == 8) list → r ≡ Some b
+pub found_is : (list : List Placed) (r : Option (Bor Placed)) (b : Bor Placed) → option_copied r ≡ find (λ (m : Placed). m.kind == 8) list → r ≡ Some b
     → find (λ (m : Placed). m.kind == 8) list ≡ Some b.now
 found_is list r b is here = sym is ∙ ap option_copied here
 
@@ -31,3 +32,8 @@ message_within image list r b within is here = within_at (length image) 8 list b
 pub place_told : (list : List Placed) (r : Option (Bor Placed)) (b : Bor Placed) → option_copied r ≡ find (λ (m : Placed). m.kind == 8) list → r ≡ Some b
     → compact_at list ≡ Some (b.now.at + 4)
 place_told list r b is here = ap (option_map (λ (m : Placed). m.at + 4)) (found_is list r b is here)
+
+-- it is the one that is known to be there
+pub message_met : (list : List Placed) (r : Option (Bor Placed)) (b : Bor Placed) (x : Placed) → option_copied r ≡ find (λ (m : Placed). m.kind == 8) list → r ≡ Some b
+    → find (λ (m : Placed). m.kind == 8) list ≡ Some x → b.now ≡ x
+message_met list r b x is here known = same_Some b.now x (sym (found_is list r b is here) ∙ known)

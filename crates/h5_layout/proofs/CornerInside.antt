@@ -1,5 +1,5 @@
 -- The first index of a chunk that holds a cell of an extent: it is inside, and an offset of a whole chunk.
-use Rattle.std.proofs.Common.{◌≡◌, ℕ, zero, suc, ◌+◌, ◌*◌, ◌/◌, ◌%◌, ◌^◌, ◌<◌, ◌≤◌, List, [], ◌∷◌, length, get_or, replicate, refl, sym, ap, ◌∙◌, subst, arith, false, cond}
+use Rattle.std.proofs.Common.{◌≡◌, ℕ, suc, ◌+◌, ◌*◌, ◌/◌, ◌%◌, ◌^◌, ◌<◌, ◌≤◌, List, [], ◌∷◌, length, get_or, replicate, refl, sym, ap, ◌∙◌, subst, arith, false, cond}
 use Rattle.std.specs.Prelude.{◌==◌}
 use Rattle.std.proofs.lemmas.Bool.Decides.{nat_tests}
 use Rattle.std.proofs.lemmas.Nat.{div-add-mod', mod-mul-add}
@@ -26,12 +26,6 @@ length-corner [] index same = refl
 length-corner (c ∷ cs) [] same = absurd (omega (arith, same))
 length-corner (c ∷ cs) (i ∷ is) same = ap suc (length-corner cs is (omega (arith, same)))
 
-pub long_inside : (sizes index : List ℕ) → IsInside sizes index → length index ≡ length sizes
-long_inside [] [] h = refl
-long_inside [] (i ∷ is) h = absurd h
-long_inside (d ∷ ds) [] h = absurd h
-long_inside (d ∷ ds) (i ∷ is) h = ap suc (long_inside ds is h.1)
-
 -- ---- no size of an array with cells is large
 
 some_cells : (sizes index : List ℕ) → IsInside sizes index → 1 ≤ extent_cells sizes
@@ -53,14 +47,6 @@ split_cells d ds i is low inside small =
     let first : d * 1 ≤ d * extent_cells ds = mul-le-mul_left d below in
     let rest : 1 * extent_cells ds ≤ d * extent_cells ds = mul-le-mul_right (extent_cells ds) (omega (arith, low)) in
     (omega (arith, product, first), omega (arith, product, rest))
-
-pub small_index : (sizes index : List ℕ) (k : ℕ) → IsInside sizes index → extent_cells sizes ≤ 2 ^ 40 → get_or index k 0 < 2 ^ 40
-small_index [] [] k h small = omega arith
-small_index [] (i ∷ is) k h small = absurd h
-small_index (d ∷ ds) [] k h small = absurd h
-small_index (d ∷ ds) (i ∷ is) zero h small =
-    let low : i < d = h.0 in let split = split_cells d ds i is h.0 h.1 small in omega (arith, low, split.0)
-small_index (d ∷ ds) (i ∷ is) (suc k) h small = small_index ds is k h.1 (split_cells d ds i is h.0 h.1 small).1
 
 -- so it is inside the largest numbers
 pub inside_words : (sizes index : List ℕ) → IsInside sizes index → extent_cells sizes ≤ 2 ^ 40 → IsInside (replicate (length sizes) (2 ^ 64)) index

@@ -1,7 +1,12 @@
 -- The chunks that are handed on are given by their offsets.
-use Rattle.std.proofs.Common.{◌≡◌, ℕ, ℤ, List, [], ◌∷◌, map, refl, sym, ap}
-use Rattle.h5_model.specs.Edits.Applied.{resized}
+use Rattle.std.proofs.Common.{◌≡◌, ℕ, ◌<◌, ℤ, List, [], ◌∷◌, length, get_or, map, refl, sym, ap}
+use Rattle.std.proofs.lemmas.List.FromFn.{fill_by_all}
+use Rattle.std.specs.Prelude.{slice_index_or}
+use Rattle.h5_model.specs.Edits.Applied.{cell_or_fill, resized}
 use Rattle.h5_model.specs.Tree.Objects.{Dataset}
+use Rattle.h5_model.specs.Tree.Places.{cells, index_of}
+use Rattle.h5_model.proofs.PlaceLaws.{inside-index, place-index}
+use Rattle.h5_chunks.proofs.InsideLaws.{is_inside_from}
 use Rattle.h5_layout.specs.Data.{dataset_told, stored_chunks}
 use Rattle.h5_layout.specs.Described.{Described}
 use Rattle.h5_layout.specs.HeldChunks.{chunk_values, held_cells, held_chunks}
@@ -25,3 +30,11 @@ module _ (image : List ℕ) (a : Described) (chunk sizes : List ℕ) where
   -- and their cells those of the array once it has its new sizes
   pub held_parts : (held_cells image a chunk sizes).parts ≡ map (handed_of after chunk) (map (λ (p : List ℕ × List ℤ). p.0) (held_cells image a chunk sizes).parts)
   held_parts = ap (map (handed_of after chunk)) (sym held_offsets)
+
+-- an array that gets the sizes it has is the same
+pub resized_own : (d : Dataset) → length d.cells ≡ cells d.sizes → resized d.sizes d ≡ d
+resized_own d counted = ap (λ (cs : List ℤ). record d { cells = cs }) (sym (fill_by_all (λ place. cell_or_fill d (index_of d.sizes place)) d.cells (cells d.sizes) d.fill counted each)) where
+  each : (place : ℕ) → place < cells d.sizes → get_or d.cells place d.fill ≡ cell_or_fill d (index_of d.sizes place)
+  each place low =
+      rw (is_inside_from d.sizes (index_of d.sizes place) (inside-index d.sizes place low))
+      (ap (λ n. slice_index_or d.cells n d.fill) (sym (place-index d.sizes place low)))

@@ -1,8 +1,7 @@
 -- Chunks of which some cells are kept: how many bytes they have, and their offsets.
-use Rattle.std.proofs.Common.{◌≡◌, ℕ, zero, suc, ◌+◌, ◌-◌, ◌*◌, ◌/◌, ◌<◌, ◌≤◌, ℤ, List, [], ◌∷◌, length, get_or, map, slice_get, Some, refl, sym, ap, ◌∙◌, subst, arith}
+use Rattle.std.proofs.Common.{◌≡◌, ℕ, zero, suc, ◌+◌, ◌-◌, ◌*◌, ◌<◌, ◌≤◌, ℤ, List, [], ◌∷◌, length, get_or, slice_get, Some, refl, sym, ap, ◌∙◌, subst, arith}
 use Rattle.std.proofs.lemmas.List.FromFn.{length-map-range_with_len}
 use Rattle.std.proofs.Math.Nat.{mul-le-mul_right}
-use Rattle.std.proofs.lemmas.Nat.{div-mul-add}
 use Rattle.std.proofs.lemmas.Option.{same_Some, slice_get-get_or, slice_get-map}
 use Rattle.std.proofs.lemmas.List.{length-map}
 use Rattle.std.specs.Prelude.{min, option_map}
@@ -13,12 +12,12 @@ use Rattle.h5_model.specs.Format.Fixed.{Fixed, IsFixed}
 use Rattle.h5_model.specs.Tree.Places.{cells}
 use Rattle.h5_model.proofs.PlainValues.{size-low}
 use Rattle.h5_laws.proofs.Lists.{in_all, in_at}
+use Rattle.h5_chunks.specs.Held.{IsChunkPlace}
 use Rattle.h5_chunks.specs.Shapes.{AreChunkSizes}
-use Rattle.h5_layout.specs.declared.places.HeldPlace.{HeldPlace}
-use Rattle.h5_layout.specs.Merged.{place_kept}
+use Rattle.h5_chunks.specs.declared.held.ChunkPlace.{ChunkPlace}
 use Rattle.h5_layout.specs.Data.{chunk_shape}
 use Rattle.h5_layout.specs.HeldChunks.{HeldCells}
-use Rattle.h5_layout.specs.Kept.{AreKept, IsKeptPlace, KeptChunks, KeyedPlace, kept_cells, kept_values, slices_kept, smaller_sizes}
+use Rattle.h5_layout.specs.Kept.{AreKept, KeptChunks, kept_cells, kept_values, slices_kept, smaller_sizes}
 use Rattle.h5_layout.proofs.LocateLaws.{some_cells}
 
 pub some_bytes : (t : Fixed) (chunk : List ℕ) → IsFixed t → AreChunkSizes chunk → 1 ≤ cells chunk * t.size
@@ -32,9 +31,9 @@ pub length-offsets_in : (rank : ℕ) (key : List ℕ) → length (offsets_in ran
 length-offsets_in rank key = length-map-range_with_len (λ i. number_at key (8 + 8 * i) 8) 0 rank
 
 -- an offset for each size
-pub ranked : (k : KeptChunks) (places : List KeyedPlace) → AllByRecursion (λ (part : List ℕ × List ℤ). length part.0 ≡ length k.chunk) (kept_cells k places).parts
+pub ranked : (k : KeptChunks) (places : List ChunkPlace) → AllByRecursion (λ (part : List ℕ × List ℤ). length part.0 ≡ length k.chunk) (kept_cells k places).parts
 ranked k [] = tt
-ranked k (place ∷ places) = (length-offsets_in (length k.chunk) place.key, ranked k places)
+ranked k (place ∷ places) = (length-offsets_in (length k.chunk) place.key.now, ranked k places)
 
 -- ---- sizes and slices, dimension by dimension
 
@@ -68,60 +67,48 @@ get_or-slices (k ∷ ks) (c ∷ cs) (o ∷ os) (suc d) same long low = get_or-sl
 
 -- ---- one chunk of them
 
-pub part_values : (k : KeptChunks) (places : List KeyedPlace) (n : ℕ) (place : KeyedPlace) (part : List ℕ × List ℤ) → slice_get places n ≡ Some place
+pub part_values : (k : KeptChunks) (places : List ChunkPlace) (n : ℕ) (place : ChunkPlace) (part : List ℕ × List ℤ) → slice_get places n ≡ Some place
     → slice_get (kept_cells k places).parts n ≡ Some part → kept_values k place ≡ part.1
 part_values k places n place part here there =
-    let f : KeyedPlace → List ℕ × List ℤ = λ p. (offsets_in (length k.chunk) p.key, kept_values k p) in
+    let f : ChunkPlace → List ℕ × List ℤ = λ p. (offsets_in (length k.chunk) p.key.now, kept_values k p) in
     let both : Some (f place) ≡ Some part = ap (option_map f) (sym here) ∙ sym (slice_get-map f places n) ∙ there in
     ap (λ (p : List ℕ × List ℤ). p.1) (same_Some (f place) part both)
 
-part_offsets : (k : KeptChunks) (places : List KeyedPlace) (n : ℕ) (place : KeyedPlace) (part : List ℕ × List ℤ) → slice_get places n ≡ Some place
-    → slice_get (kept_cells k places).parts n ≡ Some part → offsets_in (length k.chunk) place.key ≡ part.0
+part_offsets : (k : KeptChunks) (places : List ChunkPlace) (n : ℕ) (place : ChunkPlace) (part : List ℕ × List ℤ) → slice_get places n ≡ Some place
+    → slice_get (kept_cells k places).parts n ≡ Some part → offsets_in (length k.chunk) place.key.now ≡ part.0
 part_offsets k places n place part here there =
-    let f : KeyedPlace → List ℕ × List ℤ = λ p. (offsets_in (length k.chunk) p.key, kept_values k p) in
+    let f : ChunkPlace → List ℕ × List ℤ = λ p. (offsets_in (length k.chunk) p.key.now, kept_values k p) in
     let both : Some (f place) ≡ Some part = ap (option_map f) (sym here) ∙ sym (slice_get-map f places n) ∙ there in
     ap (λ (p : List ℕ × List ℤ). p.0) (same_Some (f place) part both)
 
-pub place_there : (P : KeyedPlace → Type 0) (places : List KeyedPlace) (n : ℕ) (place : KeyedPlace) → AllByRecursion P places → slice_get places n ≡ Some place → P place
+pub place_there : (P : ChunkPlace → Type 0) (places : List ChunkPlace) (n : ℕ) (place : ChunkPlace) → AllByRecursion P places → slice_get places n ≡ Some place → P place
 place_there P places n place all here = in_all P place places all (in_at places n place here)
 
-pub length-parts : (k : KeptChunks) (places : List HeldPlace) → length (kept_cells k (map place_kept places)).parts ≡ length places
-length-parts k places =
-    length-map (map place_kept places) (λ (p : KeyedPlace). (offsets_in (length k.chunk) p.key, kept_values k p)) ∙ length-map places place_kept
+pub length-parts : (k : KeptChunks) (places : List ChunkPlace) → length (kept_cells k places).parts ≡ length places
+length-parts k places = length-map places (λ (p : ChunkPlace). (offsets_in (length k.chunk) p.key.now, kept_values k p))
 
-pub place_at : (places : List HeldPlace) (n : ℕ) (place : HeldPlace) → n < length places → place ≡ get_or places n place
-    → slice_get (map place_kept places) n ≡ Some (place_kept place)
-place_at places n place low is =
-    slice_get-map place_kept places n
-    ∙ ap (option_map place_kept) (slice_get-get_or places n place low ∙ ap (λ (p : HeldPlace). Some p) (sym is))
+pub place_at : (places : List ChunkPlace) (n : ℕ) (place : ChunkPlace) → n < length places → place ≡ get_or places n place → slice_get places n ≡ Some place
+place_at places n place low is = slice_get-get_or places n place low ∙ ap (λ (p : ChunkPlace). Some p) (sym is)
 
-module _ (k : KeptChunks) (places : List HeldPlace) (h : HeldCells) (view : kept_cells k (map place_kept places) ≡ h) (n : ℕ) (place : HeldPlace)
+module _ (k : KeptChunks) (places : List ChunkPlace) (h : HeldCells) (view : kept_cells k places ≡ h) (n : ℕ) (place : ChunkPlace)
     (low : n < length h.parts) (is : place ≡ get_or places n place) where
-  pub here : slice_get (map place_kept places) n ≡ Some (place_kept place)
+  pub here : slice_get places n ≡ Some place
   here =
       let long : length h.parts ≡ length places = ap (λ (x : HeldCells). length x.parts) (sym view) ∙ length-parts k places in
       place_at places n place (omega (arith, low, long)) is
 
-  pub whole : AreKept k (map place_kept places) → IsKeptPlace k.image (chunk_shape k.fixed k.chunk) (place_kept place)
-  whole are = place_there (IsKeptPlace k.image (chunk_shape k.fixed k.chunk)) (map place_kept places) n (place_kept place) are.there here
+  pub whole : AreKept k places → IsChunkPlace k.image (chunk_shape k.fixed k.chunk) place
+  whole are = place_there (IsChunkPlace k.image (chunk_shape k.fixed k.chunk)) places n place are.there here
 
   -- it ends by the end of the image
-  pub ends_inside : AreKept k (map place_kept places) → (at length_of : ℕ) → place.at ≡ Some at → length_of ≡ cells k.chunk * (k.fixed).size
-      → at + length_of ≤ length k.image
-  ends_inside are at length_of found long = let own = (whole are).inside at found in omega (arith, own, long)
+  pub ends_inside : AreKept k places → (length_of : ℕ) → length_of ≡ cells k.chunk * (k.fixed).size → place.at + length_of ≤ length k.image
+  ends_inside are length_of long = let own = (whole are).inside in omega (arith, own, long)
 
   -- its offsets, and its cells
   pub offsets_there : (part : List ℕ × List ℤ) → slice_get h.parts n ≡ Some part → offsets_in (length k.chunk) place.key.now ≡ part.0
   offsets_there part got =
-      part_offsets k (map place_kept places) n (place_kept place) part here (subst (λ (x : HeldCells). slice_get x.parts n ≡ Some part) (sym view) got)
+      part_offsets k places n place part here (subst (λ (x : HeldCells). slice_get x.parts n ≡ Some part) (sym view) got)
 
-  pub values_there : (part : List ℕ × List ℤ) → slice_get h.parts n ≡ Some part → kept_values k (place_kept place) ≡ part.1
+  pub values_there : (part : List ℕ × List ℤ) → slice_get h.parts n ≡ Some part → kept_values k place ≡ part.1
   values_there part got =
-      part_values k (map place_kept places) n (place_kept place) part here (subst (λ (x : HeldCells). slice_get x.parts n ≡ Some part) (sym view) got)
-
--- how many cells stand in so many bytes
-pub cells_of_bytes : (n : ℕ) (chunk : List ℕ) (t : Fixed) → IsFixed t → n ≡ cells chunk * t.size → n / t.size ≡ cells chunk
-cells_of_bytes n chunk t sound is =
-    let size : 1 ≤ t.size = size-low t sound in
-    let none : cells chunk * t.size + 0 ≡ cells chunk * t.size = omega arith in
-    ap (λ m. m / t.size) (is ∙ sym none) ∙ div-mul-add (cells chunk) t.size 0 (omega (arith, size))
+      part_values k places n place part here (subst (λ (x : HeldCells). slice_get x.parts n ≡ Some part) (sym view) got)

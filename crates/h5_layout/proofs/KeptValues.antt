@@ -1,6 +1,6 @@
 -- The cells of a chunk that is handed on are those of the array once it has its new sizes (File Format Specification 3.0, sections III.A.1
 -- and IV.A.2.i).
-use Rattle.std.proofs.Common.{◌≡◌, ℕ, ◌⊎◌, ◌+◌, ◌-◌, ◌*◌, ◌/◌, ◌%◌, ◌<◌, ◌≤◌, ℤ, List, [], ◌∷◌, length, map, replicate, Bool, true, false, cond, Option, Some, None, inl, inr, refl, sym, ap, ap₂, ◌∙◌, subst, arith}
+use Rattle.std.proofs.Common.{◌≡◌, ℕ, ◌⊎◌, ◌+◌, ◌-◌, ◌*◌, ◌/◌, ◌%◌, ◌<◌, ◌≤◌, ℤ, List, [], ◌∷◌, length, map, Bool, true, false, cond, Option, Some, None, inl, inr, refl, sym, ap, ap₂, ◌∙◌, subst, arith}
 use Rattle.std.specs.Prelude.{◌&&◌, ◌==◌, nat_lt, min, slice_index_or}
 use Rattle.std.specs.Ordering.{nat_cmp}
 use Rattle.std.specs.Cmp.Lexicographic.{slice_cmp, nat_list_cmp_total}
@@ -9,8 +9,7 @@ use Rattle.std.specs.FinMap.{entries, get, get-retain_keys, nat_cmp-IsAntisymmet
 use Rattle.std.specs.List.{AllByRecursion, AllZip, range_with_len}
 use Rattle.std.proofs.lemmas.Bool.{cases_lt}
 use Rattle.std.proofs.lemmas.Bool.Decides.{nat_tests}
-use Rattle.std.proofs.lemmas.List.{get_or-replicate, length-replicate}
-use Rattle.std.proofs.lemmas.List.FromFn.{fill_by_all, get_or-map-range_with_len}
+use Rattle.std.proofs.lemmas.List.FromFn.{get_or-map-range_with_len}
 use Rattle.std.proofs.lemmas.Nat.{div-add-mod', div-mul-add, mod-mul-add}
 use Rattle.h5_bytes.specs.Bytes.{part}
 use Rattle.h5_bytes.specs.Tables.{table}
@@ -32,13 +31,12 @@ use Rattle.h5_layout.specs.Data.{chunk_shape, dataset_told, stored_chunks}
 use Rattle.h5_layout.specs.Described.{Described}
 use Rattle.h5_layout.specs.HeldChunks.{chunk_values, held_cells}
 use Rattle.h5_layout.specs.Kept.{KeptChunks, chunks_below_root, corner_value, kept_cells, chunks_kept, kept_values, slices_kept, smaller_sizes}
-use Rattle.h5_layout.specs.Merged.{place_stored}
 use Rattle.h5_layout.specs.Stored.{IsArray, has_room}
 use Rattle.h5_layout.proofs.CellLaws.{map_ranges}
 
 -- ---- which cells are kept
 
-below_offset : (i o c k : ℕ) → i < c → nat_lt i (min c (k - o)) ≡ nat_lt (o + i) k
+pub below_offset : (i o c k : ℕ) → i < c → nat_lt i (min c (k - o)) ≡ nat_lt (o + i) k
 below_offset i o c k low = by_cases (cases_lt (o + i) k) where
   by_cases : (o + i < k) ⊎ (k ≤ o + i) → nat_lt i (min c (k - o)) ≡ nat_lt (o + i) k
   by_cases (inl under) = (let in_both : nat_lt i (min c (k - o)) ≡ true = grind (arith, nat_tests, under, low) in let too : nat_lt (o + i) k ≡ true = grind (arith, nat_tests, under) in in_both ∙ sym too)
@@ -71,7 +69,7 @@ four true false false d = refl
 four false b c d = refl
 
 -- inside both
-smaller_inside : (old new index : List ℕ) → length old ≡ length new → is_inside (smaller_sizes old new) index ≡ (is_inside old index && is_inside new index)
+pub smaller_inside : (old new index : List ℕ) → length old ≡ length new → is_inside (smaller_sizes old new) index ≡ (is_inside old index && is_inside new index)
 smaller_inside [] [] [] same = refl
 smaller_inside [] [] (i ∷ is) same = refl
 smaller_inside [] (n ∷ ns) index same = absurd (omega (arith, same))
@@ -142,26 +140,6 @@ module _ (image : List ℕ) (a : Described) (chunk : List ℕ) (root : Option �
       ∙ ap (cell_of image a.fixed a.fill a.sizes a.layout stored) (index-place a.sizes index inside)
       ∙ ap (λ (l : Layout). cell_of image a.fixed a.fill a.sizes l stored index) laid
 
-  -- a chunk that is not stored reads the fill
-  pub values_new : (offsets : List ℕ) → AllZip IsOffset chunk offsets → get stored offsets ≡ None
-      → replicate (cells chunk) a.fill ≡ chunk_values (dataset_told image a) chunk offsets
-  values_new offsets aligned none =
-      fill_by_all (λ place. cell_or_fill (dataset_told image a) (index_from offsets (index_of chunk place))) (replicate (cells chunk) a.fill) (cells chunk) a.fill
-      (length-replicate (cells chunk) a.fill) (λ place low. get_or-replicate (cells chunk) place a.fill a.fill low ∙ sym (value_new place low)) where
-        value_new : (place : ℕ) → place < cells chunk → cell_or_fill (dataset_told image a) (index_from offsets (index_of chunk place)) ≡ a.fill
-        value_new place low = by_test (is_inside a.sizes index) refl where
-          inner : List ℕ
-          inner = index_of chunk place
-
-          index : List ℕ
-          index = index_from offsets inner
-
-          by_test : (b : Bool) → is_inside a.sizes index ≡ b → cell_or_fill (dataset_told image a) index ≡ a.fill
-          by_test true within =
-              let looked : get stored (corner_of chunk index) ≡ None = ap (get stored) (corner_back chunk offsets inner aligned (inside-index chunk place low)) ∙ none in
-              told_cell index within ∙ ap (value_in_chunk image a.fixed a.fill size (place_of chunk (inner_of chunk index))) looked
-          by_test false outside = ap (λ b. cond b (slice_index_or (dataset_told image a).cells (place_of a.sizes index) a.fill) a.fill) outside
-
   module _ (sizes : List ℕ) (rank : length a.sizes ≡ length sizes) (ranks : length (smaller_sizes a.sizes sizes) ≡ length chunk) (offsets : List ℕ) (aligned : AllZip IsOffset chunk offsets)
       (at : ℕ) (found : get stored offsets ≡ Some at) where
     abbrev bytes : List ℕ
@@ -226,7 +204,7 @@ module _ (image : List ℕ) (a : Described) (chunk : List ℕ) (root : Option �
     alike : (offsets other : List ℕ) → slice_cmp nat_cmp offsets other ≡ Equal → is_inside sizes other ≡ is_inside sizes offsets
     alike offsets other equal = ap (is_inside sizes) (sym (slice_cmp-IsAntisymmetric nat_cmp-IsAntisymmetric offsets other equal))
 
-    pub stored_there : (p : ChunkPlace) → In p places → get stored (offsets_in (length chunk) p.key.now) ≡ Some p.at
+    stored_there : (p : ChunkPlace) → In p places → get stored (offsets_in (length chunk) p.key.now) ≡ Some p.at
     stored_there p there =
         let offsets : List ℕ = offsets_in (length chunk) p.key.now in
         let entry : In (offsets, p.at) (entries (retain_keys stored (is_inside sizes))) = subst (In (offsets, p.at)) held (in_map (place_entry (length chunk)) p places there) in
@@ -236,23 +214,23 @@ module _ (image : List ℕ) (a : Described) (chunk : List ℕ) (root : Option �
           by_test true found n h = h
           by_test false found n h = absurd (cc)
 
-    pub stored_kept : (p : ChunkPlace) → In p places
-        → kept_values k (place_stored p) ≡ chunk_values (resized sizes (dataset_told image a)) chunk (offsets_in (length chunk) p.key.now)
+    stored_kept : (p : ChunkPlace) → In p places
+        → kept_values k p ≡ chunk_values (resized sizes (dataset_told image a)) chunk (offsets_in (length chunk) p.key.now)
     stored_kept p there =
         let is = in_all (IsChunkPlace image (chunk_shape a.fixed chunk)) p places each there in
         values_kept sizes rank ranks (offsets_in (length chunk) p.key.now) is.keyed.aligned p.at (stored_there p there)
 
     same_parts : (ps : List ChunkPlace)
-        → ((p : ChunkPlace) → In p ps → kept_values k (place_stored p) ≡ chunk_values (resized sizes (dataset_told image a)) chunk (offsets_in (length chunk) p.key.now))
-        → (kept_cells k (map place_stored ps)).parts ≡ map handed (map (λ (e : Entry). e.0) (map (place_entry (length chunk)) ps))
+        → ((p : ChunkPlace) → In p ps → kept_values k p ≡ chunk_values (resized sizes (dataset_told image a)) chunk (offsets_in (length chunk) p.key.now))
+        → (kept_cells k ps).parts ≡ map handed (map (λ (e : Entry). e.0) (map (place_entry (length chunk)) ps))
     same_parts [] each = refl
     same_parts (p ∷ ps) each =
         ap₂ (λ (x : Part) (xs : List Part). x ∷ xs) (ap (λ (vs : List ℤ). (offsets_in (length chunk) p.key.now, vs)) (each p (inl refl)))
         (same_parts ps (λ q there. each q (inr there)))
 
-    pub kept_is_held : kept_cells k (map place_stored places) ≡ held_cells image a chunk sizes
+    pub kept_is_held : kept_cells k places ≡ held_cells image a chunk sizes
     kept_is_held =
-        let parts : (kept_cells k (map place_stored places)).parts ≡ (held_cells image a chunk sizes).parts
+        let parts : (kept_cells k places).parts ≡ (held_cells image a chunk sizes).parts
         = same_parts places stored_kept ∙ ap (λ (es : List Entry). map handed (map (λ (e : Entry). e.0) es)) held in
         λ i. record { fixed = a.fixed; chunk = chunk; parts = parts i }
 

@@ -9,7 +9,7 @@ use Rattle.h5_model.specs.Tree.Places.{is_inside}
 use Rattle.h5_model.proofs.MapSteps.{known-empty, retain_by_name}
 use Rattle.h5_layout.specs.Kept.{chunks_below_root}
 
-none_kept : (test : List ℕ → Bool) → entries (retain_keys (empty {X = ℕ} {R = slice_cmp nat_cmp}) test) ≡ []
+pub none_kept : (test : List ℕ → Bool) → entries (retain_keys (empty {X = ℕ} {R = slice_cmp nat_cmp}) test) ≡ []
 none_kept test =
     ap (λ m. entries (retain_keys m test)) (known-empty (slice_cmp nat_cmp)) ∙ ap entries (retain_by_name [] test refl) ∙ entries-from_sorted (slice_cmp nat_cmp) [] tt
 

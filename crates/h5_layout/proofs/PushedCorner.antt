@@ -111,6 +111,16 @@ module _ (t : Fixed) (fill : ℤ) (spans : List Span) (bytes : List ℕ) (sound 
   left_here z is =
       ap₂ (λ a b. (length bytes - s * a) / b) slice_here is ∙ left_is (length bytes) c s m t.size (size-low t sound) within long_split
 
+  -- they are whole cells
+  pub left_bytes : (z : ℕ) → z ≡ t.size → length bytes - s * slice ≡ (length bytes - s * slice) / z * z
+  left_bytes z is =
+      let back : s + (c - s) ≡ c = omega (arith, within) in
+      let split_long : length bytes ≡ (s + (c - s)) * m * t.size = long_split ∙ ap (λ n. n * m * t.size) (sym back) in
+      let parts : (s + (c - s)) * m * t.size ≡ s * (m * t.size) + (c - s) * m * t.size = omega arith in
+      let here : s * slice ≡ s * (m * t.size) = ap (λ n. s * n) slice_here in
+      let rest : length bytes - s * slice ≡ (c - s) * m * t.size = omega (arith, split_long, parts, here) in
+      rest ∙ ap₂ (λ a b. a * b) (sym (left_here z is)) (sym is)
+
   abbrev value : ℕ → ℤ
   value = corner_value t fill (span_sizes spans) (span_slices spans) bytes
 

@@ -1,33 +1,20 @@
 -- Offsets that rise: each is before all behind it, and a member stands there once.
-use Rattle.std.proofs.Common.{◌≡◌, ◌↔◌, ℕ, suc, inl, inr, List, [], ◌∷◌, ◌++◌, map, refl, sym, ap, ap₂, ◌∙◌, subst, arith, Bool, true, false, cond, ◌&&◌, Ordering, Less, Equal, Greater}
+use Rattle.std.proofs.Common.{◌≡◌, ◌↔◌, ℕ, suc, inl, inr, List, [], ◌∷◌, map, refl, sym, ap, ap₂, ◌∙◌, subst, arith, Bool, true, false, cond, ◌&&◌}
 use Rattle.std.specs.Prelude.{T}
-use Rattle.std.specs.Ordering.{nat_cmp, is_lt, ordering_reverse}
-use Rattle.std.specs.Cmp.Lexicographic.{slice_cmp, nat_list_cmp_total}
-use Rattle.std.specs.FinMap.{is_sorted, nat_cmp-IsAntisymmetric, slice_cmp-IsAntisymmetric}
+use Rattle.std.specs.Ordering.{nat_cmp, is_lt}
+use Rattle.std.specs.Cmp.Lexicographic.{slice_cmp}
+use Rattle.std.specs.FinMap.{is_sorted}
 use Rattle.std.specs.FinMap.Entries.{below_all}
 use Rattle.std.specs.List.{AllPairs, Contains, filter}
 use Rattle.h5_model.specs.Format.Links.{Before}
 use Rattle.h5_model.proofs.TextOrder.{after_trans, before_itself, before_le}
-use Rattle.h5_laws.proofs.Lists.{In, contains_in, in_contains, in_either}
+use Rattle.h5_laws.proofs.Lists.{In, contains_in, in_contains}
 use Rattle.h5_layout.specs.HeldChunks.{AreRising}
 
 -- ---- two of them
 
-pub before_trans : (a b c : List ℕ) → Before a b → Before b c → Before a c
+before_trans : (a b c : List ℕ) → Before a b → Before b c → Before a c
 before_trans a b c h k = after_trans a b c (before_le a b h) k
-
-back_less : (r : Ordering) → ordering_reverse r ≡ Greater → r ≡ Less
-back_less Less h = refl
-back_less Equal h = absurd (cc)
-back_less Greater h = absurd (cc)
-
--- of two that differ the one or the other is before
-pub before_other : (a b : List ℕ) → is_lt (slice_cmp nat_cmp a b) ≡ false → (a ≡ b → ⊥) → Before b a
-before_other a b not differ = by_order (slice_cmp nat_cmp a b) refl not where
-  by_order : (r : Ordering) → slice_cmp nat_cmp a b ≡ r → is_lt r ≡ false → Before b a
-  by_order Less is never = absurd (cc)
-  by_order Equal is never = absurd (differ (slice_cmp-IsAntisymmetric nat_cmp-IsAntisymmetric a b is))
-  by_order Greater is never = ap is_lt (back_less (slice_cmp nat_cmp b a) (sym (nat_list_cmp_total.antisymm a b) ∙ is))
 
 -- ---- each is before all behind it
 
@@ -47,12 +34,6 @@ rising_rises (x ∷ y ∷ xs) h = let below = rising_rises (y ∷ xs) h.1 in (ab
   above : ((z : List ℕ) → In z xs → Before y z) → (z : List ℕ) → In z (y ∷ xs) → Before x z
   above below z (inl e) = subst (Before x) e h.0
   above below z (inr at) = before_trans x y z h.0 (below z at)
-
-pub rises_append : (xs ys : List (List ℕ)) → Rises xs → Rises ys → ((x y : List ℕ) → In x xs → In y ys → Before x y) → Rises (xs ++ ys)
-rises_append [] ys h k across = k
-rises_append (x ∷ xs) ys h k across = (above, rises_append xs ys h.1 k (λ a b at there. across a b (inr at) there)) where
-  above : (y : List ℕ) → In y (xs ++ ys) → Before x y
-  above y at = elim (in_either y xs ys at) [ inl here ↦ h.0 y here | inr there ↦ across x y (inl refl) there ]
 
 -- ---- some of them
 

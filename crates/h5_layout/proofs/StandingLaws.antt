@@ -70,13 +70,13 @@ from_option f (Some y) x is = (y, refl, same_Some (f y) x is)
 -- ---- chunks
 
 -- an entry is among those that stand around a byte
-among : (p n : ℕ) (es : List (List ℕ × ℕ)) (e : List ℕ × ℕ) → In e es → holds p e.1 n ≤ cover p (map (λ at. block at n) (map (λ (x : List ℕ × ℕ). x.1) es))
+pub among : (p n : ℕ) (es : List (List ℕ × ℕ)) (e : List ℕ × ℕ) → In e es → holds p e.1 n ≤ cover p (map (λ at. block at n) (map (λ (x : List ℕ × ℕ). x.1) es))
 among p n [] e at = absurd at
 among p n (x ∷ es) e (inl is) = let here = ap (λ (y : List ℕ × ℕ). holds p y.1 n) is in omega (arith, here)
 among p n (x ∷ es) e (inr at) = omega (arith, among p n es e at)
 
 -- where no two blocks share a byte, one entry stands around it
-one_around : (p n : ℕ) (es : List (List ℕ × ℕ)) (d e : List ℕ × ℕ) → cover p (map (λ at. block at n) (map (λ (x : List ℕ × ℕ). x.1) es)) ≤ 1 → In d es → In e es
+pub one_around : (p n : ℕ) (es : List (List ℕ × ℕ)) (d e : List ℕ × ℕ) → cover p (map (λ at. block at n) (map (λ (x : List ℕ × ℕ). x.1) es)) ≤ 1 → In d es → In e es
     → 1 ≤ holds p d.1 n → 1 ≤ holds p e.1 n → d ≡ e
 one_around p n [] d e once at there here also = absurd at
 one_around p n (x ∷ es) d e once (inl is) (inl also_is) here also = sym is ∙ also_is

@@ -1,7 +1,6 @@
 -- Values that are written into cells where they stand: the data stay where they are, and the array has the values in these cells.
 use Rattle.std.proofs.Common.{◌≡◌, ℕ, zero, suc, ◌+◌, ◌-◌, ◌*◌, ◌/◌, ◌%◌, ◌<◌, ◌≤◌, ◌⊎◌, inl, inr, List, [], ◌∷◌, ◌++◌, append-nil, length, Option, Some, None, ℤ, true, refl, sym, ap, ◌∙◌, subst, arith, get_or, set, slice_index}
 use Rattle.std.specs.List.{list_all, range_with_len}
-use Rattle.std.specs.FinMap.{values}
 use Rattle.std.proofs.lemmas.Bool.{cases_lt}
 use Rattle.std.proofs.lemmas.List.{places}
 use Rattle.std.proofs.lemmas.List.Folds.{list_all-append}
@@ -13,17 +12,13 @@ use Rattle.h5_bytes.proofs.BlockLaws.{all_left, held, holds-le, holds_in, holds_
 use Rattle.h5_bytes.proofs.PartLaws.{with_part_is, length-with_part}
 use Rattle.h5_model.specs.Edits.Applied.{with_cells}
 use Rattle.h5_model.specs.Format.Cells.{cell_of, cells_of}
-use Rattle.h5_model.specs.Format.Chunks.{Chunks, HasChunks, AreChunks}
+use Rattle.h5_model.specs.Format.Chunks.{Chunks}
 use Rattle.h5_model.specs.Format.Fixed.{Fixed, IsFixed, fits, value_at, value_of, bytes_of}
 use Rattle.h5_model.specs.Format.Layout.{Layout, InMessage, InBlock, InChunks, layout_of}
 use Rattle.h5_model.specs.Format.Messages.{Message}
-use Rattle.h5_model.specs.Format.Nodes.{chunk_kind}
 use Rattle.h5_model.specs.Format.Plain.{cells_bytes}
-use Rattle.h5_model.specs.Format.Reached.{Shape}
-use Rattle.h5_model.specs.Format.Superblock.{chunk_k}
 use Rattle.h5_model.specs.Tree.Places.{cells, index_of}
 use Rattle.h5_model.proofs.FixedLaws.{value_back, length-bytes_of}
-use Rattle.h5_model.proofs.Frames.{reading-same, tree-same}
 use Rattle.h5_model.proofs.PlainValues.{length-cells_bytes, size-low}
 use Rattle.h5_model.proofs.ValueLaws.{value_at-moved, value_at-same}
 use Rattle.h5_space.specs.Moves.{Moves}
@@ -34,13 +29,12 @@ use Rattle.h5_laws.proofs.Lists.{In, in_all, all_in}
 use Rattle.h5_laws.proofs.InPlace.CellWrites.{table_set}
 use Rattle.h5_msg.proofs.WordLaws.{and_left, and_right}
 use Rattle.h5_chunks.specs.Read.{AreChunksRead}
-use Rattle.h5_chunks.specs.Told.{chunks_told, chunk_blocks_told}
-use Rattle.h5_chunks.proofs.ToldLaws.{chunks_are_told, blocks_are_told}
 use Rattle.h5_layout.specs.Data.{AreDataRead, chunk_shape, data_blocks, dataset_told, stored_chunks}
 use Rattle.h5_layout.specs.Described.{Described, HasArray}
 use Rattle.h5_layout.specs.Standing.{IsStandingAt, address_of, blocks_with_cells, cell_blocks}
 use Rattle.h5_layout.specs.Stored.{has_room}
 use Rattle.h5_layout.proofs.StandingLaws.{HasBoxes, IsHeld, box_blocks, boxed, boxes_of, cover_data, held_cell, node_blocks, nowhere, one_cell, stands}
+use Rattle.h5_layout.proofs.NodesStay.{blocks_stay, chunks_stay, read_stays}
 use Rattle.h5_layout.proofs.RoomLaws.{room_of}
 use Rattle.h5_layout.proofs.WriteLaws.{with_part-append, with_part-none}
 
@@ -55,7 +49,7 @@ pub byte_beside : (at : ℕ) (new bytes : List ℕ) (p : ℕ) → at + length ne
 byte_beside at new bytes p room far = ap (λ (bs : List ℕ). get_or bs p 0) (with_part_is at new bytes room) ∙ grind (arith, places, far)
 
 -- a block is among those around a byte
-among_blocks : (p : ℕ) (bs : List Block) (b : Block) → In b bs → holds p b.at b.len ≤ cover p bs
+pub among_blocks : (p : ℕ) (bs : List Block) (b : Block) → In b bs → holds p b.at b.len ≤ cover p bs
 among_blocks p [] b at = absurd at
 among_blocks p (c ∷ bs) b (inl is) = let here = ap (λ (d : Block). holds p d.at d.len) is in omega (arith, here)
 among_blocks p (c ∷ bs) b (inr at) = omega (arith, among_blocks p bs b at)
@@ -72,37 +66,6 @@ cell_around s some x n low =
     (x / s, div_below x s n some low, omega (arith, all), omega (arith, all, less))
 
 -- ---- the data stay
-
-module _ (image new : List ℕ) (t : Fixed) (chunk : List ℕ) (root : ℕ) (read : AreChunksRead image (chunk_shape t chunk) root) (long : length new ≡ length image)
-    (kept : Keeps image new (node_blocks image t [] chunk root read)) where
-  abbrev shape : Shape
-  shape = chunk_shape t chunk
-
-  -- the nodes are as they were
-  still : HasChunks new (chunk_k new) chunk (cells chunk * t.size) root (chunks_told image shape root) (chunk_blocks_told image shape root)
-  still =
-      let has = read.stored in
-      let kind = chunk_kind (chunk_k image) (length chunk) in
-      record {
-        level = has.level;
-        owned = has.owned;
-        tree = tree-same image new kind has.owned kept root has.level (values (chunks_told image shape root)) has.tree;
-        listed = subst (λ v. AreChunks v chunk (cells chunk * t.size) root has.level has.owned (chunks_told image shape root)) (sym (reading-same image new kind has.owned kept)) has.listed;
-        laid = has.laid;
-      }
-
-  pub chunks_stay : chunks_told new shape root ≡ chunks_told image shape root
-  chunks_stay = sym (chunks_are_told new shape root (chunks_told image shape root) (chunk_blocks_told image shape root) still)
-
-  pub blocks_stay : chunk_blocks_told new shape root ≡ chunk_blocks_told image shape root
-  blocks_stay = sym (blocks_are_told new shape root (chunks_told image shape root) (chunk_blocks_told image shape root) still)
-
-  pub read_stays : AreChunksRead new shape root
-  read_stays = record {
-    stored = subst (HasChunks new (chunk_k new) chunk (cells chunk * t.size) root (chunks_told new shape root)) (sym blocks_stay)
-        (subst (λ (c : Chunks). HasChunks new (chunk_k new) chunk (cells chunk * t.size) root c (chunk_blocks_told image shape root)) (sym chunks_stay) still);
-    inside = subst (Inside (length new)) (sym blocks_stay) (subst (λ (n : ℕ). Inside n (chunk_blocks_told image shape root)) (sym long) read.inside);
-  }
 
 -- the data can be written where they stand: they are read, and no two of their blocks share a byte
 pub record AreApart (image : List ℕ) (t : Fixed) (sizes : List ℕ) (layout : Layout) : Type 0 where
@@ -159,10 +122,10 @@ module _ (image new : List ℕ) (t : Fixed) (sizes : List ℕ) (long : length ne
   do_stay (InChunks chunk None) was place is = record { apart = apart_still (InChunks chunk None) was tt refl; chunks = refl; blocks = refl }
   do_stay (InChunks chunk (Some root)) was place is =
       let kept = nodes_kept chunk root was.read (grind (arith, was.room)) was.boxes was.once place is in
-      let blocks = blocks_stay image new t chunk root was.read long kept in
+      let blocks = blocks_stay image new (chunk_shape t chunk) root was.read long kept in
       record {
-        apart = apart_still (InChunks chunk (Some root)) was (read_stays image new t chunk root was.read long kept) blocks;
-        chunks = chunks_stay image new t chunk root was.read long kept;
+        apart = apart_still (InChunks chunk (Some root)) was (read_stays image new (chunk_shape t chunk) root was.read long kept) blocks;
+        chunks = chunks_stay image new (chunk_shape t chunk) root was.read long kept;
         blocks = blocks;
       }
 

@@ -1,27 +1,18 @@
--- The stored chunks of an array, with those that a selection meets.
-use Rattle.std.proofs.Common.{◌≡◌, ℕ, ◌^◌, ◌<◌, ◌≤◌, inl, inr, List, length, get_or, sym, ap, ◌∙◌, subst, Some, None, cond}
+-- Chunks that hold a cell of an array: stored ones that begin inside, and those that a selection meets.
+use Rattle.std.proofs.Common.{◌≡◌, ℕ, ◌^◌, ◌<◌, ◌≤◌, List, length, get_or, sym, ap, ◌∙◌, subst, Some, None, cond}
 use Rattle.std.specs.Ordering.{nat_cmp}
 use Rattle.std.specs.Cmp.Lexicographic.{slice_cmp}
 use Rattle.std.specs.declared.cmp.Ordering.TheVariants.{Equal}
-use Rattle.std.specs.FinMap.{entries, entries_sorted, get, get-entries, get-retain_keys, nat_cmp-IsAntisymmetric, retain_keys, slice_cmp-IsAntisymmetric}
+use Rattle.std.specs.FinMap.{entries, get, get-entries, get-retain_keys, nat_cmp-IsAntisymmetric, retain_keys, slice_cmp-IsAntisymmetric}
 use Rattle.std.specs.List.{Contains}
 use Rattle.h5_model.specs.Format.Chunks.{Chunks}
-use Rattle.h5_model.specs.Tree.Grid.{corner_of}
-use Rattle.h5_model.specs.Tree.Objects.{Dataset}
 use Rattle.h5_model.specs.Tree.Places.{IsInside, extent_cells, is_inside}
 use Rattle.h5_model.specs.Views.Selection.{Slab, Within}
-use Rattle.h5_laws.proofs.Lists.{In, all_in, contains_in, in_all, in_contains, in_map}
+use Rattle.h5_laws.proofs.Lists.{In, contains_in, in_map}
 use Rattle.h5_laws.proofs.Maps.{found_entry}
 use Rattle.h5_chunks.proofs.InsideLaws.{is_inside_from}
-use Rattle.h5_layout.specs.HeldChunks.{AreRising, AreStoredChunks, AreStoredWith, IsHeldChunk, IsChunkMet, held_chunks}
+use Rattle.h5_layout.specs.HeldChunks.{IsHeldChunk, IsChunkMet, held_chunks}
 use Rattle.h5_layout.proofs.CornerInside.{corner_inside, corner_whole}
-use Rattle.h5_layout.proofs.RisingLaws.{rising_once, sorted_rising}
-
--- two lists of them are one
-pub stored_with_once : (sizes chunk : List ℕ) (stored : Chunks) (slab : Slab) (xs ys : List (List ℕ)) → AreStoredWith sizes chunk stored slab xs
-    → AreStoredWith sizes chunk stored slab ys → xs ≡ ys
-stored_with_once sizes chunk stored slab xs ys h k =
-    rising_once xs ys h.rising k.rising (λ x. ((λ there. (k.each x).1 ((h.each x).0 there)), (λ there. (h.each x).1 ((k.each x).0 there))))
 
 -- ---- of the stored chunks those that hold a cell of an extent
 
@@ -32,9 +23,6 @@ module _ (stored : Chunks) (sizes : List ℕ) where
   -- no other offsets are equal to these
   alike : (offsets other : List ℕ) → slice_cmp nat_cmp offsets other ≡ Equal → is_inside sizes other ≡ is_inside sizes offsets
   alike offsets other equal = ap (is_inside sizes) (sym (slice_cmp-IsAntisymmetric nat_cmp-IsAntisymmetric offsets other equal))
-
-  pub held_rising : AreRising (held_chunks sizes stored)
-  held_rising = sorted_rising (entries held) (entries_sorted held)
 
   -- one that is stored and inside is there
   pub held_there : (offsets : List ℕ) (n : ℕ) → get stored offsets ≡ Some n → IsInside sizes offsets → Contains (held_chunks sizes stored) offsets
@@ -57,16 +45,3 @@ module _ (sizes chunk : List ℕ) (same : length chunk ≡ length sizes) (some :
         aligned = corner_whole sizes chunk index same some inside small;
         inside = corner_inside sizes chunk index same inside;
       })
-
-  -- ---- the stored chunks of an array, where those that are met are stored as well
-
-  pub stored_with : (d : Dataset) (stored : Chunks) (all : List (List ℕ)) → d.sizes ≡ sizes → AreStoredChunks d chunk (held_chunks d.sizes stored)
-      → AreStoredWith d.sizes chunk stored slab all → AreStoredChunks d chunk all
-  stored_with d stored all is are more = record {
-    rising = more.rising;
-    held = all_in (IsHeldChunk d.sizes chunk) all (λ offsets at. elim ((more.each offsets).0 (contains_in offsets all at)) [
-      | inl kept ↦ in_all (IsHeldChunk d.sizes chunk) offsets (held_chunks d.sizes stored) are.held (in_contains offsets (held_chunks d.sizes stored) kept)
-      | inr met ↦ subst (λ (ns : List ℕ). IsHeldChunk ns chunk offsets) (sym is) (met_held offsets met)
-    ]);
-    unset = λ index inside none. are.unset index inside (λ there. none ((more.each (corner_of chunk index)).1 (inl there)));
-  }

@@ -1,6 +1,6 @@
 -- The chunks of an array that hold a cell of an extent: which these are, and their cells (File Format Specification 3.0, sections III.A.1 and
 -- IV.A.2.i).
-use Rattle.std.specs.Prelude.{◌≡◌, ◌↔◌, ◌⊎◌, ℕ, ℤ, List, [], ◌∷◌, map}
+use Rattle.std.specs.Prelude.{◌≡◌, ℕ, ℤ, List, [], ◌∷◌, map}
 use Rattle.std.specs.FinMap.{entries, retain_keys}
 use Rattle.std.specs.List.{AllByRecursion, AllZip, Contains, range_with_len}
 use Rattle.h5_model.specs.Edits.Applied.{cell_or_fill, resized}
@@ -42,12 +42,6 @@ held_chunks sizes chunks = map (λ e. e.0) (entries (retain_keys chunks (is_insi
 -- the offsets of a chunk that holds a selected cell
 abbrev pub IsChunkMet : Slab → List ℕ → List ℕ → Type 0
 IsChunkMet slab chunk offsets = (index : List ℕ) × Selected slab index × (corner_of chunk index ≡ offsets)
-
--- These are the offsets, ascending, of the stored chunks that hold a cell of an extent of these sizes, and of the chunks that hold a
--- selected cell.
-pub record AreStoredWith (sizes chunk : List ℕ) (stored : Chunks) (slab : Slab) (all : List (List ℕ)) : Type 0 where
-  pub rising : AreRising all
-  pub each : (offsets : List ℕ) → Contains all offsets ↔ (Contains (held_chunks sizes stored) offsets ⊎ IsChunkMet slab chunk offsets)
 
 -- ---- their cells
 

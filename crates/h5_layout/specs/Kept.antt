@@ -1,18 +1,19 @@
 -- The cells that stay of chunks whose array is made smaller or larger, where the chunks stand (File Format Specification 3.0, sections
 -- III.A.1 and IV.A.2.i).
-use Rattle.std.specs.Prelude.{◌≡◌, ℕ, ◌-◌, ◌+◌, ◌*◌, ◌^◌, ◌<◌, ◌≤◌, true, min, if◌then◌else◌, ℤ, Option, None, Some, List, [], ◌∷◌, length, map, replicate}
+use Rattle.std.specs.Prelude.{◌≡◌, ℕ, ◌-◌, ◌*◌, ◌^◌, ◌<◌, ◌≤◌, true, min, if◌then◌else◌, ℤ, Option, None, Some, List, [], ◌∷◌, length, map}
 use Rattle.std.specs.FinMap.{empty}
 use Rattle.std.specs.List.{AllByRecursion}
-use Rattle.std.specs.Option.{ForSome}
 use Rattle.h5_bytes.specs.Bytes.{part}
 use Rattle.h5_bytes.specs.Tables.{table}
 use Rattle.h5_model.specs.Format.Cells.{value_in}
-use Rattle.h5_model.specs.Format.Chunks.{Chunks, IsChunkKey, offsets_in}
+use Rattle.h5_model.specs.Format.Chunks.{Chunks, offsets_in}
 use Rattle.h5_model.specs.Format.Fixed.{Fixed, IsFixed, fits}
 use Rattle.h5_model.specs.Format.Reached.{Shape}
 use Rattle.h5_model.specs.Tree.Places.{cells, index_of, is_inside}
+use Rattle.h5_chunks.specs.Held.{IsChunkPlace}
 use Rattle.h5_chunks.specs.Shapes.{AreChunkSizes}
 use Rattle.h5_chunks.specs.Told.{chunks_told}
+use Rattle.h5_chunks.specs.declared.held.ChunkPlace.{ChunkPlace}
 use Rattle.h5_layout.specs.Data.{chunk_shape}
 use Rattle.h5_layout.specs.Described.{Described}
 use Rattle.h5_layout.specs.HeldChunks.{HeldCells}
@@ -24,11 +25,6 @@ pub record KeptChunks : Type 0 where
   pub fill : ℤ
   pub chunk : List ℕ
   pub kept : List ℕ
-
--- a chunk that is handed on: its key, and its address, where it is stored
-pub record KeyedPlace : Type 0 where
-  pub key : List ℕ
-  pub at : Option ℕ
 
 -- in each dimension the smaller of two sizes
 abbrev pub smaller_sizes : List ℕ → List ℕ → List ℕ
@@ -51,21 +47,18 @@ corner_value t fill chunk slices bytes place = if is_inside slices (index_of chu
 abbrev pub corner_values : Fixed → ℤ → List ℕ → List ℕ → List ℕ → List ℤ
 corner_values t fill chunk slices bytes = table (corner_value t fill chunk slices bytes) (cells chunk)
 
--- the cells of the chunk with this key at this address; where it has none each is the fill
-abbrev pub kept_values : KeptChunks → KeyedPlace → List ℤ
-kept_values k place = by_address place.at where
-  by_address : Option ℕ → List ℤ
-  by_address None = replicate (cells k.chunk) k.fill
-  by_address (Some at) =
-      corner_values k.fixed k.fill k.chunk (slices_kept k.kept k.chunk (offsets_in (length k.chunk) place.key))
-      (part at (cells k.chunk * (k.fixed).size) k.image)
+-- the cells of the chunk with this key at this address
+abbrev pub kept_values : KeptChunks → ChunkPlace → List ℤ
+kept_values k place =
+    corner_values k.fixed k.fill k.chunk (slices_kept k.kept k.chunk (offsets_in (length k.chunk) place.key.now))
+    (part place.at (cells k.chunk * (k.fixed).size) k.image)
 
 -- the chunks at these places
-abbrev pub kept_cells : KeptChunks → List KeyedPlace → HeldCells
+abbrev pub kept_cells : KeptChunks → List ChunkPlace → HeldCells
 kept_cells k places = record {
   fixed = k.fixed;
   chunk = k.chunk;
-  parts = map (λ (place : KeyedPlace). (offsets_in (length k.chunk) place.key, kept_values k place)) places;
+  parts = map (λ (place : ChunkPlace). (offsets_in (length k.chunk) place.key.now, kept_values k place)) places;
 }
 
 -- those of the array, of which the cells are kept that are inside an extent of these sizes as well
@@ -77,18 +70,12 @@ abbrev pub chunks_below_root : List ℕ → Shape → Option ℕ → Chunks
 chunks_below_root image shape None = empty
 chunks_below_root image shape (Some root) = chunks_told image shape root
 
--- The chunk is a whole one of this shape, and lies in the image where it is stored.
-pub record IsKeptPlace (image : List ℕ) (shape : Shape) (place : KeyedPlace) : Type 0 where
-  pub long : length place.key ≡ 8 + 8 * (length shape.sizes + 1)
-  pub keyed : IsChunkKey shape.sizes shape.bytes place.key
-  pub inside : ForSome place.at (λ at. at + shape.bytes ≤ length image)
-
--- The chunks at these places are whole ones, none of which has more than 2^30 bytes.
-pub record AreKept (k : KeptChunks) (places : List KeyedPlace) : Type 0 where
+-- The chunks at these places are whole ones of the image, none of which has more than 2^30 bytes.
+pub record AreKept (k : KeptChunks) (places : List ChunkPlace) : Type 0 where
   pub sizes : AreChunkSizes k.chunk
   pub rank : length k.kept ≡ length k.chunk
   pub short : AllByRecursion (λ size. size < 2 ^ 32) k.chunk
   pub small : cells k.chunk * (k.fixed).size ≤ 2 ^ 30
   pub sound : IsFixed k.fixed
   pub of_type : fits k.fixed k.fill ≡ true
-  pub there : AllByRecursion (IsKeptPlace k.image (chunk_shape k.fixed k.chunk)) places
+  pub there : AllByRecursion (IsChunkPlace k.image (chunk_shape k.fixed k.chunk)) places

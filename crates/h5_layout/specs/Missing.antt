@@ -1,12 +1,11 @@
--- The parts of a selection, gone through box by box, and the keys of the chunks at those that are not stored (File Format Specification
+-- The parts of a selection, gone through box by box, and the corners of those at which no chunk is stored (File Format Specification
 -- 3.0, section III.A.1).
-use Rattle.std.specs.Prelude.{◌≡◌, ℕ, Bool, true, false, not, is_some, List, [], ◌∷◌, map}
+use Rattle.std.specs.Prelude.{◌≡◌, ℕ, Bool, true, false, not, is_some, List, [], ◌∷◌}
 use Rattle.std.specs.FinMap.{get}
-use Rattle.std.specs.List.{filter, flat_map}
+use Rattle.std.specs.List.{filter}
 use Rattle.h5_model.specs.Format.Chunks.{Chunks}
 use Rattle.h5_shape.specs.PartCells.{part_corner}
 use Rattle.h5_shape.specs.declared.parts.Span.{Span}
-use Rattle.h5_chunks.specs.Keys.{chunk_key}
 
 -- the corner of the first part is there, and the others are left; or there is no part
 abbrev pub HasNextCorner : List (List Span) → Bool → List (List Span) → List ℕ → Type 0
@@ -16,11 +15,3 @@ HasNextCorner parts false left corner = parts ≡ []
 -- of these corners those at which no chunk is stored
 abbrev pub corners_missing : Chunks → List (List ℕ) → List (List ℕ)
 corners_missing stored corners = filter (λ corner. not (is_some (get stored corner))) corners
-
--- the keys of chunks of so many bytes at these offsets, one behind another
-abbrev pub keys_of : ℕ → List (List ℕ) → List ℕ
-keys_of bytes all = flat_map (λ offsets. chunk_key (record { bytes = bytes; offsets = offsets })) all
-
--- those of the chunks at the corners of these parts that are not stored
-abbrev pub keys_missing : Chunks → ℕ → List (List Span) → List ℕ
-keys_missing stored bytes parts = keys_of bytes (corners_missing stored (map part_corner parts))

@@ -102,7 +102,7 @@ pub fn fill_stored(image: &mut Image, fixed: &Fixed, at: u64, value: i128, count
 }
 
 /// Writes the bytes of one value, so many times.
-fn fill_cells(fixed: &Fixed, value: i128, count: usize, bytes: &mut [u8])
+pub(crate) fn fill_cells(fixed: &Fixed, value: i128, count: usize, bytes: &mut [u8])
     requires room { length bytes.old ≡ count * fixed.now.size }
     requires of_type { fits fixed.now value ≡ true }
     ensures { bytes.new ≡ cells_bytes fixed.now (replicate count value) }

@@ -1,6 +1,6 @@
 //! The cells of a chunk of which the first slices are kept (File Format Specification 3.0, section III.A.1).
 
-ghost use Rattle.std.specs.Prelude.{◌≡◌, ◌↔◌, ◌+◌, ◌*◌, ◌^◌, ◌≤◌, ◌++◌, true, IsTrue, OnOk, length};
+ghost use Rattle.std.specs.Prelude.{◌≡◌, ◌↔◌, ℕ, ◌+◌, ◌*◌, ◌^◌, ◌<◌, ◌≤◌, ◌++◌, true, IsTrue, OnOk, length, slice_index};
 ghost use Rattle.std.specs.List.{AllByRecursion};
 ghost use Rattle.h5_model.specs.Format.Chunks.{offsets_in};
 ghost use Rattle.h5_model.specs.Format.Fixed.{IsFixed, fits};
@@ -10,6 +10,7 @@ ghost use Rattle.h5_chunks.specs.Shapes.{AreChunkSizes};
 ghost use Rattle.h5_layout.specs.Kept.{corner_values, slices_kept};
 ghost use Rattle.h5_layout.specs.Spans.{IsKeptSpan, span_sizes, span_slices};
 
+use crate::address::fill_cells;
 use crate::fill::FillTile;
 use h5_bytes::{push_bytes, u64_at};
 use h5_chunks::OFFSETS;
@@ -108,4 +109,33 @@ fn push_corner(
         push_corner(out, fill, inner, &bytes[i * slice..(i + 1) * slice])?;
     }
     fill.push(out, left)
+}
+
+/// Writes the fill into the cells of a chunk, which stand in these bytes, that are not kept. Takes no memory.
+///
+/// It writes a run of the fill at a time.
+pub(crate) fn fill_corner(bytes: &mut [u8], fixed: &Fixed, fill: i128, spans: &[Span])
+    requires bytes { (i : ℕ) → slice_index bytes.old i < 256 }
+    requires of_type { fits fixed.now fill ≡ true }
+    requires spans { AllByRecursion IsKeptSpan spans.now }
+    requires long { length bytes.old ≡ cells (span_sizes spans.now) * fixed.now.size }
+    requires small { length bytes.old ≤ 2 ^ 30 }
+    ensures { bytes.new ≡ cells_bytes fixed.now
+        (corner_values fixed.now fill (span_sizes spans.now) (span_slices spans.now) bytes.old) }
+{
+    let cell = fixed.size();
+    let [first, inner @ ..] = spans else {
+        return;
+    };
+    let slice = bytes.len() / first.size as usize;
+    let kept = first.kept as usize * slice;
+    let left = (bytes.len() - kept) / cell;
+    if are_whole(inner) {
+        fill_cells(fixed, fill, left, &mut bytes[kept..]);
+        return;
+    }
+    for i in 0..first.kept as usize {
+        fill_corner(&mut bytes[i * slice..(i + 1) * slice], fixed, fill, inner);
+    }
+    fill_cells(fixed, fill, left, &mut bytes[kept..]);
 }

@@ -10,7 +10,6 @@ ghost use Rattle.h5_model.specs.Format.Fixed.{IsFixed};
 ghost use Rattle.h5_model.specs.Format.Layout.{InChunks};
 ghost use Rattle.h5_model.specs.Format.Plain.{cells_bytes};
 ghost use Rattle.h5_model.specs.Tree.Places.{cells as cells_of, is_inside};
-ghost use Rattle.h5_model.specs.Views.Selection.{Slab};
 ghost use Rattle.h5_chunks.specs.Held.{IsChunkPlace, place_entry};
 ghost use Rattle.h5_chunks.specs.Keys.{chunk_key, index_from};
 ghost use Rattle.h5_chunks.specs.Read.{AreChunksRead};
@@ -18,15 +17,10 @@ ghost use Rattle.h5_chunks.specs.Shapes.{AreChunkSizes};
 ghost use Rattle.h5_layout.specs.Data.{AreDataRead};
 ghost use Rattle.h5_layout.specs.HeldChunks.{held_cells};
 ghost use Rattle.h5_layout.specs.Kept.{chunks_below_root, smaller_sizes};
-ghost use Rattle.h5_layout.specs.Merged.{AreKeptWith, AreNewKeys};
-ghost use Rattle.h5_layout.specs.NewChunks.{AreHeldWith, AreMissing};
 
 use crate::array::ArrayRef;
 use crate::corner::{Span, push_kept, write_spans};
-use crate::fill::FillTile;
 use crate::grid::{bytes_of, copy_sizes};
-use crate::new_chunks::NewChunks;
-use crate::places::{HeldPlace, merge};
 use h5_chunks::{ChunkKey, ChunkPlace, ChunkShape, held_places, push_last_key};
 use h5_model::Fixed;
 use h5_msg::Layout;
@@ -46,15 +40,14 @@ pub struct HeldChunks<'a> {
     chunk: [u64; 32],
     kept: [u64; 32],
     chunk_length: u64,
-    places: Vec<HeldPlace<'a>>,
+    places: Vec<ChunkPlace<'a>>,
 }
 
 impl<'a> Model for HeldChunks<'a> {
-    ghost use Rattle.std.specs.Prelude.{◌≡◌, ◌≤◌, ◌*◌, map, take};
+    ghost use Rattle.std.specs.Prelude.{◌≡◌, ◌≤◌, ◌*◌, take};
     ghost use Rattle.h5_model.specs.Tree.Places.{cells};
     ghost use Rattle.h5_layout.specs.HeldChunks.{HeldCells};
     ghost use Rattle.h5_layout.specs.Kept.{AreKept, kept_cells};
-    ghost use Rattle.h5_layout.specs.Merged.{place_kept};
 
     ghost Value = { HeldCells };
 
@@ -64,7 +57,7 @@ impl<'a> Model for HeldChunks<'a> {
       fill = h.fill;
       chunk = take h.rank h.chunk;
       kept = take h.rank h.kept;
-    }) (map place_kept h.places.items) };
+    }) h.places.items };
 
     ghost invariant = { λ h. (h.rank ≤ 32) × (h.chunk_length ≡ cells (take h.rank h.chunk) * h.fixed.size)
         × AreKept (record {
@@ -73,16 +66,16 @@ impl<'a> Model for HeldChunks<'a> {
           fill = h.fill;
           chunk = take h.rank h.chunk;
           kept = take h.rank h.kept;
-        }) (map place_kept h.places.items) };
+        }) h.places.items };
 }
 
 impl<'a> HeldChunks<'a> {
     /// The stored chunks that hold a cell of the array once it has these sizes. `array` is in chunks. A cell of such
     /// a chunk reads the fill if it is outside the old or the new sizes.
     ///
-    /// Takes memory for the place of each chunk that it gives, twice while it runs, and for the addresses of the
-    /// nodes of two rows of the tree. That the data were read, and that the array is in chunks and has as many
-    /// dimensions as `sizes`, are the caller's conditions.
+    /// Takes memory for the place of each chunk that it gives, and for the addresses of the nodes of two rows of the
+    /// tree. That the data were read, and that the array is in chunks and has as many dimensions as `sizes`, are the
+    /// caller's conditions.
     ///
     /// # Errors
     ///
@@ -100,35 +93,32 @@ impl<'a> HeldChunks<'a> {
             → array.now.layout ≡ InChunks chunk root
             → h ≡ held_cells image.now.bytes array.now chunk sizes.now) }
     {
-        keep_chunks(alloc, image, array, sizes, &[])
-    }
-
-    /// The stored chunks that hold a cell of the array, and new ones, in the order of their offsets. Each cell of a
-    /// new chunk reads the fill. The keys of the new chunks are lent from `new`.
-    ///
-    /// Takes memory as [`HeldChunks::new`] does, and for the place of each new chunk. That the data were read, that
-    /// the array is in chunks, and that the new chunks are those that a selection misses, are the caller's
-    /// conditions.
-    ///
-    /// # Errors
-    ///
-    /// `AllocError` if memory is refused.
-    pub fn with_new(
-        alloc: Global,
-        image: &'a Image,
-        array: &ArrayRef<'a>,
-        new: &'a NewChunks,
-    ) -> Result<HeldChunks<'a>, AllocError>
-        requires data { AreDataRead image.now.bytes array.now.fixed array.now.layout }
-        requires chunked { (chunk : List ℕ) × (root : Option ℕ) × (array.now.layout ≡ InChunks chunk root) }
-        requires missing { (chunk : List ℕ) (root : Option ℕ) → array.now.layout ≡ InChunks chunk root
-            → (slab : Slab) × AreMissing image.now.bytes array.now chunk slab new.now }
-        ensures { IfOk result (λ h. (chunk : List ℕ) (root : Option ℕ) (slab : Slab)
-            → array.now.layout ≡ InChunks chunk root
-            → AreMissing image.now.bytes array.now chunk slab new.now
-            → AreHeldWith image.now.bytes array.now chunk slab h) }
-    {
-        keep_chunks(alloc, image, array, array.dims(), new.keys())
+        let Layout::Chunked {
+            sizes: chunk_sizes,
+            tree,
+        } = array.layout()
+        else {
+            unreachable!()
+        };
+        let fixed = array.fixed();
+        let rank = chunk_sizes.rank();
+        let mut chunk = [0; MAX_RANK];
+        copy_sizes(chunk_sizes, &mut chunk[..rank]);
+        let mut kept = [0; MAX_RANK];
+        copy_smaller(array.dims().sizes(), sizes.sizes(), &mut kept[..rank]);
+        let chunk_length = bytes_of(&chunk[..rank], fixed.size() as u64);
+        let shape = ChunkShape::new(&chunk[..rank], chunk_length);
+        let places = places_below(alloc, image, &shape, *tree, sizes.sizes())?;
+        Ok(HeldChunks {
+            image,
+            fixed,
+            fill: array.fill(),
+            rank,
+            chunk,
+            kept,
+            chunk_length,
+            places,
+        })
     }
 
     /// How many chunks there are.
@@ -213,72 +203,17 @@ impl<'a> HeldChunks<'a> {
             → OnOk result (out.new.items ≡ out.old.items ++ cells_bytes self.now.fixed part.1) }
     {
         let place = self.places[k];
-        match place.at {
-            Some(at) => {
-                let bytes = &self.image.bytes()[at as usize..(at + self.chunk_length) as usize];
-                let mut spans = [Span { size: 1, kept: 1 }; MAX_RANK];
-                let spans = &mut spans[..self.rank];
-                write_spans(
-                    &self.chunk[..self.rank],
-                    &self.kept[..self.rank],
-                    place.key,
-                    spans,
-                );
-                push_kept(out, self.fixed, self.fill, spans, bytes)
-            }
-            None => {
-                let cells = self.chunk_length as usize / self.fixed.size();
-                FillTile::new(self.fixed, self.fill).push(out, cells)
-            }
-        }
+        let bytes = &self.image.bytes()[place.at as usize..(place.at + self.chunk_length) as usize];
+        let mut spans = [Span { size: 1, kept: 1 }; MAX_RANK];
+        let spans = &mut spans[..self.rank];
+        write_spans(
+            &self.chunk[..self.rank],
+            &self.kept[..self.rank],
+            place.key,
+            spans,
+        );
+        push_kept(out, self.fixed, self.fill, spans, bytes)
     }
-}
-
-/// The stored chunks of an array in chunks that hold a cell of an extent of these sizes, as the array has them once it has these
-/// sizes, and new ones with these keys, one behind another.
-fn keep_chunks<'a>(
-    alloc: Global,
-    image: &'a Image,
-    array: &ArrayRef<'a>,
-    sizes: &Dims,
-    keys: &'a [u8],
-) -> Result<HeldChunks<'a>, AllocError>
-    requires data { AreDataRead image.now.bytes array.now.fixed array.now.layout }
-    requires rank { length sizes.now ≡ length array.now.sizes }
-    requires chunked { (chunk : List ℕ) × (root : Option ℕ) × (array.now.layout ≡ InChunks chunk root) }
-    requires keys { (chunk : List ℕ) (root : Option ℕ) → array.now.layout ≡ InChunks chunk root
-        → AreChunkSizes chunk → AreNewKeys array.now chunk keys.now }
-    ensures { IfOk result (λ h. (chunk : List ℕ) (root : Option ℕ)
-        → array.now.layout ≡ InChunks chunk root
-        → AreKeptWith image.now.bytes array.now chunk sizes.now keys.now h) }
-{
-    let Layout::Chunked {
-        sizes: chunk_sizes,
-        tree,
-    } = array.layout()
-    else {
-        unreachable!()
-    };
-    let fixed = array.fixed();
-    let rank = chunk_sizes.rank();
-    let mut chunk = [0; MAX_RANK];
-    copy_sizes(chunk_sizes, &mut chunk[..rank]);
-    let mut kept = [0; MAX_RANK];
-    copy_smaller(array.dims().sizes(), sizes.sizes(), &mut kept[..rank]);
-    let chunk_length = bytes_of(&chunk[..rank], fixed.size() as u64);
-    let shape = ChunkShape::new(&chunk[..rank], chunk_length);
-    let stored = places_below(alloc, image, &shape, *tree, sizes.sizes())?;
-    let places = merge(alloc, rank, &stored, keys)?;
-    Ok(HeldChunks {
-        image,
-        fixed,
-        fill: array.fill(),
-        rank,
-        chunk,
-        kept,
-        chunk_length,
-        places,
-    })
 }
 
 /// The chunks below this root that hold a cell of an extent of these sizes, where there is one.
@@ -303,7 +238,7 @@ fn places_below<'a>(
 }
 
 /// Copies the smaller of two sizes in each dimension.
-fn copy_smaller(old: &[u64], new: &[u64], to: &mut [u64])
+pub(crate) fn copy_smaller(old: &[u64], new: &[u64], to: &mut [u64])
     requires room { length to.old ≡ length old.now }
     requires rank { length new.now ≡ length old.now }
     ensures { to.new ≡ smaller_sizes old.now new.now }

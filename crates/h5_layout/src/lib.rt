@@ -1,36 +1,51 @@
 //! Arrays as the object headers of datasets describe them: type, sizes, maxima, fill value and layout, and their
 //! cells (File Format Specification 3.0, section IV.A.2).
 //!
-//! Only `missing_chunks` and the calls of `HeldChunks` take memory. Places and lengths of data are in bytes, sizes of
-//! arrays and chunks in cells.
+//! Storage that is missing is made where an array stands, and so are other sizes given. Only `missing_chunks`,
+//! `missing_of`, `outside_of`, `make_storage` and the calls of `HeldChunks` take memory. Places and lengths of data are
+//! in bytes, sizes of arrays and chunks in cells.
 #![tactic(auto)]
 
 mod address;
 mod array;
 mod bodies;
 mod cells;
+mod chunked;
 mod compact;
+mod copied;
 mod corner;
+mod extent;
 mod fill;
+mod filled;
 mod grid;
+mod header;
 mod held;
 mod judge;
+mod lacking;
 mod new_chunks;
 mod pieces;
-mod places;
 mod read;
+mod resize;
 mod resized;
+mod storage;
 mod stored;
+mod trimmed;
 mod values;
 
 pub use address::{StoredRun, fill_stored, stored_from, write_stored};
 pub use array::ArrayRef;
 pub use compact::compact_place;
+pub use extent::{lacks_maxima, set_sizes};
+pub use h5_chunks::{ChunkList, InsertFault};
 pub use h5_msg::{ChunkSizes, Layout};
 pub use h5_shape::{Dims, MAX_RANK, Slab, SlabFault};
 pub use held::HeldChunks;
-pub use new_chunks::{NewChunks, missing_chunks};
+pub use lacking::{Missing, missing_of};
+pub use new_chunks::missing_chunks;
 pub use pieces::{Piece, Runs};
 pub use read::{known_array, read_array};
+pub use resize::resize_array;
+pub use storage::{check_storage, is_refused_first, make_storage};
 pub use stored::StoredArray;
+pub use trimmed::{Outside, outside_of, trim};
 pub use values::Values;

@@ -1,11 +1,10 @@
 //! The chunks of an array that a selection meets and that are not stored (File Format Specification 3.0, sections III.A.1
 //! and IV.A.2.i).
 
-ghost use Rattle.std.specs.Prelude.{◌≡◌, ◌==◌, ◌<◌, ◌≤◌, ◌^◌, ℕ, List, Option, IfOk, is_some, length, map};
+ghost use Rattle.std.specs.Prelude.{◌≡◌, ◌<◌, ◌≤◌, ◌^◌, ℕ, List, Option, IfOk, is_some, length, map};
 ghost use Rattle.std.specs.List.{AllByRecursion};
 ghost use Rattle.std.specs.FinMap.{get};
 ghost use Rattle.std.specs.Option.{ForSome};
-ghost use Rattle.h5_model.specs.Format.Chunks.{offsets_in};
 ghost use Rattle.h5_model.specs.Format.Layout.{InChunks};
 ghost use Rattle.h5_model.specs.Views.Selection.{Within};
 ghost use Rattle.h5_shape.specs.PartCells.{part_corner};
@@ -13,70 +12,19 @@ ghost use Rattle.h5_shape.specs.declared.parts.Span.{Span as SpanOfPart};
 ghost use Rattle.h5_chunks.specs.Read.{AreChunksRead};
 ghost use Rattle.h5_layout.specs.Data.{AreDataRead};
 ghost use Rattle.h5_layout.specs.Kept.{chunks_below_root};
-ghost use Rattle.h5_layout.specs.Merged.{keys_in};
-ghost use Rattle.h5_layout.specs.Missing.{HasNextCorner, keys_missing};
+ghost use Rattle.h5_layout.specs.Missing.{HasNextCorner, corners_missing};
 ghost use Rattle.h5_layout.specs.NewChunks.{AreMissing};
 
 use crate::array::ArrayRef;
 use crate::grid::{bytes_of, copy_sizes};
-use crate::places::key_length;
-use h5_chunks::{ChunkShape, chunk_at, push_chunk_key};
+use h5_chunks::{ChunkList, ChunkShape, chunk_at};
 use h5_msg::Layout;
 use h5_shape::{ChunkParts, MAX_RANK, Slab, Span};
 use h5_space::Image;
 use std::alloc::{AllocError, Global};
-use std::marker::Model;
 
-/// The chunks of an array that hold a selected cell and are not stored. They are kept as keys of a tree of chunks,
-/// one behind another, in the order of their offsets.
-#[derive(Drop)]
-pub struct NewChunks {
-    rank: usize,
-    chunk_length: u64,
-    keys: Vec<u8>,
-}
-
-impl Model for NewChunks {
-    ghost use Rattle.std.specs.Prelude.{◌≤◌, map};
-    ghost use Rattle.std.specs.List.{AllByRecursion};
-    ghost use Rattle.h5_model.specs.Format.Chunks.{offsets_in};
-    ghost use Rattle.h5_layout.specs.Merged.{IsKeyOf, keys_in};
-    ghost use Rattle.h5_layout.specs.NewChunks.{NewOffsets};
-
-    ghost Value = { NewOffsets };
-
-    ghost view = { λ n. record {
-      rank = n.rank;
-      bytes = n.chunk_length;
-      offsets = map (offsets_in n.rank) (keys_in n.rank n.keys.items);
-    } };
-
-    ghost invariant = { λ n. (n.rank ≤ 32) × AllByRecursion (IsKeyOf n.rank n.chunk_length) (keys_in n.rank n.keys.items) };
-}
-
-impl NewChunks {
-    ghost use Rattle.std.specs.Prelude.{◌==◌, length};
-    ghost use Rattle.h5_layout.specs.Merged.{IsKeyOf};
-
-    /// Whether there are none.
-    pub fn is_empty(&self) -> bool
-        ensures { result ≡ (length self.now.offsets == 0) }
-    {
-        self.keys.len() < key_length(self.rank)
-    }
-
-    /// Their keys, one behind another.
-    pub(crate) fn keys(&self) -> &[u8]
-        ensures offsets { map (offsets_in self.now.rank) (keys_in self.now.rank result.now)
-            ≡ self.now.offsets }
-        ensures each { AllByRecursion (IsKeyOf self.now.rank self.now.bytes)
-            (keys_in self.now.rank result.now) }
-    {
-        &self.keys
-    }
-}
-
-/// The chunks of an array that hold a selected cell and are not stored. The array is in chunks.
+/// The chunks of an array that hold a selected cell and are not stored, in the order of their offsets. The array is in
+/// chunks.
 ///
 /// Takes memory for their keys. Each chunk is looked for by one way down the tree. That the data were read, that the
 /// array is in chunks, and that the selection is within its sizes, are the caller's conditions.
@@ -89,7 +37,7 @@ pub fn missing_chunks(
     image: &Image,
     array: &ArrayRef<'_>,
     slab: &Slab,
-) -> Result<NewChunks, AllocError>
+) -> Result<ChunkList, AllocError>
     requires data { AreDataRead image.now.bytes array.now.fixed array.now.layout }
     requires rank { length slab.now ≡ length array.now.sizes }
     requires within { Within array.now.sizes slab.now }
@@ -111,41 +59,39 @@ pub fn missing_chunks(
     let chunk_length = bytes_of(&chunk[..rank], array.fixed().size() as u64);
     let shape = ChunkShape::new(&chunk[..rank], chunk_length);
     let parts = slab.chunk_parts(&chunk[..rank]);
-    let keys = missing_keys(alloc, image, &shape, *tree, parts, rank, chunk_length)?;
-    Ok(NewChunks {
-        rank,
-        chunk_length,
-        keys,
-    })
+    missing_below(alloc, image, &shape, *tree, parts, rank)
 }
 
-/// The keys of those chunks at the corners of these parts, of so many dimensions and bytes, that are not stored below this root.
-fn missing_keys(
+/// Those chunks of so many dimensions at the corners of these parts that are not stored below this root.
+fn missing_below(
     alloc: Global,
     image: &Image,
     shape: &ChunkShape<'_>,
     root: Option<u64>,
     parts: ChunkParts<'_>,
     rank: usize,
-    chunk_length: u64,
-) -> Result<Vec<u8>, AllocError>
+) -> Result<ChunkList, AllocError>
     requires chunks { ForSome root (λ root. AreChunksRead image.now.bytes shape.now root) }
     requires rank { rank ≡ length shape.now.sizes }
     requires few { rank ≤ 32 }
     requires ranks { AllByRecursion (λ (part : List SpanOfPart). length part ≡ rank) parts }
-    requires small { chunk_length < 2 ^ 32 }
-    ensures { IfOk result (λ keys. keys.items
-        ≡ keys_missing (chunks_below_root image.now.bytes shape.now root) chunk_length parts.entry) }
+    requires small { shape.now.bytes < 2 ^ 32 }
+    ensures { IfOk result (λ missing. missing ≡ record {
+      rank = length shape.now.sizes;
+      bytes = shape.now.bytes;
+      offsets = corners_missing (chunks_below_root image.now.bytes shape.now root)
+          (map part_corner parts.entry);
+    }) }
 {
     let mut parts = parts;
     let mut corner = [0; MAX_RANK];
-    let mut keys = Vec::new(alloc);
+    let mut missing = ChunkList::new(alloc, shape);
     while next_corner(&mut parts, &mut corner[..rank]) {
         if !is_stored(image, shape, root, &corner[..rank]) {
-            push_chunk_key(&mut keys, chunk_length, &corner[..rank])?;
+            missing.push(&corner[..rank])?;
         }
     }
-    Ok(keys)
+    Ok(missing)
 }
 
 /// Whether a chunk is stored at these offsets below this root.

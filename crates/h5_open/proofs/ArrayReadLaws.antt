@@ -1,5 +1,5 @@
 -- An array that was read in a walk.
-use Rattle.std.proofs.Common.{◌≡◌, ◌⊎◌, inl, inr, ℕ, ◌+◌, ◌-◌, ◌<◌, ◌≤◌, List, [], ◌∷◌, ◌++◌, map, length, refl, sym, ap, subst, Some, None, arith}
+use Rattle.std.proofs.Common.{◌≡◌, ◌⊎◌, inl, inr, ℕ, ◌+◌, ◌-◌, ◌<◌, ◌≤◌, List, [], ◌∷◌, ◌++◌, map, length, refl, sym, ap, subst, Some, None, arith, true, false}
 use Rattle.std.specs.Prelude.{◌==◌, false}
 use Rattle.std.specs.List.{AllByRecursion, find}
 use Rattle.h5_bytes.specs.Blocks.{block, holds, cover, Separate}
@@ -32,7 +32,7 @@ use Rattle.h5_open.proofs.ContentLaws.{content_followed, message_free}
 use Rattle.h5_open.proofs.DataLaws.{data_inside}
 
 abbrev pub array_object : Listed → OpenedObject
-array_object m = record { messages = m; content = content.Array }
+array_object m = record { messages = m; content = content.Array; trimmed = false }
 
 -- the blocks of the data that the messages tell
 abbrev pub array_blocks : List ℕ → Listed → List Block
@@ -47,6 +47,7 @@ array_object_read image held now after m depth read list names inner stands clai
     header = record { has = read.has; inside = read.inside; within = read.within; names = names; attributes = list.attributes };
     known = read.known;
     content = (list, stands);
+    trimmed = λ known. absurd (let never : false ≡ true = known in cc);
   };
   header_is = refl;
   top = λ e. absurd (omega (arith, e, inner));

@@ -36,7 +36,7 @@ use Rattle.h5_open.specs.declared.opened.object.OpenedObject.{OpenedObject}
 use Rattle.h5_open.specs.declared.opened.object.OpenedContent.{OpenedContent}
 use Rattle.h5_open.specs.declared.opened.object.OpenedContent.TheVariants as content
 use Rattle.h5_open.specs.ChangedInPlace.{IsChangedInPlace}
-use Rattle.h5_open.specs.Opened.Kept.{IsContentKept, IsObjectKept, IsOpened}
+use Rattle.h5_open.specs.Opened.Kept.{IsContentKept, IsObjectKept, IsOpened, AreChunksTrimmed, IsContentTrimmed}
 use Rattle.h5_open.specs.Opened.Objects.{content_blocks, content_in, header_of, links_by, object_blocks, object_in, table_of, tree_of}
 use Rattle.h5_open.specs.Opened.State.{opened_state}
 use Rattle.h5_open.specs.SlotsInPlace.{AreLinksKept, IsOneRemade}
@@ -44,6 +44,7 @@ use Rattle.h5_open.proofs.DataLaws.{data_blocks-same, data_inside, data_read-sam
 use Rattle.h5_open.proofs.OneRemade.{one_changed, one_cover, one_opened, one_table, one_tree}
 use Rattle.h5_open.proofs.OpenedLaws.Sounds.{object_of}
 use Rattle.h5_open.proofs.StillTold.{attributes_now, group_still, kept_still, known_still, list_still, table_still, told_still}
+use Rattle.h5_open.proofs.TrimmedKept.{trimmed-same}
 
 -- The header of one object was edited, and then the end of file address was written: its messages say what they said, its attributes are
 -- changed, and its count of links is as it was. All other slots stay.
@@ -54,6 +55,7 @@ pub record IsHeaderEdited (old mid new : Space) (slots slots' : List (Option Ope
   pub as_many : length slots' ≡ length slots
   pub header : header_of p' ≡ header_of p
   pub content : p'.content ≡ p.content
+  pub trimmed : p'.trimmed ≡ p.trimmed
   pub standing : IsStanding mid.bytes p'.messages
   pub still : IsSaidStill (messages_in old.bytes p.messages.list) (messages_in mid.bytes p'.messages.list)
   pub attributes : (before : Attributes) → HasAttributes (messages_in old.bytes p.messages.list) before → HasAttributes (messages_in mid.bytes p'.messages.list) (change before)
@@ -175,6 +177,12 @@ module _ (old mid new : Space) (slots slots' : List (Option OpenedObject)) (numb
     subst (λ (a : Described). AreDataRead new.bytes a.fixed a.layout) (sym (told_still ms ms' still (held.0).array)) (data_read-same old.bytes new.bytes grown (type_told ms) (layout_told ms) held.1 keeps),
   )
 
+  trimmed_now : (c : OpenedContent) → IsContentKept old.bytes ms c → Keeps old.bytes new.bytes (content_blocks old.bytes ms c) → IsContentTrimmed old.bytes ms c
+      → IsContentTrimmed new.bytes ms' c
+  trimmed_now (content.Group table) held keeps was = tt
+  trimmed_now content.Array held keeps was = subst (AreChunksTrimmed new.bytes) (sym (told_still ms ms' still (held.0).array))
+      (λ chunked. trimmed-same old.bytes new.bytes grown (array_told ms) held.1 keeps (array_told ms).sizes (was chunked))
+
   blocks_now : (c : OpenedContent) → IsContentKept old.bytes ms c → Keeps old.bytes new.bytes (content_blocks old.bytes ms c) → content_blocks new.bytes ms' c ≡ content_blocks old.bytes ms c
   blocks_now (content.Group table) held keeps = blocks_told-same old.bytes new.bytes leaf internal table held.2.linked keeps
   blocks_now content.Array held keeps =
@@ -206,6 +214,7 @@ module _ (old mid new : Space) (slots slots' : List (Option OpenedObject)) (numb
     };
     known = known_still old.bytes new.bytes p.messages.list p'.messages.list still kept.known;
     content = subst (IsContentKept new.bytes ms') (sym is.content) (content_now p.content kept.content stays.1);
+    trimmed = λ known. subst (IsContentTrimmed new.bytes ms') (sym is.content) (trimmed_now p.content kept.content stays.1 (kept.trimmed (sym is.trimmed ∙ known)));
   }
 
   blocks_are : object_blocks new.bytes p' ≡ p'.messages.blocks ++ rest

@@ -1,5 +1,5 @@
 -- An opened image in which cells of a compact array were written in its header: what is kept of its objects is kept still.
-use Rattle.std.proofs.Common.{◌≡◌, ℕ, ◌+◌, ◌*◌, ◌≤◌, true, ◌==◌, List, [], ◌∷◌, ◌++◌, map, length, refl, sym, ap, ◌∙◌, subst, arith, Option, Some, ℤ}
+use Rattle.std.proofs.Common.{◌≡◌, ℕ, ◌+◌, ◌*◌, ◌≤◌, true, ◌==◌, List, [], ◌∷◌, ◌++◌, map, length, refl, sym, ap, ◌∙◌, subst, arith, Option, Some, ℤ, false}
 use Rattle.std.specs.Prelude.{slice_get, ◌||◌}
 use Rattle.std.specs.BTreeMap.{BTreeMap}
 use Rattle.std.specs.Cmp.Lexicographic.{slice_cmp}
@@ -39,7 +39,7 @@ use Rattle.h5_layout.proofs.ToldLaws.{told}
 use Rattle.h5_open.specs.declared.opened.object.OpenedObject.{OpenedObject}
 use Rattle.h5_open.specs.declared.opened.object.OpenedContent.{OpenedContent}
 use Rattle.h5_open.specs.declared.opened.object.OpenedContent.TheVariants as content
-use Rattle.h5_open.specs.Opened.Kept.{IsOpened, IsObjectKept, IsContentKept}
+use Rattle.h5_open.specs.Opened.Kept.{IsOpened, IsObjectKept, IsContentKept, AreChunksTrimmed, IsContentTrimmed}
 use Rattle.h5_open.specs.Opened.Objects.{content_blocks, object_blocks, object_in, table_of, tree_of}
 use Rattle.h5_open.specs.Opened.Sound.{IsObjectOf, IsWholeFile}
 use Rattle.h5_open.specs.Opened.State.{opened_state}
@@ -213,6 +213,8 @@ module _ (old : Space) (slots : List (Option OpenedObject)) (numbers : BTreeMap 
         };
         known = it.kept.known;
         content = subst (IsContentKept new.bytes list') (sym is_array) content_now;
+        trimmed = λ known. subst (IsContentTrimmed new.bytes list') (sym is_array)
+            (subst (AreChunksTrimmed new.bytes) (sym told_is) (λ chunked. absurd (let never : false ≡ true = chunked in cc)));
       }
 
       blocks_now : object_blocks new.bytes p ≡ object_blocks old.bytes p

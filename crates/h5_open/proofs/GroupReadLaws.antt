@@ -1,5 +1,5 @@
 -- A group that was read in a walk.
-use Rattle.std.proofs.Common.{◌≡◌, ◌⊎◌, inl, inr, ℕ, ◌+◌, ◌-◌, ◌*◌, ◌<◌, ◌≤◌, List, [], ◌∷◌, map, length, refl, sym, subst, Some, arith}
+use Rattle.std.proofs.Common.{◌≡◌, ◌⊎◌, inl, inr, ℕ, ◌+◌, ◌-◌, ◌*◌, ◌<◌, ◌≤◌, List, [], ◌∷◌, map, length, refl, sym, subst, Some, arith, false}
 use Rattle.std.specs.Prelude.{◌==◌}
 use Rattle.std.specs.List.{find}
 use Rattle.h5_bytes.specs.Blocks.{cover, Separate, Inside}
@@ -36,7 +36,7 @@ use Rattle.h5_open.proofs.ArrayLaws.{list_breach}
 use Rattle.h5_open.proofs.PlaceLaws.{links_wait}
 
 abbrev pub group_object : Listed → SymbolTable → OpenedObject
-group_object m table = record { messages = m; content = content.Group table }
+group_object m table = record { messages = m; content = content.Group table; trimmed = false }
 
 pub group_object_read : (image : List ℕ) (held now after : List Block) (m : Listed) (table : SymbolTable) (depth : ℕ) → IsHeaderRead image m → IsGroupList (messages_in image m.list) table
     → HasNamesOnce (messages_in image m.list) → IsGroupRead image table → (1 ≤ length (links_told image table) → depth + 1 ≤ 64)
@@ -47,6 +47,7 @@ group_object_read image held now after m table depth read list names is shallow 
     header = record { has = read.has; inside = read.inside; within = read.within; names = names; attributes = list.attributes };
     known = read.known;
     content = (list.kinds, list.chosen, is);
+    trimmed = λ known. tt;
   };
   header_is = refl;
   top = λ e. tt;

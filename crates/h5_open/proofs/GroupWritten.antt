@@ -29,7 +29,7 @@ use Rattle.h5_group.proofs.ToldLaws.{blocks_told-same, links_told-same, told-sam
 use Rattle.h5_open.specs.declared.opened.object.OpenedObject.{OpenedObject}
 use Rattle.h5_open.specs.declared.opened.object.OpenedContent.{OpenedContent}
 use Rattle.h5_open.specs.declared.opened.object.OpenedContent.TheVariants as content
-use Rattle.h5_open.specs.Opened.Kept.{IsContentKept, IsObjectKept, IsOpened}
+use Rattle.h5_open.specs.Opened.Kept.{IsContentKept, IsObjectKept, IsOpened, IsContentTrimmed}
 use Rattle.h5_open.specs.Opened.Objects.{content_blocks, content_in, content_links, header_of, links_by, object_blocks, object_in, objects_of}
 use Rattle.h5_open.specs.Opened.Headers.{object_with}
 use Rattle.h5_open.specs.Opened.Sound.{IsHeaderIn}
@@ -182,6 +182,7 @@ module _ (old mid new : Space) (slots : List (Option OpenedObject)) (numbers : B
     };
     known = kept.known;
     content = kept_content;
+    trimmed = λ known. subst (IsContentTrimmed new.bytes ms') (sym is.kind) tt;
   }
 
   blocks_now : object_blocks new.bytes p ≡ own ++ blocks_told mid.bytes t

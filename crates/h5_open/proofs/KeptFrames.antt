@@ -9,14 +9,15 @@ use Rattle.h5_header.specs.Listed.{messages_in, IsWithin}
 use Rattle.h5_header.proofs.KeptLaws.{listed-same, header-same}
 use Rattle.h5_header.specs.declared.message.Message.{Message as Placed}
 use Rattle.h5_group.specs.Told.{blocks_told}
-use Rattle.h5_layout.specs.Told.{layout_told, type_told}
+use Rattle.h5_layout.specs.Told.{array_told, layout_told, type_told}
 use Rattle.h5_group.proofs.ToldLaws.{told-same, blocks_told-same}
 use Rattle.h5_open.specs.declared.opened.object.OpenedObject.{OpenedObject}
 use Rattle.h5_open.specs.declared.opened.object.OpenedContent.{OpenedContent}
 use Rattle.h5_open.specs.declared.opened.object.OpenedContent.TheVariants as content
-use Rattle.h5_open.specs.Opened.Kept.{IsObjectKept, IsContentKept}
+use Rattle.h5_open.specs.Opened.Kept.{IsObjectKept, IsContentKept, IsContentTrimmed}
 use Rattle.h5_open.specs.Opened.Objects.{content_blocks, object_blocks}
 use Rattle.h5_open.proofs.DataLaws.{data_blocks-same, data_read-same}
+use Rattle.h5_open.proofs.TrimmedKept.{trimmed-same}
 
 module _ (old new : List ℕ) (leaf : leaf_k new ≡ leaf_k old) (internal : internal_k new ≡ internal_k old) (grown : length old ≤ length new) where
   inside_still : (blocks : List Block) → Inside (length old) blocks → Inside (length new) blocks
@@ -61,6 +62,10 @@ module _ (old new : List ℕ) (leaf : leaf_k new ≡ leaf_k old) (internal : int
         )
     content_of content.Array held keeps = (held.0, data_read-same old new grown (type_told ms) (layout_told ms) held.1 keeps)
 
+    trimmed_of : (c : OpenedContent) → IsContentKept old ms c → Keeps old new (content_blocks old ms c) → IsContentTrimmed old ms c → IsContentTrimmed new ms c
+    trimmed_of (content.Group table) held keeps was = tt
+    trimmed_of content.Array held keeps was = λ chunked. trimmed-same old new grown (array_told ms) held.1 keeps (array_told ms).sizes (was chunked)
+
     pub kept-same : IsObjectKept new o
     kept-same = record {
       header = record {
@@ -72,4 +77,5 @@ module _ (old new : List ℕ) (leaf : leaf_k new ≡ leaf_k old) (internal : int
       };
       known = is.known;
       content = rw kept_messages (content_of o.content is.content content_kept);
+      trimmed = λ known. rw kept_messages (trimmed_of o.content is.content content_kept (is.trimmed known));
     }

@@ -3,6 +3,8 @@ pub mod FoundLaws
 pub mod RefusedLaws
 pub mod HeaderFields
 pub mod DataLaws
+pub mod TrimmedKept
+pub mod TrimmedWritten
 pub mod ChunkRoot
 pub mod ArrayLaws
 pub mod TableLaws
@@ -68,6 +70,7 @@ pub mod ObjectGone
 pub mod UnlinkCalls
 pub mod StillTold
 pub mod AttributeOpened
+pub mod OthersKept
 pub mod AttributeEdits
 pub mod HeaderInPlace
 pub mod NamedAttribute
@@ -76,9 +79,12 @@ pub mod UntouchedKept
 pub mod PlacedLaws
 pub mod CountedLaws
 pub mod RenumberedLaws
-pub mod StoredCells
 pub mod ArrayOpened
 pub mod StandingOpened
+pub mod ArrayEdited
+pub mod StorageOpened
+pub mod StorageCalls
+pub mod ResizedCalls
 pub mod RunsWritten
 pub mod CompactOpened
 pub mod CompactFirst

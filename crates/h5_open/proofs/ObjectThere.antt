@@ -1,6 +1,6 @@
 -- An object that was put where it was to stand is there: what is kept of it stands in the image, is the object that was to be made, and
 -- takes the block that was taken.
-use Rattle.std.proofs.Common.{◌≡◌, ℕ, ◌+◌, ◌-◌, ◌≤◌, List, [], ◌∷◌, length, refl, sym, ap, ◌∙◌, subst, arith, Option, Some, IsTrue}
+use Rattle.std.proofs.Common.{◌≡◌, ℕ, ◌+◌, ◌-◌, ◌≤◌, List, [], ◌∷◌, length, refl, sym, ap, ◌∙◌, subst, arith, Option, Some, IsTrue, true}
 use Rattle.std.specs.Ordering.{nat_cmp}
 use Rattle.std.specs.BTreeMap.{BTreeMap}
 use Rattle.std.specs.FinMap.{FinMap, empty, get, get-empty, get-from_entries, same_map}
@@ -8,7 +8,7 @@ use Rattle.std.specs.Cmp.Lexicographic.{nat_list_cmp_total}
 use Rattle.std.specs.List.{AllByRecursion, Contains}
 use Rattle.std.proofs.lemmas.List.{length-append}
 use Rattle.h5_bytes.specs.Bytes.{part}
-use Rattle.h5_bytes.specs.Blocks.{block, cover, holds, Inside}
+use Rattle.h5_bytes.specs.Blocks.{block, cover, holds, Inside, Run}
 use Rattle.h5_bytes.specs.declared.Block.{Block}
 use Rattle.h5_bytes.proofs.BlockLaws.{all_so, cover-append, cover-run, held, holds_in, holds_join}
 use Rattle.h5_model.specs.Format.Addresses.{SymbolTable}
@@ -22,6 +22,7 @@ use Rattle.h5_header.specs.Laid.{IsHeaderBytes}
 use Rattle.h5_header.specs.Listed.{messages_in}
 use Rattle.h5_attr.specs.Attributes.{HasNamesOnce, attributes_of}
 use Rattle.h5_laws.proofs.Lists.{in_contains}
+use Rattle.h5_layout.specs.Told.{array_told, layout_told, type_told}
 use Rattle.h5_laws.proofs.SoundLaws.Counts.{no_links}
 use Rattle.h5_laws.proofs.SoundLaws.Inserted.{names_differ}
 use Rattle.h5_laws.proofs.SoundLaws.Linked.{IsBare}
@@ -31,7 +32,7 @@ use Rattle.h5_open.specs.declared.opened.object.OpenedContent.{OpenedContent}
 use Rattle.h5_open.specs.declared.opened.object.OpenedContent.TheVariants as content
 use Rattle.h5_open.specs.ObjectAdded.{IsContentMade, IsToBeMade, stored_content, content_of, object_bytes, object_place}
 use Rattle.h5_open.specs.Opened.Headers.{object_with}
-use Rattle.h5_open.specs.Opened.Kept.{IsContentKept, IsObjectKept, IsOpened}
+use Rattle.h5_open.specs.Opened.Kept.{IsContentKept, IsContentTrimmed, IsObjectKept, IsOpened}
 use Rattle.h5_open.specs.Opened.Objects.{content_blocks, content_in, content_links, header_of, links_by, object_blocks, object_in, table_of}
 use Rattle.h5_open.specs.Opened.Sound.{IsHeaderIn}
 use Rattle.h5_open.specs.Opened.State.{opened_state}
@@ -39,6 +40,7 @@ use Rattle.h5_open.proofs.GroupWritten.{written_internal, written_leaf}
 use Rattle.h5_open.proofs.ObjectBlock.{block_inside, bytes_there, header_there, place_is_new, put_block, put_written}
 use Rattle.h5_open.proofs.ObjectPut.{IsObjectPut}
 use Rattle.h5_open.proofs.StillTold.{types_said}
+use Rattle.h5_open.proofs.TrimmedKept.{trimmed_new}
 
 -- ---- an object without links
 
@@ -112,6 +114,20 @@ module _ (old taken linked new : Space) (slots : List (Option OpenedObject)) (nu
 
   -- ---- what is kept of it
 
+  content_trimmed : (c : OpenedContent) → IsContentKept new.bytes ms c → Run (at + head) (content_blocks new.bytes ms c) (at + head) → IsContentTrimmed new.bytes ms c
+  content_trimmed (content.Group table) kept run = tt
+  content_trimmed content.Array kept run =
+      trimmed_new new.bytes (type_told ms) (array_told ms).sizes (array_told ms).maxima (array_told ms).fill (at + head) (layout_told ms) kept.1 run
+
+  its_trimmed : o.trimmed ≡ true → IsContentTrimmed new.bytes (messages_in new.bytes o.messages.list) o.content
+  its_trimmed known =
+      let none = ap length (is.kept.trimmed known) in
+      let short : at + long ≡ at + head = omega (arith, long_is, none) in
+      subst (IsContentTrimmed new.bytes (messages_in new.bytes o.messages.list)) (sym is.kept.content)
+      (subst (λ (l : List Message). IsContentTrimmed new.bytes l (content_of b.content)) (sym messages_are)
+      (content_trimmed (content_of b.content) content_made.kept
+      (subst (Run (at + head) (content_blocks new.bytes ms (content_of b.content))) short content_made.blocks)))
+
   pub its_kept : IsObjectKept new.bytes o
   its_kept = record {
     header = record {
@@ -126,6 +142,7 @@ module _ (old taken linked new : Space) (slots : List (Option OpenedObject)) (nu
     known = types_said is_read new.bytes o.messages.list (subst (AllByRecursion (λ (m : Message). IsTrue (is_read m.kind))) (sym messages_are) to_be.known);
     content = subst (IsContentKept new.bytes (messages_in new.bytes o.messages.list)) (sym is.kept.content)
         (subst (λ (l : List Message). IsContentKept new.bytes l (content_of b.content)) (sym messages_are) content_made.kept);
+    trimmed = its_trimmed;
   }
 
   -- it is the object that was to be made, by any table

@@ -37,6 +37,7 @@ use Rattle.h5_open.specs.Opened.Kept.{IsOpened}
 use Rattle.h5_open.specs.Opened.Objects.{content_in, table_of}
 use Rattle.h5_open.specs.Opened.State.{FileState, opened_state}
 use Rattle.h5_open.specs.Written.{with_run, AreCellsWritten, IsArrayThere, IsKeptOutside, IsStoredRun}
+use Rattle.h5_open.proofs.TrimmedWritten.{written_trimmed}
 use Rattle.h5_open.proofs.ArrayOpened.{array_changed, array_content, data_once, header_kept, its_blocks, kept_array, ms, of, same_messages, slot_there, still_opened}
 
 module _ (image : Space) (slots : List (Option OpenedObject)) (numbers : BTreeMap ℕ ℕ) (opened : IsOpened image slots numbers) (number : ℕ) (p : OpenedObject)
@@ -178,11 +179,12 @@ module _ (old : Space) (slots : List (Option OpenedObject)) (numbers : BTreeMap 
           let chunks = stored_chunks_stay old.bytes it messages has fixed read once place at first first_some first_stand first_room first_of_type new.bytes bytes_are in
           let changed = stored_told old.bytes it messages has fixed read once place at first first_some first_stand first_room first_of_type new.bytes bytes_are in
           let fit = stored_fit old.bytes it messages has fixed read once place at first first_some first_stand first_room in
+          let trimmed = written_trimmed old.bytes it messages has fixed read once place at first first_stand first_room fit new.bytes bytes_are chunks in
           let covered = stored_covered old.bytes it messages has fixed read once place at first first_some first_stand first_room in
           let moves : Moves old new (its_blocks old slots numbers opened number p stands kind) (its_blocks old slots numbers opened number p stands kind)
           = moves_within old new at (cells_bytes it.fixed first) (its_blocks old slots numbers opened number p stands kind) fit bytes_are free_is covered in
-          let still = still_opened old slots numbers opened number p stands kind new moves long now blocks (with_run place first) changed in
-          let all = array_changed old slots numbers opened number p stands kind new moves long now blocks (with_run place first) changed in
+          let still = still_opened old slots numbers opened number p stands kind new moves long now blocks trimmed (with_run place first) changed in
+          let all = array_changed old slots numbers opened number p stands kind new moves long now blocks trimmed (with_run place first) changed in
           let same = same_messages old slots numbers opened number p stands kind new moves long in
           let told_again : told new slots numbers still number p stands ≡ it = ap array_told same in
           let header : Keeps old.bytes new.bytes p.messages.blocks = header_kept old slots numbers opened number p stands kind new moves long in

@@ -29,13 +29,14 @@ use Rattle.h5_open.specs.declared.opened.object.OpenedContent.{OpenedContent}
 use Rattle.h5_open.specs.declared.opened.object.OpenedContent.TheVariants as content
 use Rattle.h5_open.specs.ChangedInPlace.{is_among}
 use Rattle.h5_open.specs.Opened.Headers.{object_with}
-use Rattle.h5_open.specs.Opened.Kept.{IsContentKept, IsObjectKept, IsOpened}
+use Rattle.h5_open.specs.Opened.Kept.{IsContentKept, IsObjectKept, IsOpened, IsContentTrimmed}
 use Rattle.h5_open.specs.Opened.Objects.{content_blocks, content_in, header_of, object_blocks, object_in, objects_of}
 use Rattle.h5_open.specs.SlotsInPlace.{blocks_at, chosen_slots}
 use Rattle.h5_open.proofs.DataLaws.{data_blocks-same, data_inside, data_read-same, dataset_told-same}
 use Rattle.h5_open.proofs.GroupRelinked.{IsGroupRelinked, both_moves, linked_grown}
 use Rattle.h5_open.proofs.OpenedLaws.Sounds.{object_of}
 use Rattle.h5_open.proofs.TouchedBlocks.{blocks_of_slot, group_blocks, touched_cover}
+use Rattle.h5_open.proofs.TrimmedKept.{trimmed-same}
 
 -- ---- two objects
 
@@ -252,6 +253,12 @@ module _ (old mid set new : Space) (slots : List (Option OpenedObject)) (numbers
   content_now = subst (IsContentKept new.bytes ms') (sym its.array) (subst (λ (l : List Message). IsContentKept new.bytes l content.Array) (sym list_stays)
       (kept_array.0, data_read-same old.bytes new.bytes grown (type_told ms) (layout_told ms) kept_array.1 data_new))
 
+  trimmed_now : IsContentTrimmed old.bytes ms o.content → IsContentTrimmed new.bytes ms' o.content
+  trimmed_now was =
+      let before : IsContentTrimmed old.bytes ms content.Array = subst (IsContentTrimmed old.bytes ms) its.array was in
+      subst (IsContentTrimmed new.bytes ms') (sym its.array) (subst (λ (l : List Message). IsContentTrimmed new.bytes l content.Array) (sym list_stays)
+      (λ chunked. trimmed-same old.bytes new.bytes grown (array_told ms) kept_array.1 data_new (array_told ms).sizes (before chunked)))
+
   set_grown : length set.bytes ≤ length new.bytes
   set_grown = its.ended.grown
 
@@ -266,6 +273,7 @@ module _ (old mid set new : Space) (slots : List (Option OpenedObject)) (numbers
     };
     known = kept.known;
     content = content_now;
+    trimmed = λ known. trimmed_now (kept.trimmed known);
   }
 
   pub target_blocks : object_blocks new.bytes o ≡ object_blocks old.bytes o

@@ -12,6 +12,7 @@ pub mod LinkAdded
 pub mod LinkTaken
 pub mod ObjectAdded
 pub mod Written
+pub mod Resized
 pub mod Attributed
 pub use Rattle.h5_layout.specs.Data
 pub use Rattle.h5_layout.specs.Pieces

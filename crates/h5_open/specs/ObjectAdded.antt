@@ -104,6 +104,7 @@ pub record IsKeptFor (at : ℕ) (b : ObjectBytes) (o : OpenedObject) : Type 0 wh
   pub messages : (ms : List Message) → IsHeaderBytes b.header.now at ms → (image : List ℕ) → part at (length b.header.now) image ≡ b.header.now
       → messages_in image o.messages.list ≡ ms
   pub content : o.content ≡ content_of b.content
+  pub trimmed : o.trimmed ≡ true → stored_content b.content ≡ []
 
 -- A block was taken for its bytes, which were written there; a link to it was put into the group at this tree and heap; and the end of file
 -- address was written.

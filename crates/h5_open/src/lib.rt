@@ -1,5 +1,5 @@
-//! Opening: from the bytes of an image to the objects that stand in it (File Format Specification 3.0, sections II.A, III
-//! and IV.A).
+//! Opening: from the bytes of an image to the objects that stand in it, and changes of these objects where they stand
+//! (File Format Specification 3.0, sections II.A, III and IV.A).
 #![tactic(auto)]
 
 mod counts;

@@ -90,6 +90,7 @@ fn read_group_object(
     Ok(OpenedObject {
         messages,
         content: OpenedContent::Group(table),
+        trimmed: false,
     })
 }
 
@@ -119,6 +120,7 @@ fn read_array_object(
     Ok(OpenedObject {
         messages,
         content: OpenedContent::Array,
+        trimmed: false,
     })
 }
 

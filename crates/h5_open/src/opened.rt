@@ -5,6 +5,8 @@ mod attributes;
 mod end;
 mod links;
 mod object;
+mod resized;
+mod storage;
 mod unlinked;
 mod write;
 

@@ -13,6 +13,7 @@ pub use Rattle.h5_open.specs.Links
 pub use Rattle.h5_open.specs.declared.opened.object.OpenedObject as OpenedObjectType
 pub use Rattle.h5_open.specs.Renumbered
 pub use Rattle.h5_open.specs.Written
+pub use Rattle.h5_open.specs.Resized
 pub use Rattle.h5_open.specs.ChangedInPlace
 pub use Rattle.h5_open.specs.declared.opened.object.OpenedContent as OpenedContentType
 pub use Rattle.h5_open.specs.declared.opened.write.StandingCells as StandingCellsType

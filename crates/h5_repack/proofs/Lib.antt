@@ -12,5 +12,4 @@ pub mod ObjectLaws
 pub mod ImageLaws
 pub mod BareGroup
 pub mod EmptyFile
-pub mod WrittenStored
 pub use Rattle.h5_group.proofs.WriteLaws.BareGroup as BareGroupRead

@@ -4,10 +4,8 @@ use Rattle.std.specs.FinMap.{get}
 use Rattle.std.specs.Option.{option_flatten}
 use Rattle.h5_model.specs.Format.PlainLength.{plain_length}
 use Rattle.h5_model.specs.Format.PlainSuperblock.{plain_chunk_k}
-use Rattle.h5_model.specs.Format.Superblock.{AreK}
-use Rattle.h5_model.specs.Tree.Objects.{Tree, Object, Dataset, Chunked, Links, dataset_of, links_of}
+use Rattle.h5_model.specs.Tree.Objects.{Tree, Object, Links, links_of}
 use Rattle.h5_laws.specs.Trees.Sound.{IsSoundTree}
-use Rattle.h5_layout.specs.StoredAt.{HasStored}
 use Rattle.h5_repack.specs.Image.Plain.{ArePlain, AreLow, AreStoredIn, IsLow}
 use Rattle.h5_repack.specs.Image.Written.{IsOrder, StoredIn, counts_of, image_end, plain_image, table_of}
 use Rattle.h5_repack.specs.Objects.Objects.{AreObjects}
@@ -31,13 +29,6 @@ pub record IsWritten (leaf internal : ℕ) (stored : StoredIn) (tree : Tree) (w 
   pub image_is : w.image.items ≡ plain_image leaf internal stored tree order
   pub few : image_end leaf internal (counts_of stored) order ≤ 2 ^ 31
   pub headers_are : (number : ℕ) → option_flatten (slice_get w.headers.items number) ≡ get (table_of leaf internal (counts_of stored) order) number
-
--- What is shown of it: where the headers of its arrays in chunks stand, just their stored chunks are there.
-abbrev pub WrittenStored : Type 0
-WrittenStored = (leaf internal : ℕ) (stored : StoredIn) (tree : Tree) (w : Written) → AreK leaf internal → IsSoundTree tree → ArePlain tree
-    → IsWritten leaf internal stored tree w
-    → (number : ℕ) (d : Dataset) (chunk : List ℕ) → dataset_of tree number ≡ Some d → d.storage ≡ Chunked chunk
-    → (header : ℕ) → option_flatten (slice_get w.headers.items number) ≡ Some header → HasStored w.image.items header (stored number)
 
 -- the image would be too long; or a group's tree too deep; or memory was refused
 abbrev pub IsUnwritten : ℕ → ℕ → StoredIn → Tree → WriteFault → Type 0

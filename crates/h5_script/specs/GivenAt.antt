@@ -4,8 +4,8 @@ use Rattle.h5_model.specs.Scripts.Lines.{Command, Change, OpenView, ListAll, Dum
 use Rattle.h5_model.specs.Scripts.Answers.{Given}
 use Rattle.h5_model.specs.declared.edit_fault.EditFault.TheVariants as fault
 use Rattle.h5_dump.specs.Opened.State.{FileState}
-use Rattle.h5_dump.specs.Carried.{IsGivenFor, IsShortAnew}
-use Rattle.h5_dump.specs.Repacked.{IsRepackRefused}
+use Rattle.h5_dump.specs.Carried.{IsGivenFor}
+use Rattle.h5_dump.specs.Repacked.{IsRepackRefused, IsShortAnew}
 
 -- nothing is given, or that memory was refused
 abbrev pub IsMemory : Given → Type 0
@@ -15,7 +15,7 @@ IsMemory _ = ⊥
 
 -- nothing where the image that is written anew of the same tree is not too long, else why it is not written
 abbrev pub IsGivenToRepack : FileState → Given → Type 0
-IsGivenToRepack f None = IsShortAnew f f.tree None
+IsGivenToRepack f None = IsShortAnew f f.tree
 IsGivenToRepack f (Some fault) = IsRepackRefused f fault
 
 -- what may be given to a line that is answered in this file: to an edit and to `repack` what the file decides, to `view`, `ls` and `dump`

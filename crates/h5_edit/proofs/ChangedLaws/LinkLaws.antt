@@ -1,18 +1,11 @@
 -- The links of a group with the numbers of objects.
-use Rattle.std.proofs.Common.{Vec, ◌≡◌, ◌⊎◌, inl, inr, ℕ, zero, suc, Bool, ap₂, ◌+◌, ◌<◌, ◌≤◌, List, [], ◌∷◌, ◌++◌, length, map, take, drop, get_or, refl, sym, ap, ◌∙◌, arith, true, false, cond, Some, None, append_assoc}
-use Rattle.std.proofs.lemmas.List.{drop_more, length-map, map-append, take-map, drop-map}
-use Rattle.std.proofs.Math.Seq.{take-suc}
+use Rattle.std.proofs.Common.{Vec, ◌≡◌, ℕ, List, map, sym, ap, ◌∙◌}
 use Rattle.std.specs.Prelude.{IfOk, Result, Ok, Err}
 use Rattle.std.specs.declared.alloc.AllocError.{AllocError}
 use Rattle.std.specs.declared.alloc.Global.{Global}
-use Rattle.std.specs.Ordering.{nat_cmp, eq_by_cmp, is_eq}
-use Rattle.std.specs.Cmp.Lexicographic.{slice_cmp, nat_list_cmp_total}
-use Rattle.std.specs.declared.cmp.Ordering.TheVariants.{Less, Equal, Greater}
-use Rattle.std.specs.declared.cmp.Ordering.{Ordering}
-use Rattle.std.specs.FinMap.{FinMap, get, entries, insert, find, put, get-entries, entries-insert}
-use Rattle.std.specs.FinMap.Entries.{by_order}
+use Rattle.std.specs.Ordering.{nat_cmp}
+use Rattle.std.specs.FinMap.{FinMap, entries}
 use Rattle.h5_model.specs.Format.Symbols.{Target}
-use Rattle.h5_model.specs.Tree.Objects.{Link, Links}
 use Rattle.h5_query.specs.GroupTold.{links_told}
 use Rattle.h5_query.specs.Links.{IsGroupRead, lent_link}
 use Rattle.h5_model.specs.Format.Addresses.{SymbolTable}
@@ -22,7 +15,7 @@ use Rattle.h5_query.specs.Opened.Objects.{link_to, links_by}
 use Rattle.h5_query.proofs.OpenedLaws.Entries.{group_entries}
 use Rattle.h5_query.specs.Listed.{in_tree}
 use Rattle.h5_query.proofs.ListedLaws.{tree_from}
-use Rattle.h5_model.specs.Tree.Links.{tree_link, tree_target}
+use Rattle.h5_model.specs.Tree.Links.{tree_link}
 
 -- ---- the links of a group that was read
 

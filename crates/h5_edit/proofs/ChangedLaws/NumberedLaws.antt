@@ -1,5 +1,5 @@
--- The objects of a changed tree in the slots of their numbers.
-use Rattle.std.proofs.Common.{◌≡◌, inl, inr, ℕ, zero, suc, ◌+◌, List, [], ◌∷◌, ◌++◌, length, map, Bool, true, false, cond, Option, Some, None, refl, sym, ap, ◌∙◌, arith}
+-- Slots of which there is one more, and trees of which one object is changed.
+use Rattle.std.proofs.Common.{◌≡◌, inl, inr, ℕ, zero, suc, List, [], ◌∷◌, ◌++◌, length, Bool, true, false, cond, Option, Some, None, refl, sym, ap, ◌∙◌, arith}
 use Rattle.std.specs.Prelude.{◌==◌, slice_get, option_map}
 use Rattle.std.specs.Option.{option_flatten, option_map_or}
 use Rattle.std.specs.List.{AllZip}
@@ -8,38 +8,8 @@ use Rattle.std.specs.FinMap.{get, insert, get-insert, same_map, nat_cmp-IsAntisy
 use Rattle.std.proofs.lemmas.Bool.Decides.{nat_tests}
 use Rattle.h5_laws.proofs.SoundLaws.Inserted.{same_number_or_other, number_here, number_other}
 use Rattle.h5_model.specs.Tree.Objects.{Tree, Object, with_object}
-use Rattle.h5_repack.specs.Objects.Objects.{SlotsHold}
 
 -- ---- lists
-
--- an object, and slots from number n on, with the object of a number changed
-abbrev pub at_place : ℕ → ℕ → (Object → Object) → Object → Object
-at_place n place change o = cond (n == place) (change o) o
-
-abbrev pub at_places : ℕ → ℕ → (Object → Object) → List (Option Object) → List (Option Object)
-at_places n place change [] = []
-at_places n place change (slot ∷ slots) = option_map (at_place n place change) slot ∷ at_places (n + 1) place change slots
-
-pub length-at_places : (n place : ℕ) (change : Object → Object) (slots : List (Option Object)) → length (at_places n place change slots) ≡ length slots
-length-at_places n place change [] = refl
-length-at_places n place change (slot ∷ slots) = ap suc (length-at_places (n + 1) place change slots)
-
-pub at_places-append : (n place : ℕ) (change : Object → Object) (slots : List (Option Object)) (slot : Option Object)
-    → at_places n place change (slots ++ slot ∷ []) ≡ at_places n place change slots ++ option_map (at_place (n + length slots) place change) slot ∷ []
-at_places-append n place change [] slot = let same : n ≡ n + 0 = omega arith in ap (λ m. option_map (at_place m place change) slot ∷ []) same
-at_places-append n place change (x ∷ slots) slot =
-    let same : n + 1 + length slots ≡ n + suc (length slots) = omega arith in
-    ap (λ more. option_map (at_place n place change) x ∷ more)
-    (at_places-append (n + 1) place change slots slot ∙ ap (λ m. at_places (n + 1) place change slots ++ option_map (at_place m place change) slot ∷ []) same)
-
--- what stands in a slot, with the object of a number changed
-found_at_places : (n place : ℕ) (change : Object → Object) (slots : List (Option Object)) (k : ℕ)
-    → option_flatten (slice_get (at_places n place change slots) k) ≡ option_map (at_place (n + k) place change) (option_flatten (slice_get slots k))
-found_at_places n place change [] k = refl
-found_at_places n place change (slot ∷ slots) zero = let same : n ≡ n + 0 = omega arith in ap (λ m. option_map (at_place m place change) slot) same
-found_at_places n place change (slot ∷ slots) (suc k) =
-    let same : n + 1 + k ≡ n + suc k = omega arith in
-    found_at_places (n + 1) place change slots k ∙ ap (λ m. option_map (at_place m place change) (option_flatten (slice_get slots k))) same
 
 next_same : (a b : ℕ) → (a == b) ≡ (suc a == suc b)
 next_same a b = by_test (a == b) refl where
@@ -76,12 +46,9 @@ insert_there tree number o there = same_map nat_cmp_total nat_cmp-IsAntisymmetri
   | inr other ↦ number_other tree number o n other
 ])
 
-pub get_changed : (tree : Tree) (place : ℕ) (change : Object → Object) (o : Object) → get tree place ≡ Some o → get (with_object tree place change) place ≡ Some (change o)
-get_changed tree place change o is =
-    let same : (place == place) ≡ true = grind (arith, nat_tests) in
-    ap (λ found. get (option_map_or (λ x. insert tree place (change x)) found tree) place) is
-    ∙ get-insert nat_cmp_total tree place (change o) place
-    ∙ ap (λ b. cond b (Some (change o)) (get tree place)) (unsigned_tied place place ∙ same)
+-- an object, where that of a number is changed
+abbrev pub at_place : ℕ → ℕ → (Object → Object) → Object → Object
+at_place n place change o = cond (n == place) (change o) o
 
 module _ (tree : Tree) (place : ℕ) (change : Object → Object) where
   kept : (found : Option Object) → found ≡ option_map (λ (x : Object). x) found
@@ -114,9 +81,3 @@ module _ (tree : Tree) (place : ℕ) (change : Object → Object) where
         → get (option_map_or (λ o. insert tree place (change o)) found tree) k ≡ option_map (at_place k place change) (get tree k)
     by_found None is = not_there k is
     by_found (Some o) is = there k o is
-
-module _ (tree : Tree) (slots : List (Option Object)) (numbered : (k : ℕ) → get tree k ≡ option_flatten (slice_get slots k)) (place : ℕ) (change : Object → Object) where
-  pub numbered_with : (k : ℕ) → get (with_object tree place change) k ≡ option_flatten (slice_get (at_places 0 place change slots) k)
-  numbered_with k =
-      get-with_object tree place change k ∙ ap (option_map (at_place k place change)) (numbered k)
-      ∙ sym (found_at_places 0 place change slots k ∙ ap (λ m. option_map (at_place m place change) (option_flatten (slice_get slots k))) (omega arith))

@@ -1,5 +1,5 @@
 -- What is still to be appended, one message less.
-use Rattle.std.proofs.Common.{◌≡◌, ℕ, ◌+◌, ◌<◌, ◌==◌, ◌||◌, List, ◌∷◌, length, drop, get_or, map, refl, sym, ap, ◌∙◌, subst, Bool, true, false, cond, nat_eq}
+use Rattle.std.proofs.Common.{◌≡◌, ℕ, ◌+◌, ◌<◌, ◌==◌, ◌||◌, List, ◌∷◌, length, drop, get_or, map, refl, sym, ap, ◌∙◌, subst, Bool, true, false, cond}
 use Rattle.std.proofs.lemmas.List.{drop_more}
 use Rattle.std.specs.List.{AllByRecursion, filter}
 use Rattle.h5_bytes.specs.Bytes.{part}

@@ -1,16 +1,14 @@
 -- The entries of maps by name: those that are put, removed and listed (an object's attributes: File Format Specification 3.0, section
 -- IV.A.2.m).
-use Rattle.std.proofs.Common.{◌≡◌, ℕ, ◌+◌, ◌≤◌, List, [], ◌∷◌, length, Bool, true, false, cond, not, refl, sym, ap, ◌∙◌, subst, arith}
-use Rattle.std.specs.Prelude.{T}
+use Rattle.std.proofs.Common.{◌≡◌, ℕ, ◌+◌, ◌≤◌, List, [], ◌∷◌, length, Bool, true, false, cond, refl, sym, ap, subst, arith}
 use Rattle.std.specs.List.{AllByRecursion, filter}
-use Rattle.std.specs.Ordering.{nat_cmp, eq_by_cmp}
+use Rattle.std.specs.Ordering.{nat_cmp}
 use Rattle.std.specs.Cmp.Lexicographic.{slice_cmp, nat_list_cmp_total}
 use Rattle.std.specs.declared.cmp.Ordering.{Ordering}
 use Rattle.std.specs.declared.cmp.Ordering.TheVariants.{Less, Equal, Greater}
-use Rattle.std.specs.FinMap.{FinMap, nat_cmp-IsAntisymmetric, slice_cmp-IsAntisymmetric, put, is_sorted, insert, remove, entries, from_sorted, from_entries, same_entries_map, entries_sorted, entries-from_sorted, entries-insert}
-use Rattle.std.specs.FinMap.Entries.{by_order, where_key, is_sorted-where_key}
+use Rattle.std.specs.FinMap.{FinMap, nat_cmp-IsAntisymmetric, slice_cmp-IsAntisymmetric, put, insert, entries, from_entries, entries-insert}
+use Rattle.std.specs.FinMap.Entries.{by_order}
 use Rattle.h5_model.proofs.MapSteps.{entries-empty}
-use Rattle.h5_model.proofs.MapSteps.{remove_by_name, entries_by_name}
 
 abbrev by_name : List ℕ → List ℕ → Ordering
 by_name = slice_cmp nat_cmp

@@ -3,7 +3,9 @@ use Rattle.std.proofs.Common.{◌≡◌, ◌≢◌, ℕ, ◌^◌, List, [], ◌�
 use Rattle.std.proofs.lemmas.Bool.Decides.{nat_tests}
 use Rattle.std.specs.Prelude.{◌==◌, if◌then◌else◌}
 use Rattle.std.specs.Option.{option_map_or}
-use Rattle.h5_model.specs.Edits.Refusal.{refusal_of, first_holding, is_chunked, some_above}
+use Rattle.h5_layout.specs.Described.{Described}
+use Rattle.h5_model.specs.Edits.Refusal.{refusal_of, rules_of, first_holding, is_chunked, some_above}
+use Rattle.h5_model.specs.Format.Reads.{storage_of}
 use Rattle.h5_model.specs.Scripts.Reading.{dataset_rules}
 use Rattle.h5_model.specs.Tree.Objects.{Tree, Dataset}
 use Rattle.h5_model.specs.Tree.Paths.{dataset_at}
@@ -11,7 +13,11 @@ use Rattle.h5_model.specs.Tree.Places.{extent_cells}
 use Rattle.h5_model.specs.declared.edits.Edit.TheVariants.{Resize}
 use Rattle.h5_model.specs.declared.edit_fault.EditFault.{EditFault}
 use Rattle.h5_model.specs.declared.edit_fault.EditFault.TheVariants as fault
+use Rattle.h5_model.proofs.RefusalLaws.{none_holds, true_of}
+use Rattle.h5_query.specs.Data.{dataset_told}
+use Rattle.h5_query.specs.Opened.State.{FileState}
 use Rattle.h5_query.proofs.RuleLaws.{first-behind, first-found}
+use Rattle.h5_layout.specs.Extents.{CanHaveSizes}
 use Rattle.h5_edit.proofs.RuleLaws.TableLaws.{or_false}
 
 -- as many sizes as the array has
@@ -75,3 +81,27 @@ module _ (tree : Tree) (next : ℕ) (path dims : List ℕ) where
 
           pub resize_allowed : nat_lt (2 ^ 40) (extent_cells dims) ≡ false → refusal_of tree next (Resize path dims) ≡ None
           resize_allowed s = by_sizes true true false false p q r s
+
+-- ---- what no rule refuses
+
+-- such sizes can be given to the array
+pub can_have : (f : FileState) (path dims : List ℕ) (a : Described) → refusal_of f.tree f.next (Resize path dims) ≡ None
+    → dataset_at f.tree path ≡ Some (dataset_told f.image a) → CanHaveSizes a dims
+unfolding refusal_of
+can_have f path dims a accepted at =
+    let rules = none_holds (rules_of f.tree f.next (Resize path dims)) accepted in
+    let sized = rules.1.1.1.1.1.1.1.1.1.1.1.1 in
+    let stored = sized.1.1.1.1 in
+    let rank : (length dims == length a.sizes) ≡ true
+    = true_of _ (sym (ap (λ o. option_map_or (λ (x : Dataset). not (length dims == length x.sizes)) o false) at) ∙ sized.0) in
+    let chunked : is_chunked (storage_of a.sizes a.layout) ≡ true
+    = true_of _ (sym (ap (λ o. option_map_or (λ (x : Dataset). not (is_chunked x.storage)) o false) at) ∙ stored.0) in
+    let within : some_above dims a.maxima ≡ false
+    = sym (ap (λ o. option_map_or (λ (x : Dataset). some_above dims x.maxima) o false) at) ∙ stored.1.0 in
+    let many = stored.1.1.1.1.0 in
+    record {
+      chunked = chunked;
+      ranked = grind (arith, nat_tests, rank);
+      below = within;
+      few = grind (arith, nat_tests, many);
+    }

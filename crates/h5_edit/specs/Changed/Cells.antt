@@ -3,7 +3,7 @@
 use Rattle.std.specs.Prelude.{◌≡◌, ℕ, ◌≤◌, ◌==◌, Option, None, false, List, length}
 use Rattle.std.specs.FinMap.{empty}
 use Rattle.std.specs.List.{list_any}
-use Rattle.h5_layout.specs.HeldChunks.{held_cells}
+use Rattle.h5_layout.specs.HeldChunks.{held_cells, held_chunks}
 use Rattle.h5_model.specs.Format.Layout.{Layout, InMessage, InBlock, InChunks}
 use Rattle.h5_model.specs.Format.Messages.{Message}
 use Rattle.h5_model.specs.Tree.Objects.{Dataset, Chunked}
@@ -18,9 +18,7 @@ use Rattle.h5_repack.specs.Objects.Objects.{content_chunks}
 use Rattle.h5_repack.specs.declared.blocks.cells.Cells.{Cells}
 use Rattle.h5_repack.specs.declared.blocks.cells.Cells.TheVariants.{Unset, Filled, Stored, Chunks}
 use Rattle.h5_repack.specs.declared.objects.object.NewContent.{NewContent}
-use Rattle.h5_model.specs.Views.Selection.{Slab}
 use Rattle.h5_edit.specs.Fits.Laws.{AreBytes}
-use Rattle.h5_edit.specs.StoredChunks.{AreStoredAs}
 
 -- ---- of an image
 
@@ -37,10 +35,10 @@ AreCellsKept image a (Stored bytes) = IsUnchunkedLayout a.layout × AreBytes byt
 AreCellsKept image a (Chunks held) =
     (chunk : List ℕ) × (root : Option ℕ) × (a.layout ≡ InChunks chunk root) × (length chunk ≡ length a.sizes) × (held ≡ held_cells image a chunk a.sizes)
 
--- of an array in chunks those are handed over that hold a cell of its extent, and those that a selection meets
-abbrev pub AreChunksKept : List ℕ → List Message → Option Slab → Dataset → NewContent → Type 0
-AreChunksKept image ms met d content = (chunk : List ℕ) → d.storage ≡ Chunked chunk
-    → AreStoredAs d.sizes chunk (stored_chunks image (array_told ms).fixed (array_told ms).layout) met (content_chunks content)
+-- of an array in chunks those are handed over that hold a cell of its extent
+abbrev pub AreChunksKept : List ℕ → List Message → Dataset → NewContent → Type 0
+AreChunksKept image ms d content = (chunk : List ℕ) → d.storage ≡ Chunked chunk
+    → content_chunks content ≡ held_chunks d.sizes (stored_chunks image (array_told ms).fixed (array_told ms).layout)
 
 -- ---- of a new array
 

@@ -1,6 +1,6 @@
 //! Arrays of an opened image, as they are to be written (File Format Specification 3.0, sections IV.A.2.d and IV.A.2.i).
 
-ghost use Rattle.std.specs.Prelude.{◌≡◌, None, IfOk};
+ghost use Rattle.std.specs.Prelude.{◌≡◌, IfOk};
 ghost use Rattle.h5_header.specs.Listed.{messages_in};
 ghost use Rattle.h5_model.specs.Tree.Objects.{Array};
 ghost use Rattle.h5_query.specs.Data.{AreDataRead};
@@ -29,7 +29,7 @@ pub(crate) fn kept_array<'a>(
     ensures array { IfOk result (λ content. IsNewContent content
         (Array (array_dataset image.now.bytes (messages_in image.now.bytes messages.now.list)))) }
     ensures chunks { let ms = messages_in image.now.bytes messages.now.list in
-        IfOk result (AreChunksKept image.now.bytes ms None (array_dataset image.now.bytes ms)) }
+        IfOk result (AreChunksKept image.now.bytes ms (array_dataset image.now.bytes ms)) }
 {
     let array = known_array(alloc, image, messages);
     let cells = kept_cells(alloc, image, &array)?;

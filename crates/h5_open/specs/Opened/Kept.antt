@@ -1,14 +1,15 @@
 -- What is known of an opened image: what is kept of its objects tells all that it holds (File Format Specification 3.0, section
 -- IV.A).
-use Rattle.std.specs.Prelude.{◌≡◌, ℕ, ◌≤◌, IsTrue, Option, Some, List, length, MatchOption, option_and_then}
+use Rattle.std.specs.Prelude.{◌≡◌, ℕ, ◌≤◌, IsTrue, true, Option, Some, List, length, MatchOption, option_and_then}
 use Rattle.std.specs.List.{AllByRecursion}
 use Rattle.std.specs.Ordering.{nat_cmp}
 use Rattle.std.specs.BTreeMap.{BTreeMap, get as lookup}
 use Rattle.std.specs.FinMap.{FinMap, get}
+use Rattle.h5_model.specs.Edits.Refusal.{is_chunked}
 use Rattle.h5_model.specs.Format.Addresses.{symbol_table_of}
 use Rattle.h5_model.specs.Format.MessageTypes.{symbol_table_kind}
 use Rattle.h5_model.specs.Format.Messages.{Message, first_body}
-use Rattle.h5_model.specs.Format.Reads.{Reads}
+use Rattle.h5_model.specs.Format.Reads.{Reads, storage_of}
 use Rattle.h5_space.specs.Space.{Space}
 use Rattle.h5_space.specs.Whole.{IsApart}
 use Rattle.h5_header.specs.Heads.{is_read}
@@ -16,7 +17,9 @@ use Rattle.h5_header.specs.Kinds.{IsOfGroup}
 use Rattle.h5_header.specs.Listed.{messages_in}
 use Rattle.h5_group.specs.Links.{IsGroupRead}
 use Rattle.h5_layout.specs.Data.{AreDataRead}
-use Rattle.h5_layout.specs.Told.{layout_told, type_told}
+use Rattle.h5_layout.specs.Described.{Described}
+use Rattle.h5_layout.specs.Told.{array_told, layout_told, type_told}
+use Rattle.h5_layout.specs.Trimmed.{IsTrimmed}
 use Rattle.h5_open.specs.declared.opened.object.OpenedObject.{OpenedObject}
 use Rattle.h5_open.specs.declared.opened.object.OpenedContent.{OpenedContent}
 use Rattle.h5_open.specs.declared.opened.object.OpenedContent.TheVariants as content
@@ -30,11 +33,20 @@ IsContentKept image ms (content.Group table) =
     IsOfGroup ms × (option_and_then symbol_table_of (first_body symbol_table_kind ms) ≡ Some table) × IsGroupRead image table
 IsContentKept image ms content.Array = IsArrayList ms × AreDataRead image (type_told ms) (layout_told ms)
 
+-- an array in chunks stores nothing outside its sizes
+abbrev pub AreChunksTrimmed : List ℕ → Described → Type 0
+AreChunksTrimmed image a = is_chunked (storage_of a.sizes a.layout) ≡ true → IsTrimmed image a a.sizes
+
+abbrev pub IsContentTrimmed : List ℕ → List Message → OpenedContent → Type 0
+IsContentTrimmed image ms (content.Group table) = Unit {0}
+IsContentTrimmed image ms content.Array = AreChunksTrimmed image (array_told ms)
+
 -- the object stands in the image
 pub record IsObjectKept (image : List ℕ) (o : OpenedObject) : Type 0 where
   pub header : IsHeaderKept image o.messages
   pub known : AllByRecursion (λ x. IsTrue (is_read x.kind)) o.messages.list
   pub content : IsContentKept image (messages_in image o.messages.list) o.content
+  pub trimmed : o.trimmed ≡ true → IsContentTrimmed image (messages_in image o.messages.list) o.content
 
 -- each header of the table has the number under which it stands there
 abbrev pub IsIndex : FinMap nat_cmp ℕ → BTreeMap ℕ ℕ → Type 0

@@ -195,11 +195,19 @@ fn keep_laid(
     ensures same_numbers { OnErr result (index.new.numbers.entries ≡ index.old.numbers.entries) }
 {
     let messages = Messages::laid(alloc, at, object.header)?;
-    let content = match object.content {
-        ContentBytes::Group { table, .. } => OpenedContent::Group(table),
-        ContentBytes::Cells { .. } => OpenedContent::Array,
+    // Without bytes behind the header there are no chunks.
+    let (content, trimmed) = match object.content {
+        ContentBytes::Group { table, .. } => (OpenedContent::Group(table), false),
+        ContentBytes::Cells { count, .. } => (OpenedContent::Array, count == 0),
     };
-    keep(index, OpenedObject { messages, content })
+    keep(
+        index,
+        OpenedObject {
+            messages,
+            content,
+            trimmed,
+        },
+    )
 }
 
 /// Takes a block for the object and writes it there, puts the link to it into a group, and writes where the image ends, in room that was

@@ -18,4 +18,6 @@ pub struct OpenedObject {
     /// The messages of its header.
     pub messages: Messages,
     pub content: OpenedContent,
+    /// Whether an array in chunks is known to store nothing outside its sizes; `false` where that was not looked at.
+    pub trimmed: bool,
 }

@@ -1,22 +1,17 @@
 -- The header of an array in the plain layout, with its data where they are stored, reads as that array (File Format Specification 3.0,
 -- sections IV.A.1.a and IV.A.2.i).
-use Rattle.std.proofs.Common.{◌≡◌, ℕ, ◌+◌, ◌^◌, ◌<◌, List, [], ◌∷◌, length, map, refl, ap, ◌∙◌, arith, true, false, Option, Some, None}
+use Rattle.std.proofs.Common.{◌≡◌, ℕ, ◌+◌, ◌^◌, ◌<◌, List, [], ◌∷◌, length, refl, arith, true, false, Option, Some, None}
 use Rattle.std.specs.Prelude.{if◌then◌else◌}
-use Rattle.std.specs.Ordering.{nat_cmp}
-use Rattle.std.specs.Cmp.Lexicographic.{slice_cmp}
-use Rattle.std.specs.FinMap.{empty, entries}
 use Rattle.h5_bytes.specs.Bytes.{part}
-use Rattle.h5_model.proofs.MapSteps.{entries-empty}
-use Rattle.h5_model.specs.Format.Chunks.{Chunks}
 use Rattle.h5_model.specs.Format.Sizes.{header_size}
 use Rattle.h5_model.specs.Tree.Objects.{Dataset, Storage, Compact, Contiguous, Chunked}
 use Rattle.h5_repack.specs.Bodies.Bodies.{others_of}
-use Rattle.h5_repack.specs.Bodies.Laws.{ArrayReads, ArrayStored}
+use Rattle.h5_repack.specs.Bodies.Laws.{ArrayReads}
 use Rattle.h5_repack.specs.Bodies.Headers.{AreStoredFor, is_stored, data_of}
 use Rattle.h5_repack.specs.Bodies.Sound.{IsPlainArray}
-use Rattle.h5_repack.proofs.BodyLaws.HeaderArray.{IsLaid, compact_laid, block_laid, nowhere_laid, chunks_laid, chunks_laid-none, laid_reads, laid_stored}
+use Rattle.h5_repack.proofs.BodyLaws.HeaderArray.{IsLaid, compact_laid, block_laid, nowhere_laid, chunks_laid, laid_reads}
 use Rattle.h5_repack.proofs.BodyLaws.HeaderLengths.{head_of, array_length}
-use Rattle.h5_repack.proofs.ChunkLaws.ChunkedArray.{laid_offsets, stored_laid}
+use Rattle.h5_repack.proofs.ChunkLaws.ChunkedArray.{stored_laid}
 use Rattle.h5_repack.proofs.ChunkLaws.HeldChunks.{none_unset}
 
 -- where its data stand, by how it is stored
@@ -36,21 +31,6 @@ laid_by image place others d (Chunked chunk) [] is are room there =
 laid_by image place others d (Chunked chunk) (first ∷ behind) is are room there =
     stored_laid (record d { storage = Chunked chunk }) chunk refl is.fixed is.sound is.stored first behind are place image refl is.ranked room there
 
--- in chunks, with just those that are stored
-offsets_by : (image : List ℕ) (place others : ℕ) (d : Dataset) (s : Storage) (stored : List (List ℕ)) (is : IsPlainArray (record d { storage = s }) others)
-    (are : AreStoredFor stored (record d { storage = s })) (room : place + length (data_of stored (record d { storage = s }) place) < 2 ^ 63)
-    (there : part place (length (data_of stored (record d { storage = s }) place)) image ≡ data_of stored (record d { storage = s }) place) (chunk : List ℕ)
-    → s ≡ Chunked chunk → map (λ (e : List ℕ × ℕ). e.0) (entries (laid_by image place others d s stored is are room there).chunks) ≡ stored
-unfolding laid_by
-offsets_by image place others d Compact stored is are room there chunk chunked = absurd (cc)
-offsets_by image place others d (Contiguous held) stored is are room there chunk chunked = absurd (cc)
-offsets_by image place others d (Chunked sizes) [] is are room there chunk chunked =
-    ap (λ (c : Chunks). map (λ (e : List ℕ × ℕ). e.0) (entries c)) (chunks_laid-none image place d.fixed d.sizes d.maxima d.fill d.cells is.fixed (is.sound).values (is.sound).counted is.few sizes
-    ((is.sound).boxed sizes refl) is.ranked is.stored (none_unset (record d { storage = Chunked sizes }) sizes (is.sound).counted are))
-    ∙ ap (map (λ (e : List ℕ × ℕ). e.0)) (entries-empty (slice_cmp nat_cmp))
-offsets_by image place others d (Chunked sizes) (first ∷ behind) is are room there chunk chunked =
-    laid_offsets (record d { storage = Chunked sizes }) sizes refl is.fixed is.sound is.stored first behind are place image refl is.ranked room there
-
 -- An array's header with any count, with its data where they are stored, is that of the array, and has that count.
 pub array_reads : ArrayReads
 array_reads image table at place count p d stored plain e is are most few_links short room stands_at stands =
@@ -58,15 +38,3 @@ array_reads image table at place count p d stored plain e is are most few_links 
     let laid : IsLaid image place (place + length (data_of stored d place)) address d = laid_by image place (length (others_of p)) d d.storage stored is are room stands in
     laid_reads image table at place (place + length (data_of stored d place)) count (header_size p) p plain d (head_of d (length (others_of p)) is) address laid most few_links short
     e (array_length count address p d plain e is) stands_at
-
--- And such a header of an array in chunks has just those that are stored.
-pub array_stored : ArrayStored
-array_stored image at place count p d stored chunk plain e is are most few_links short room stands_at stands chunked =
-    let address : Option ℕ = if is_stored stored d.storage then Some place else None in
-    let laid : IsLaid image place (place + length (data_of stored d place)) address d = laid_by image place (length (others_of p)) d d.storage stored is are room stands in
-    record {
-      chunks = laid.chunks;
-      there = laid_stored image empty at place (place + length (data_of stored d place)) count (header_size p) p plain d (head_of d (length (others_of p)) is) address laid most few_links short
-          (array_length count address p d plain e is) stands_at;
-      offsets_are = offsets_by image place (length (others_of p)) d d.storage stored is are room stands chunk chunked;
-    }

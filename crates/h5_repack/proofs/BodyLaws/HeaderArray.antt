@@ -37,7 +37,6 @@ use Rattle.h5_msg.proofs.FillLaws.{fill_back, length-fill_bytes}
 use Rattle.h5_msg.proofs.LayoutLaws.{IsAddress, compact_back, contiguous_back, chunked_back}
 use Rattle.h5_model.proofs.PaddedLaws.{length-raised}
 use Rattle.h5_shape.proofs.Products.{cells_le}
-use Rattle.h5_layout.specs.StoredAt.{HasStoredChunks}
 use Rattle.h5_repack.specs.Bodies.Bodies.{others_of, space_body, type_message, fill_message, array_layout}
 use Rattle.h5_repack.specs.Bodies.Laws.{counted_header}
 use Rattle.h5_repack.specs.Bodies.Sound.{IsBound, IsPlainObject, ArePlainChunks}
@@ -347,12 +346,6 @@ module _ (image : List ℕ) (place : ℕ) (t : Fixed) (sizes : List ℕ) (maxima
             (sym (get-empty (slice_cmp nat_cmp) (corner_of chunk (index_of sizes k)))));
       }
 
-  -- with no chunk
-  pub chunks_laid-none : (chunk : List ℕ) (same : length chunk ≡ length sizes) (rank : length sizes ≤ 32) (plain : ArePlainChunks t chunk)
-      (unset : cs ≡ replicate (cells sizes) fill) → (chunks_laid chunk same rank plain unset).chunks ≡ empty
-  unfolding chunks_laid
-  chunks_laid-none chunk same rank plain unset = refl
-
 -- ---- any array in this layout
 
 module _ (image : List ℕ) (table : FinMap nat_cmp ℕ) (at place end count size : ℕ) (p : Object) (plain : IsPlainObject p) (d : Dataset) (is : IsHead d (length (others_of p)))
@@ -383,19 +376,3 @@ module _ (image : List ℕ) (table : FinMap nat_cmp ℕ) (at place end count siz
             image d.storage d.cells is.few laid.layout laid.chunks laid.blocks count whole refl most (omega (arith, short, long)) few_links,
         laid.run,
       )
-
-  -- and its chunks that are stored are those of its layout
-  pub laid_stored : length (counted_header count p d address) ≡ size → part at size image ≡ counted_header count p d address → HasStoredChunks image at laid.chunks
-  unfolding has dataset
-  laid_stored long stands_at =
-      let whole : part at (length (counted_header count p d address)) image ≡ counted_header count p d address = ap (λ n. part at n image) long ∙ stands_at in
-      record {
-        messages = messages d.fixed d.sizes d.maxima d.fill (is_chunked d.storage) body is.fixed (is.sound).fill is.ranked is.bounded laid.short at p plain without;
-        header_blocks = block at (length (counted_header count p d address)) ∷ [];
-        listed = listed d.fixed d.sizes d.maxima d.fill (is_chunked d.storage) body is.fixed (is.sound).fill is.ranked is.bounded laid.short at p plain without
-            image d.storage d.cells is.few laid.layout laid.chunks laid.blocks count whole refl most (omega (arith, short, long));
-        dataset = d;
-        data_blocks = laid.blocks;
-        array = has;
-        chunks_are = refl;
-      }

@@ -91,11 +91,6 @@ abbrev pub chunk_pairs : ℕ → ℕ → List (List ℕ) → List (List ℕ × �
 chunk_pairs size at [] = []
 chunk_pairs size at (offsets ∷ others) = (offsets, at) ∷ chunk_pairs size (at + size) others
 
--- with these offsets
-pub pair_offsets : (size at : ℕ) (stored : List (List ℕ)) → map (λ (e : List ℕ × ℕ). e.0) (chunk_pairs size at stored) ≡ stored
-pair_offsets size at [] = refl
-pair_offsets size at (offsets ∷ others) = ap (λ (l : List (List ℕ)). offsets ∷ l) (pair_offsets size (at + size) others)
-
 rise_pairs : (size at : ℕ) (last : List ℕ) (others : List (List ℕ)) → AreRising (last ∷ others) → RiseFrom offsets_of Before (Some last) (chunk_pairs size at others)
 rise_pairs size at last [] rising = tt
 rise_pairs size at last (next ∷ others) rising = (rising.0, rise_pairs size (at + size) next others rising.1)

@@ -1,11 +1,11 @@
 -- The header of a chunked array in the plain layout, with its tree and its stored chunks, reads as that array, and these are as long as
 -- is counted (File Format Specification 3.0, sections III.A.1, IV.A.1.a and IV.A.2.i).
-use Rattle.std.proofs.Common.{◌≡◌, ℕ, ◌+◌, ◌*◌, ◌^◌, ◌<◌, ◌≤◌, List, [], ◌∷◌, length, map, refl, sym, ap, ◌∙◌, subst, arith, Some, false}
+use Rattle.std.proofs.Common.{◌≡◌, ℕ, ◌+◌, ◌*◌, ◌^◌, ◌<◌, ◌≤◌, List, [], ◌∷◌, length, refl, sym, ap, ◌∙◌, subst, arith, Some, false}
 use Rattle.std.proofs.Math.Nat.{mul-le-mul}
 use Rattle.std.proofs.lemmas.Bool.Decides.{nat_tests}
 use Rattle.std.specs.Prelude.{◌==◌}
 use Rattle.std.specs.Ordering.{nat_cmp}
-use Rattle.std.specs.FinMap.{FinMap, entries}
+use Rattle.std.specs.FinMap.{FinMap}
 use Rattle.std.specs.List.{AllByRecursion, AllZip}
 use Rattle.h5_bytes.specs.Bytes.{part}
 use Rattle.h5_bytes.specs.Blocks.{Run, block}
@@ -37,7 +37,7 @@ use Rattle.h5_repack.proofs.BodyLaws.HeaderLengths.{IsHead, head_length, length-
 use Rattle.h5_repack.proofs.ChunkLaws.ChunkCells.{chunks_cells}
 use Rattle.h5_repack.proofs.ChunkLaws.ChunkLengths.{length-chunked}
 use Rattle.h5_repack.proofs.ChunkLaws.ChunkOrder.{IsGridOf}
-use Rattle.h5_repack.proofs.ChunkLaws.ChunksRead.{blocks, chunks, ranked_of, stored_cells, stored_offsets, stored_run, stored_stand}
+use Rattle.h5_repack.proofs.ChunkLaws.ChunksRead.{blocks, chunks, ranked_of, stored_cells, stored_run, stored_stand}
 
 module _ (d : Dataset) (chunk : List ℕ) (e : d.storage ≡ Chunked chunk) (fixed : IsFixed d.fixed) (sound : IsDataset d) (plain : ArePlainChunks d.fixed chunk) where
   same : length chunk ≡ length d.sizes
@@ -95,11 +95,6 @@ module _ (d : Dataset) (chunk : List ℕ) (e : d.storage ≡ Chunked chunk) (fix
         cells_are = chunks_cells image d chunk (Some place) (chunks image d chunk grid some small place first others are room there) sound plain.some same (size-low d.fixed fixed)
             (stored_cells image d chunk grid some small place first others are room there);
       }
-
-      -- with these offsets
-      pub laid_offsets : map (λ (e : List ℕ × ℕ). e.0) (entries stored_laid.chunks) ≡ stored
-      unfolding stored_laid
-      laid_offsets = stored_offsets image d chunk grid some small place first others are room there
 
       -- the header, the tree and the chunks are those of the array
       pub chunked_reads : (table : FinMap nat_cmp ℕ) (at count : ℕ) (p : Object) → IsPlainObject p → p.content ≡ Array d → IsHead d (length (others_of p))

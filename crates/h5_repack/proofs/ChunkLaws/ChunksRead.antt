@@ -28,7 +28,7 @@ use Rattle.h5_repack.proofs.ChunkLaws.ChunkCells.{AreCellsStored}
 use Rattle.h5_repack.proofs.ChunkLaws.ChunkLengths.{AreRanked, key_fits, keys_fit, length-children, length-chunk, length-chunks, length-nodes, node_long}
 use Rattle.h5_repack.proofs.ChunkLaws.ChunkLevels.{chunk_level}
 use Rattle.h5_repack.proofs.ChunkLaws.ChunkOrder.{IsGridOf, key_of}
-use Rattle.h5_repack.proofs.ChunkLaws.ChunkTree.{chunk_map, chunk_pairs, chunks_stand, entries_of, pair_offsets, values_of}
+use Rattle.h5_repack.proofs.ChunkLaws.ChunkTree.{chunk_map, chunk_pairs, chunks_stand, entries_of, values_of}
 
 -- ---- runs of blocks
 
@@ -160,10 +160,6 @@ module _ (image : List ℕ) (d : Dataset) (chunk : List ℕ) where
     -- with the array's cells
     entries_are : entries chunks ≡ chunk_pairs size place stored
     entries_are = entries_of size place first others are.rising
-
-    -- and no other chunks
-    pub stored_offsets : map (λ (e : List ℕ × ℕ). e.0) (entries chunks) ≡ stored
-    stored_offsets = ap (map (λ (e : List ℕ × ℕ). e.0)) entries_are ∙ pair_offsets size place stored
 
     all_there : AllByRecursion (λ (p : List ℕ × ℕ). part p.1 size image ≡ chunk_data d chunk p.0) (chunk_pairs size place stored)
     all_there = each_there place stored (ap (λ n. part n (length chunks_part) image) (sym place_is) ∙ both.1)

@@ -8,7 +8,7 @@ use Rattle.h5_model.specs.Tree.Objects.{Dataset, Chunked}
 use Rattle.h5_layout.specs.Data.{dataset_told, stored_chunks}
 use Rattle.h5_layout.specs.Described.{Described}
 use Rattle.h5_layout.specs.HeldChunks.{chunk_values, held_cells, held_chunks}
-pub use Rattle.h5_layout.proofs.HeldWith.{resized_own}
+pub use Rattle.h5_layout.proofs.HeldParts.{resized_own}
 use Rattle.h5_repack.specs.Bodies.Headers.{AreStoredFor}
 use Rattle.h5_repack.specs.Blocks.Written.{AreHeldOf}
 use Rattle.h5_repack.proofs.ChunkLaws.StoredFor.{resized_for}

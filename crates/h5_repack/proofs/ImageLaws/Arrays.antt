@@ -15,9 +15,8 @@ use Rattle.h5_model.specs.Format.Reads.{HasObject, IsGroup}
 use Rattle.h5_model.specs.Format.Sizes.{header_size}
 use Rattle.h5_model.specs.Tree.Objects.{Tree, Object, Array, Dataset, Storage, Compact, Contiguous, Chunked, Links, links_in, links_of, hard_links}
 use Rattle.h5_model.proofs.PlainValues.{length-cells_bytes}
-use Rattle.h5_layout.specs.StoredAt.{HasStored}
 use Rattle.h5_repack.specs.Bodies.Bodies.{others_of}
-use Rattle.h5_repack.specs.Bodies.Laws.{ArrayReads, ArrayStored, ArrayLength, counted_header}
+use Rattle.h5_repack.specs.Bodies.Laws.{ArrayReads, ArrayLength, counted_header}
 use Rattle.h5_repack.specs.Bodies.Headers.{AreStoredFor, data_of}
 use Rattle.h5_repack.specs.Bodies.Sound.{IsPlainArray}
 use Rattle.h5_repack.specs.Image.Plain.{IsPlain, IsPlainContent, IsPlainTree}
@@ -150,10 +149,3 @@ module _ (array_length : ArrayLength) (leaf internal : ℕ) (stored : StoredIn) 
 
     pub array_stands : Stands image leaf internal (counts_of stored) tree table place (number, o)
     array_stands = subst (λ (k : ℕ). Stands image leaf internal (counts_of stored) tree table k (number, o)) here array_here
-
-    -- with just its stored chunks
-    pub array_kept : ArrayStored → (chunk : List ℕ) → d.storage ≡ Chunked chunk → HasStored image place (stored number)
-    array_kept array_stored chunk chunked =
-        subst (λ (k : ℕ). HasStored image k (stored number)) here
-        (array_stored image header (content_place o header) (hard_links tree number) o d (stored number) chunk own.others e own_content.0 own_chunks own_content.1
-        (omega (arith, few_links)) (omega (arith, here, high, low, fits_in, array_long)) (omega (arith, here, low, fits_in, array_long)) header_there data_there chunked)

@@ -4,15 +4,14 @@ use Rattle.std.specs.FinMap.{get}
 use Rattle.std.specs.List.{flat_map}
 use Rattle.h5_bytes.specs.Bytes.{part}
 use Rattle.h5_model.specs.Format.Superblock.{leaf_k, internal_k}
-use Rattle.h5_model.specs.Tree.Objects.{Tree, Object, Content, Group, Array, Dataset, Chunked}
+use Rattle.h5_model.specs.Tree.Objects.{Tree, Object, Content, Group, Array}
 use Rattle.h5_model.proofs.PlainMessages.{part-between}
 use Rattle.h5_laws.proofs.Lists.{In}
 use Rattle.h5_group.specs.Writing.Laws.{LinksRead, LinksLength, GroupLength}
-use Rattle.h5_layout.specs.StoredAt.{HasStored}
-use Rattle.h5_repack.specs.Bodies.Laws.{ArrayReads, ArrayStored, ArrayLength}
+use Rattle.h5_repack.specs.Bodies.Laws.{ArrayReads, ArrayLength}
 use Rattle.h5_repack.specs.Image.Plain.{IsPlainTree}
 use Rattle.h5_repack.specs.Image.Written.{IsOrder, StoredIn, counts_of, object_length, object_bytes, table_of, image_end, end_from}
-use Rattle.h5_repack.proofs.ImageLaws.Arrays.{length-array, array_kept, array_stands}
+use Rattle.h5_repack.proofs.ImageLaws.Arrays.{length-array, array_stands}
 use Rattle.h5_repack.proofs.ImageLaws.GroupLinks.{ArePlaced}
 use Rattle.h5_repack.proofs.ImageLaws.Objects.{Stands, length-group, group_stands}
 use Rattle.h5_repack.proofs.ImageLaws.Orders.{order_apart, got_in_order, in_order_got}
@@ -111,15 +110,3 @@ module _ (links_length_is : LinksLength) (group_length : GroupLength) (array_len
               n o links (got_in_order tree order is n o there) e links_read end are_placed fits_in image place found low leaf_is internal_is here
           by_content place found high low here (Array d) e = array_stands array_length leaf internal stored tree (table_of leaf internal counts order) plain n o d
               (got_in_order tree order is n o there) e array_reads end fits_in image place found (omega (arith, high)) low here
-
-    -- an array in chunks has just its stored ones
-    pub located_stored : ArrayReads → ArrayStored → end ≤ 2 ^ 31 → (n : ℕ) (o : Object) (d : Dataset) (chunk : List ℕ) → get tree n ≡ Some o → o.content ≡ Array d
-        → d.storage ≡ Chunked chunk → (place : ℕ) × (get (table_of leaf internal counts order) n ≡ Some place) × HasStored image place (stored n)
-    located_stored array_reads array_stored fits_in n o d chunk got e chunked =
-        let at = along_in leaf internal counts (λ place e. IsPlace place e × IsThere leaf internal counts bytes image place e) 96 order (n, o) along_all (in_order_got tree order is n o got) in
-        let high : 96 ≤ at.0 = at.1.0.1.0 in (
-          at.0,
-          at.1.0.0,
-          array_kept array_length leaf internal stored tree (table_of leaf internal counts order) plain n o d got e array_reads end fits_in image at.0 at.1.0.0 (omega (arith, high)) at.1.0.1.1 at.1.1
-              array_stored chunk chunked,
-        )

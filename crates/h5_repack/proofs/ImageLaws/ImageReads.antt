@@ -1,23 +1,20 @@
 -- The plain image of a sound tree reads as that tree, and its blocks hold each of its bytes once.
-use Rattle.std.proofs.Common.{◌≡◌, ℕ, ◌+◌, ◌-◌, ◌^◌, ◌≤◌, List, ◌∷◌, ◌++◌, length, refl, sym, ap, ◌∙◌, subst, arith, Option, Some, None}
+use Rattle.std.proofs.Common.{◌≡◌, ℕ, ◌+◌, ◌-◌, ◌^◌, ◌≤◌, List, ◌∷◌, ◌++◌, length, refl, sym, ap, ◌∙◌, subst, arith, Some}
 use Rattle.std.specs.FinMap.{get, entries}
-use Rattle.std.specs.Option.{option_and_then}
-use Rattle.std.proofs.lemmas.Option.{same_Some}
 use Rattle.std.specs.List.{flat_map, AllByRecursion}
 use Rattle.h5_bytes.specs.Blocks.{CoverOnce, Inside, holds}
 use Rattle.h5_bytes.proofs.BlockLaws.{holds_join, once_separate}
 use Rattle.h5_model.specs.Format.Plain.{superblock_bytes}
 use Rattle.h5_model.specs.Format.Reads.{Placed, all_blocks}
 use Rattle.h5_model.specs.Format.Superblock.{IsSuperblock, leaf_k, internal_k, end_of_file, root_header}
-use Rattle.h5_model.specs.Tree.Objects.{Tree, Object, Content, Group, Array, Dataset, Chunked, dataset_in}
+use Rattle.h5_model.specs.Tree.Objects.{Tree, Object}
 use Rattle.h5_laws.proofs.Lists.{all_in}
 use Rattle.h5_group.specs.Writing.Laws.{LinksRead, LinksLength, GroupLength}
-use Rattle.h5_layout.specs.StoredAt.{HasStored}
-use Rattle.h5_repack.specs.Bodies.Laws.{IsPlainReading, ArrayReads, ArrayStored, ArrayLength}
-use Rattle.h5_repack.specs.Image.Laws.{ImageReads, ImageStored, ImageEnds}
+use Rattle.h5_repack.specs.Bodies.Laws.{IsPlainReading, ArrayReads, ArrayLength}
+use Rattle.h5_repack.specs.Image.Laws.{ImageReads, ImageEnds}
 use Rattle.h5_repack.specs.Image.Plain.{IsPlainTree}
 use Rattle.h5_repack.specs.Image.Written.{IsOrder, StoredIn, counts_of, object_length, object_bytes, headers_from, content_place, root_heap, table_of, image_end, plain_image}
-use Rattle.h5_repack.proofs.ImageLaws.ImageObjects.{Located, length-image, located, located_stored}
+use Rattle.h5_repack.proofs.ImageLaws.ImageObjects.{Located, length-image, located}
 use Rattle.h5_repack.proofs.ImageLaws.ImagePlaced.{placed_of, objects_are, all_placed, all_counted, all_inside, table_is, all_cover}
 use Rattle.h5_repack.proofs.ImageLaws.Orders.{in_order}
 use Rattle.h5_repack.proofs.ImageLaws.Places.{Objects, table_find, table_own, found_first, end_rises}
@@ -50,11 +47,6 @@ module _ (links_length_is : LinksLength) (group_length : GroupLength) (array_len
 
     pub image_long : length image ≡ end
     image_long = length-image links_length_is group_length array_length leaf internal stored tree order plain is image front refl laid
-
-    pub image_keeps : ArrayReads → ArrayStored → image_end leaf internal (counts_of stored) ((0, root) ∷ others) ≤ 2 ^ 31 → (n : ℕ) (o : Object) (d : Dataset) (chunk : List ℕ)
-        → get tree n ≡ Some o → o.content ≡ Array d → d.storage ≡ Chunked chunk
-        → (header : ℕ) × (get (table_of leaf internal counts order) n ≡ Some header) × HasStored image header (stored n)
-    image_keeps = located_stored links_length_is group_length array_length leaf internal stored tree order plain is image front refl laid
 
     module _ (links_read : LinksRead) (array_reads : ArrayReads) (fits_in : image_end leaf internal counts ((0, root) ∷ others) ≤ 2 ^ 31) where
       front_long : length (front ++ rest) ≡ end
@@ -130,21 +122,3 @@ module _ (links_read : LinksRead) (links_length_is : LinksLength) (group_length 
       subst (λ (xs : Objects). IsOrder tree xs → image_end leaf internal (counts_of stored) xs ≤ 2 ^ 31
       → IsPlainReading (plain_image leaf internal stored tree xs) leaf internal (table_of leaf internal (counts_of stored) xs) tree)
       (sym is.first) (λ is' fits'. reading links_length_is group_length array_length leaf internal stored tree is.root is.others plain is' links_read array_reads fits') is fits_in
-
--- the object of an array
-array_in : (c : Content) (d : Dataset) → dataset_in c ≡ Some d → c ≡ Array d
-array_in (Group links) d is = absurd (let never : None ≡ Some d = is in cc)
-array_in (Array e) d is = ap (λ (x : Dataset). Array x) (same_Some e d is)
-
-array_of : (found : Option Object) (d : Dataset) → option_and_then (λ (o : Object). dataset_in o.content) found ≡ Some d → (o : Object) × (found ≡ Some o) × (o.content ≡ Array d)
-array_of None d is = absurd (let never : None ≡ Some d = is in cc)
-array_of (Some o) d is = (o, refl, array_in o.content d is)
-
-module _ (links_length_is : LinksLength) (group_length : GroupLength) (array_reads : ArrayReads) (array_stored : ArrayStored) (array_length : ArrayLength) where
-  pub image_stored : ImageStored
-  image_stored leaf internal stored tree objects plain is fits_in number d chunk found chunked =
-      let own = array_of (get tree number) d found in
-      subst (λ (xs : Objects). IsOrder tree xs → image_end leaf internal (counts_of stored) xs ≤ 2 ^ 31
-      → (header : ℕ) × (get (table_of leaf internal (counts_of stored) xs) number ≡ Some header) × HasStored (plain_image leaf internal stored tree xs) header (stored number))
-      (sym is.first) (λ is' fits'. image_keeps links_length_is group_length array_length leaf internal stored tree is.root is.others plain is' array_reads array_stored fits' number own.0 d chunk
-      own.1 own.2 chunked) is fits_in

@@ -1,5 +1,5 @@
--- What is shown of the headers of arrays in the plain layout: they read as their arrays, with just the chunks
--- that are stored, and have the length that is counted for them.
+-- What is shown of the headers of arrays in the plain layout: they read as their arrays, and have the length that
+-- is counted for them.
 -- And what is meant by an image that reads as a tree and has no gap.
 use Rattle.std.specs.Prelude.{◌≡◌, ℕ, ◌+◌, ◌^◌, ◌<◌, ◌≤◌, if◌then◌else◌, Option, Some, None, List, ◌∷◌, ◌++◌, length}
 use Rattle.std.specs.Ordering.{nat_cmp}
@@ -12,8 +12,7 @@ use Rattle.h5_model.specs.Format.Plain.{header_bytes}
 use Rattle.h5_model.specs.Format.Reads.{Placed, ReadsAs, HasObject, all_blocks}
 use Rattle.h5_model.specs.Format.Sizes.{header_size}
 use Rattle.h5_model.specs.Format.Superblock.{leaf_k, internal_k}
-use Rattle.h5_model.specs.Tree.Objects.{Tree, Object, Array, Dataset, Chunked}
-use Rattle.h5_layout.specs.StoredAt.{HasStored}
+use Rattle.h5_model.specs.Tree.Objects.{Tree, Object, Array, Dataset}
 use Rattle.h5_repack.specs.Bodies.Bodies.{others_of, array_messages}
 use Rattle.h5_repack.specs.Bodies.Headers.{AreStoredFor, is_stored, data_of}
 use Rattle.h5_repack.specs.Bodies.Sound.{IsPlainObject, IsPlainArray}
@@ -42,15 +41,6 @@ ArrayReads = (image : List ℕ) (table : FinMap nat_cmp ℕ) (at place count : �
     → part place (length (data_of stored d place)) image ≡ data_of stored d place
     → (blocks : List Block) × HasObject image table at p (block at (header_size p) ∷ blocks) × (reference_count (prefix_at image at) ≡ count)
     × Run place blocks (place + length (data_of stored d place))
-
--- And where the array is in chunks, those that are stored have just these offsets.
-abbrev pub ArrayStored : Type 0
-ArrayStored = (image : List ℕ) (at place count : ℕ) (p : Object) (d : Dataset) (stored : List (List ℕ)) (chunk : List ℕ) → IsPlainObject p → p.content ≡ Array d
-    → IsPlainArray d (length (others_of p)) → AreStoredFor stored d → 3 + length (others_of p) ≤ 65535 → count < 2 ^ 32 → header_size p < 2 ^ 31
-    → place + length (data_of stored d place) < 2 ^ 63
-    → part at (header_size p) image ≡ counted_header count p d (if is_stored stored d.storage then Some place else None)
-    → part place (length (data_of stored d place)) image ≡ data_of stored d place
-    → d.storage ≡ Chunked chunk → HasStored image at stored
 
 -- it has the length that is counted for it
 abbrev pub ArrayLength : Type 0

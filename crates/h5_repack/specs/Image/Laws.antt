@@ -1,11 +1,8 @@
--- What is shown of plain images: they read as their trees, their blocks hold each byte once, their arrays have just the chunks that are
--- stored, and their length is the plain length.
-use Rattle.std.specs.Prelude.{◌≡◌, ℕ, ◌^◌, ◌≤◌, Some, List, length}
-use Rattle.std.specs.FinMap.{get}
+-- What is shown of plain images: they read as their trees, their blocks hold each byte once, and their length is the plain length.
+use Rattle.std.specs.Prelude.{◌≡◌, ℕ, ◌^◌, ◌≤◌, List, length}
 use Rattle.h5_model.specs.Format.PlainLength.{plain_length}
 use Rattle.h5_model.specs.Format.PlainSuperblock.{plain_chunk_k}
-use Rattle.h5_model.specs.Tree.Objects.{Tree, Object, Dataset, Chunked, dataset_of}
-use Rattle.h5_layout.specs.StoredAt.{HasStored}
+use Rattle.h5_model.specs.Tree.Objects.{Tree, Object}
 use Rattle.h5_repack.specs.Bodies.Laws.{IsPlainReading}
 use Rattle.h5_repack.specs.Image.Plain.{IsPlainTree}
 use Rattle.h5_repack.specs.Image.Written.{IsOrder, StoredIn, counts_of, image_end, plain_image, table_of}
@@ -14,14 +11,6 @@ abbrev pub ImageReads : Type 0
 ImageReads = (leaf internal : ℕ) (stored : StoredIn) (tree : Tree) (order : List (ℕ × Object)) → IsPlainTree leaf internal stored tree
     → IsOrder tree order → image_end leaf internal (counts_of stored) order ≤ 2 ^ 31
     → IsPlainReading (plain_image leaf internal stored tree order) leaf internal (table_of leaf internal (counts_of stored) order) tree
-
--- where the header of an array in chunks stands, just its stored chunks are there
-abbrev pub ImageStored : Type 0
-ImageStored = (leaf internal : ℕ) (stored : StoredIn) (tree : Tree) (order : List (ℕ × Object)) → IsPlainTree leaf internal stored tree
-    → IsOrder tree order → image_end leaf internal (counts_of stored) order ≤ 2 ^ 31
-    → (number : ℕ) (d : Dataset) (chunk : List ℕ) → dataset_of tree number ≡ Some d → d.storage ≡ Chunked chunk
-    → (header : ℕ) × (get (table_of leaf internal (counts_of stored) order) number ≡ Some header)
-    × HasStored (plain_image leaf internal stored tree order) header (stored number)
 
 -- whatever chunks are stored
 abbrev pub ImageLength : Type 0

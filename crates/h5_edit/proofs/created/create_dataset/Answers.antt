@@ -1,4 +1,4 @@
-use Rattle.std.proofs.Common.{◌∙◌, ◌+◌, ap, arith, false, inl, refl, rules}
+use Rattle.std.proofs.Common.{◌+◌, ap, arith, inl, refl, rules}
 use Rattle.std.specs.Int.{w128}
 use Rattle.std.proofs.lemmas.Int.{to_z-of_z}
 use Rattle.std.proofs.lemmas.Result.{err_from_is_err_and}
@@ -63,7 +63,7 @@ returns-in_default c =
     c.new-others.result c.new-others.ensures c.array_header_length-header.result c.data_length-data.result c.array_header_length-header.ensures.exact c.data_length-data.ensures in
     let long = data_is f placed c.size-size.ensures.one_of c.in_ok-place.ensures.typed c.array_from-array.result c.array_from-array.ensures
     c.new-others.result c.new-others.ensures c.array_header_length-header.result c.data_length-data.result c.array_header_length-header.ensures.exact c.data_length-data.ensures in (
-      rw c.link_fault.ensures
+      rw c.insertion_fault.ensures
           (object_too_long f c.next-number.ensures.sound placed (inl refl) (new_object (Array (new_dataset spec))) (new_header spec + contiguous_data spec) refl
           (λ table n. array_edit f table n placed) (c.array_header_length-header.result + contiguous_data spec) counted
           (c.in_default.ensures (contiguous_data spec) long) c.no_room.result c.no_room.ensures.deep c.no_room.ensures.full),
@@ -94,7 +94,7 @@ push_array_header-requires-clause-address c =
 pub returns-in_err-push_array_header : goal.returns-in_err-push_array_header
 returns-in_err-push_array_header c =
     let p = err_from_is_err_and c.from_residual-in_err-push_array_header.result c.from_residual-in_err-push_array_header.ensures.1 in
-    rw (p.1, p.2) (short_of_memory c.args.opened.now (CreateDataset c.args.path.now c.args.spec.now) (λ _. (false, refl)), refl)
+    rw (p.1, p.2) (short_of_memory c.args.opened.now (CreateDataset c.args.path.now c.args.spec.now), refl)
 
 pub add_object-added-requires-clause-group : goal.add_object-added-requires-clause-group
 add_object-added-requires-clause-group c = group_asked c.args.opened.now c.next-number.ensures.sound c.in_ok-place.ensures.placed (inl refl)

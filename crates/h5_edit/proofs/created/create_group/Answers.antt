@@ -1,4 +1,4 @@
-use Rattle.std.proofs.Common.{◌≡◌, ◌+◌, ◌++◌, ◌∙◌, ap, drop, false, inl, List, ℕ, refl, sym, take}
+use Rattle.std.proofs.Common.{◌+◌, ◌∙◌, ap, inl, refl}
 use Rattle.std.proofs.lemmas.Result.{err_from_is_err_and}
 use Rattle.std.specs.FinMap.{empty}
 use Rattle.h5_model.specs.Edits.Applied.{new_object}
@@ -27,7 +27,7 @@ returns-in_default c =
     let f = c.args.opened.now in
     let placed = c.in_ok-place.ensures in
     let internal = c.k_of-k.ensures.internal ∙ ap internal_k c.image.ensures.bytes in (
-      rw c.link_fault.ensures
+      rw c.insertion_fault.ensures
           (object_too_long f c.next-number.ensures.sound placed (inl refl) (new_object (Group empty)) (group_node (internal_k f.image) + 160) refl
           (λ table bytes. group_edit f table bytes placed) c.bare_group_length.result (c.bare_group_length.ensures ∙ ap (λ k. group_node k + 160) internal)
           c.in_default.ensures.place c.no_room.result c.no_room.ensures.deep c.no_room.ensures.full),
@@ -37,7 +37,7 @@ returns-in_default c =
 pub returns-in_err-push_bare_group : goal.returns-in_err-push_bare_group
 returns-in_err-push_bare_group c =
     let p = err_from_is_err_and c.from_residual-in_err-push_bare_group.result c.from_residual-in_err-push_bare_group.ensures.1 in
-    rw (p.1, p.2) (short_of_memory c.args.opened.now (CreateGroup c.args.path.now) (λ _. (false, refl)), refl)
+    rw (p.1, p.2) (short_of_memory c.args.opened.now (CreateGroup c.args.path.now), refl)
 
 pub add_object-added-requires-clause-group : goal.add_object-added-requires-clause-group
 add_object-added-requires-clause-group c = group_asked c.args.opened.now c.next-number.ensures.sound c.in_ok-place.ensures (inl refl)

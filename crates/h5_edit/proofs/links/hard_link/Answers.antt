@@ -39,7 +39,7 @@ returns-in-Err c =
     let placed = c.in_ok-number.ensures in
     let table = table_there f c.next-next.ensures.sound placed.1 (inl refl) in
     let says = c.add_link.ensures in (
-      rw c.link_fault.ensures
+      rw c.insertion_fault.ensures
           (link_refused f c.args.path.now _ _ (HardLink c.args.target.now c.args.path.now) table.0 _ _ _ _ (hard_edit f placed table.0) table.1 placed.1.allowed
           c.add_link.result (says.deep table.0 table.1) (says.full table.0 table.1) c.in-Err.fault c.in-Err.is),
       rw c.in-Err.is at says.refused,

@@ -1,4 +1,4 @@
-use Rattle.std.proofs.Common.{inl, refl, sym}
+use Rattle.std.proofs.Common.{inl, refl}
 use Rattle.h5_model.specs.declared.edits.Edit.TheVariants.{SoftLink}
 use Rattle.h5_edit.proofs.RuleLaws.Exits.{passed_on}
 use Rattle.h5_edit.proofs.LinkFacts.{free_asked, group_asked, link_made, link_refused, soft_edit, sound_asked, table_there}
@@ -36,7 +36,7 @@ returns-in-Err c =
     let placed = c.in_ok-place.ensures in
     let table = table_there f c.next-next.ensures.sound placed (inl refl) in
     let says = c.add_link.ensures in (
-      rw c.link_fault.ensures
+      rw c.insertion_fault.ensures
           (link_refused f c.args.path.now _ _ (SoftLink c.args.text.now c.args.path.now) table.0 _ _ _ _ (soft_edit f placed table.0) table.1 placed.allowed
           c.add_link.result (says.deep table.0 table.1) (says.full table.0 table.1) c.in-Err.fault c.in-Err.is),
       rw c.in-Err.is at says.refused,

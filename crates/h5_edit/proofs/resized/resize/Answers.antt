@@ -1,50 +1,54 @@
-use Rattle.std.proofs.Common.{refl, sym, ap, ◌∙◌}
+use Rattle.std.proofs.Common.{ap, refl, sym, ◌∙◌}
 use Rattle.std.specs.Option.{option_and_then}
 use Rattle.h5_model.specs.Tree.Objects.{dataset_of}
 use Rattle.h5_model.specs.declared.edits.Edit.TheVariants.{Resize}
-use Rattle.h5_edit.proofs.RuleLaws.Exits.{passed_on}
-use Rattle.h5_edit.proofs.Fitting.{object_found, resize_fits, sizes_total}
-use Rattle.h5_edit.proofs.Refusals.{by_rule, by_header}
-use Rattle.h5_edit.proofs.TotalLaws.{space_whole}
+use Rattle.h5_edit.proofs.ArraysThere.{array_there}
+use Rattle.h5_edit.proofs.ExtentFacts.{resize_made, resize_refused_full, resize_refused_long}
+use Rattle.h5_edit.proofs.MaximaLaws.{lacks_told}
+use Rattle.h5_edit.proofs.Refusals.{short_of_memory}
+use Rattle.h5_edit.proofs.RuleLaws.Resizes.{can_have}
 use Rattle.h5_edit.proofs.resized.resize.Goals as goal
 
-pub returns-in_err-number-clause-edited : goal.returns-in_err-number-clause-edited
-returns-in_err-number-clause-edited c =
-    passed_on _ _ c.from_residual.result _ c.from_residual.ensures.1
-    (by_rule c.args.opened.now (Resize c.args.path.now c.args.dims.now) _ c.in_err-number.ensures.at)
-
-pub unwrap-object-requires : goal.unwrap-object-requires
-unwrap-object-requires c =
-    object_found c.args.opened.now c.in_ok-number.ensures.sound c.args.path.now c.in_ok-number.number c.in_ok-number.ensures.at.0.object c.object.result c.object.ensures.found
-
-pub is_header_full-requires-clause-whole : goal.is_header_full-requires-clause-whole
-is_header_full-requires-clause-whole c =
+pub resize-requires : goal.resize-requires
+resize-requires c =
     let f = c.args.opened.now in
     let at = c.in_ok-number.ensures.at in
-    let of = rw c.unwrap-object.ensures at c.object.ensures.found in
-    rw c.image.ensures.bytes
-    (space_whole f c.in_ok-number.number c.unwrap-object.result.now of at.1 (sym (ap (option_and_then (dataset_of f.tree)) at.0.object) ∙ at.2))
+    let array = sym (ap (option_and_then (dataset_of f.tree)) at.0.object) ∙ at.2 in
+    let there = array_there f c.in_ok-number.ensures.sound c.in_ok-number.number at.1 array in
+    let found = ap (option_and_then (dataset_of f.tree)) at.0.object ∙ there.1.told in
+    record { array = (there.0, there.1, can_have f c.args.path.now c.args.dims.now there.0 at.0.allowed found) }
 
-pub returns-then-is_header_full-clause-edited : goal.returns-then-is_header_full-clause-edited
-returns-then-is_header_full-clause-edited c =
+pub returns-in-Ok : goal.returns-in-Ok
+returns-in-Ok c =
     let f = c.args.opened.now in
-    let at = c.in_ok-number.ensures.at in
-    let of = rw c.unwrap-object.ensures at c.object.ensures.found in
-    by_header f (Resize c.args.path.now c.args.dims.now) refl at.0.allowed
-    (sizes_total f c.args.path.now c.in_ok-number.number c.unwrap-object.result.now at.0.object of _
-    (sym (rw c.image.ensures.bytes at c.is_header_full.ensures) ∙ c.if-is_header_full.true) c.args.dims.now)
+    let lacks = lacks_told f c.in_ok-number.ensures.sound c.in_ok-number.number in
+    let says = c.resize.ensures in
+    resize_made f c.args.path.now c.args.dims.now c.in_ok-number.number c.in_ok-number.ensures.at.0 lacks.0 lacks.1 c.resize.result
+    (says.header_full lacks.0 lacks.1) (says.image_full lacks.0 lacks.1) _ c.in-Ok.is c.resize.new.self _ refl refl
+    ((rw c.in-Ok.is at says.changed) lacks.0 lacks.1) (rw c.in-Ok.is at says.trimmed)
 
-pub carry_out-requires : goal.carry_out-requires
-carry_out-requires c =
-    let of = rw c.unwrap-object.ensures at c.object.ensures.found in (
-      Resize c.args.path.now c.args.dims.now,
-      resize_fits c.args.opened.now c.args.dims c.unwrap-object.result.now c.in_ok-number.ensures.at of
-          (sym (rw c.image.ensures.bytes at c.is_header_full.ensures) ∙ c.if-is_header_full.false),
+pub returns-in-Err-HeaderFull : goal.returns-in-Err-HeaderFull
+returns-in-Err-HeaderFull c =
+    let f = c.args.opened.now in
+    let lacks = lacks_told f c.in_ok-number.ensures.sound c.in_ok-number.number in
+    let says = c.resize.ensures in (
+      resize_refused_full f c.args.path.now c.args.dims.now c.in_ok-number.number c.in_ok-number.ensures.at.0 lacks.0 lacks.1 c.resize.result
+          (says.header_full lacks.0 lacks.1) (says.image_full lacks.0 lacks.1) (rw c.in-Err-HeaderFull.field-0-is at c.in-Err-HeaderFull.is),
+      rw c.in-Err-HeaderFull.is at says.refused,
     )
 
-pub returns-clause-edited : goal.returns-clause-edited
-returns-clause-edited c =
-    let of = rw c.unwrap-object.ensures at c.object.ensures.found in
-    c.carry_out.ensures (Resize c.args.path.now c.args.dims.now)
-    (resize_fits c.args.opened.now c.args.dims c.unwrap-object.result.now c.in_ok-number.ensures.at of
-    (sym (rw c.image.ensures.bytes at c.is_header_full.ensures) ∙ c.if-is_header_full.false))
+pub returns-in-Err-ImageFull : goal.returns-in-Err-ImageFull
+returns-in-Err-ImageFull c =
+    let f = c.args.opened.now in
+    let lacks = lacks_told f c.in_ok-number.ensures.sound c.in_ok-number.number in
+    let says = c.resize.ensures in (
+      resize_refused_long f c.args.path.now c.args.dims.now c.in_ok-number.number c.in_ok-number.ensures.at.0 lacks.0 lacks.1 c.resize.result
+          (says.header_full lacks.0 lacks.1) (says.image_full lacks.0 lacks.1) (rw c.in-Err-ImageFull.field-0-is at c.in-Err-ImageFull.is),
+      rw c.in-Err-ImageFull.is at says.refused,
+    )
+
+pub returns-in-Err-NoMemory : goal.returns-in-Err-NoMemory
+returns-in-Err-NoMemory c = (
+  short_of_memory c.args.opened.now (Resize c.args.path.now c.args.dims.now),
+  rw c.in-Err-NoMemory.is at c.resize.ensures.refused,
+)

@@ -11,13 +11,13 @@ returns-in_err-target c =
     (by_rule c.args.opened.now (Write c.args.path.now c.args.hyper.now c.args.values.now) _ c.in_err-target.ensures.at, refl)
 
 pub write_standing-requires-clause-run : goal.write_standing-requires-clause-run
-write_standing-requires-clause-run c = rw c.in-Some.is (run_asked c.in_ok-target.ensures.at c.in-Some.cells c.in-Some.is)
+write_standing-requires-clause-run c = rw c.in-Some.is (run_asked c.in_ok-target.ensures.at c.in-Some.cells c.in-Some.is c.check_write.ensures.sound)
 
 pub write_standing-requires-clause-some : goal.write_standing-requires-clause-some
-write_standing-requires-clause-some c = some_asked c.in_ok-target.ensures.at c.in-Some.cells c.in-Some.is
+write_standing-requires-clause-some c = some_asked c.in_ok-target.ensures.at c.in-Some.cells c.in-Some.is c.check_write.ensures.sound
 
 pub write_standing-requires-clause-standing : goal.write_standing-requires-clause-standing
-write_standing-requires-clause-standing c = rw c.in-Some.is (standing_asked c.in_ok-target.ensures.at c.in-Some.cells c.in-Some.is)
+write_standing-requires-clause-standing c = rw c.in-Some.is (standing_asked c.in_ok-target.ensures.at c.in-Some.cells c.in-Some.is c.check_write.ensures.sound)
 
 pub write_selected-requires : goal.write_selected-requires
 write_selected-requires c = (c.args.path.now, c.in_ok-target.ensures.at.write)

@@ -1,15 +1,14 @@
-use Rattle.std.proofs.Common.{rules, to_z, of_z, ◌≡◌, ◌+◌, ◌-◌, ◌/◌, ◌≤◌, ◌++◌, ℕ, List, length, replicate, take, drop, sym, ap, ◌∙◌, subst, arith}
+use Rattle.std.proofs.Common.{rules, to_z, of_z, ◌≡◌, ◌+◌, ◌-◌, ◌≤◌, ◌++◌, ℕ, List, length, take, drop, ap, ◌∙◌, subst, arith}
 use mir.Syntax.{w128}
 use Rattle.std.specs.Prelude.{OnOk}
 use Rattle.h5_bytes.specs.Bytes.{part}
 use Rattle.h5_model.specs.Format.Plain.{cells_bytes}
-use Rattle.h5_model.specs.Tree.Places.{cells}
 use Rattle.h5_layout.specs.HeldChunks.{HeldCells}
-use Rattle.h5_layout.specs.Kept.{KeptChunks, corner_values, kept_values}
-use Rattle.h5_layout.specs.Spans.{CellFill, span_sizes, span_slices}
+use Rattle.h5_layout.specs.Kept.{KeptChunks, corner_values}
+use Rattle.h5_layout.specs.Spans.{span_sizes, span_slices}
 use Rattle.h5_layout.specs.declared.held.HeldChunks.TheInside.{Inside}
 use Rattle.h5_layout.proofs.GridLaws.{slice_part}
-use Rattle.h5_layout.proofs.KeptLaws.{cells_of_bytes, ends_inside, values_there, whole}
+use Rattle.h5_layout.proofs.KeptLaws.{ends_inside, values_there, whole}
 use Rattle.h5_layout.proofs.held.HeldChunks.push_chunk.Goals as goal
 
 -- what the chunks are
@@ -19,17 +18,17 @@ kept f = record { image = f.image.now.bytes; fixed = f.fixed; fill = f.fill; chu
 pub overflow_add-bytes : goal.overflow_add-bytes
 overflow_add-bytes c =
     let f = c.self.inside in
-    let end : c.in-Some.at + f.chunk_length ≤ length f.image.now.bytes
+    let end : c.index-place.result.now.at + f.chunk_length ≤ length f.image.now.bytes
     = ends_inside (kept f) f.places.items c.args.self.now c.self.view_is c.args.k c.index-place.result.now c.requires c.index-place.ensures c.self.invariant.2
-    c.in-Some.at f.chunk_length c.in-Some.is c.self.invariant.1 in
+    f.chunk_length c.self.invariant.1 in
     omega (arith, end, ap length c.bytes.ensures, c.bytes.type_inv.0)
 
 pub slice_bounds-bytes-end : goal.slice_bounds-bytes-end
 slice_bounds-bytes-end c =
     let f = c.self.inside in
-    let end : c.in-Some.at + f.chunk_length ≤ length f.image.now.bytes
+    let end : c.index-place.result.now.at + f.chunk_length ≤ length f.image.now.bytes
     = ends_inside (kept f) f.places.items c.args.self.now c.self.view_is c.args.k c.index-place.result.now c.requires c.index-place.ensures c.self.invariant.2
-    c.in-Some.at f.chunk_length c.in-Some.is c.self.invariant.1 in
+    f.chunk_length c.self.invariant.1 in
     omega (arith, end, ap length c.bytes.ensures)
 
 pub write_spans-requires-clause-long : goal.write_spans-requires-clause-long
@@ -37,10 +36,10 @@ write_spans-requires-clause-long c =
     let f = c.self.inside in
     (whole (kept f) f.places.items c.args.self.now c.self.view_is c.args.k c.index-place.result.now c.requires c.index-place.ensures c.self.invariant.2).long
 
-pub returns-in-Some : goal.returns-in-Some
-returns-in-Some c got_part got =
+pub returns : goal.returns
+returns c got_part got =
     let f = c.self.inside in
-    let at : ℕ = c.in-Some.at in
+    let at : ℕ = c.index-place.result.now.at in
     let spans = c.write_spans.new.spans in
     let bytes : take (at + f.chunk_length - at) (drop at c.bytes.result.now) ≡ part at f.chunk_length f.image.now.bytes
     = slice_part at f.chunk_length c.bytes.result.now ∙ ap (part at f.chunk_length) c.bytes.ensures in
@@ -49,22 +48,6 @@ returns-in-Some c got_part got =
     let passed : to_z w128 (of_z w128 f.fill) ≡ f.fill = search rules in
     let values : corner_values f.fixed (to_z w128 (of_z w128 f.fill)) (span_sizes spans) (span_slices spans) (take (at + f.chunk_length - at) (drop at c.bytes.result.now)) ≡ got_part.1
     = (λ i. corner_values f.fixed (passed i) (c.write_spans.ensures.sizes i) (c.write_spans.ensures.slices i) ((bytes ∙ length_is) i))
-    ∙ ap (λ o. kept_values (kept f) (record { key = c.index-place.result.now.key.now; at = o })) (sym c.in-Some.is)
     ∙ values_there (kept f) f.places.items c.args.self.now c.self.view_is c.args.k c.index-place.result.now c.requires c.index-place.ensures got_part got in
     subst (λ (xs : List ℕ). OnOk c.push_kept.result (c.push_kept.new.out.items ≡ c.args.out.now.items ++ xs))
     (λ i. cells_bytes (same i) (values i)) c.push_kept.ensures
-
-pub returns-in-None : goal.returns-in-None
-returns-in-None c got_part got =
-    let f = c.self.inside in
-    let same : f.fixed ≡ c.args.self.now.fixed = ap (λ (h : HeldCells). h.fixed) c.self.view_is in
-    let passed : to_z w128 (of_z w128 f.fill) ≡ f.fill = search rules in
-    let count : f.chunk_length / c.size.result ≡ cells (take f.rank f.chunk)
-    = ap (λ n. f.chunk_length / n) c.size.ensures.size ∙ cells_of_bytes f.chunk_length (take f.rank f.chunk) f.fixed c.self.invariant.2.sound c.self.invariant.1 in
-    let values : replicate (f.chunk_length / c.size.result) (to_z w128 (of_z w128 f.fill)) ≡ got_part.1
-    = (λ i. replicate (count i) (passed i))
-    ∙ ap (λ o. kept_values (kept f) (record { key = c.index-place.result.now.key.now; at = o })) (sym c.in-None.is)
-    ∙ values_there (kept f) f.places.items c.args.self.now c.self.view_is c.args.k c.index-place.result.now c.requires c.index-place.ensures got_part got in
-    subst (λ (xs : List ℕ). OnOk c.push.result (c.push.new.out.items ≡ c.args.out.now.items ++ xs)) (λ i. cells_bytes (same i) (values i))
-    (subst (λ (e : CellFill). OnOk c.push.result (c.push.new.out.items ≡ c.args.out.now.items ++ cells_bytes e.fixed (replicate (f.chunk_length / c.size.result) e.fill)))
-    c.new.ensures c.push.ensures)

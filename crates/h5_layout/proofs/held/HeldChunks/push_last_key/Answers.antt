@@ -2,11 +2,11 @@ use Rattle.std.proofs.Common.{◌≡◌, ◌+◌, ◌-◌, ◌*◌, ◌<◌, ◌
 use Rattle.std.specs.Prelude.{OnOk}
 use Rattle.std.specs.List.{AllZip}
 use Rattle.h5_model.specs.Format.Chunks.{IsOffset, offsets_in}
+use Rattle.h5_chunks.specs.Held.{IsChunkPlace}
 use Rattle.h5_chunks.specs.Keys.{chunk_key, index_from}
 use Rattle.h5_layout.specs.Data.{chunk_shape}
 use Rattle.h5_layout.specs.HeldChunks.{HeldCells}
-use Rattle.h5_layout.specs.Kept.{IsKeptPlace, KeptChunks}
-use Rattle.h5_layout.specs.Merged.{place_kept}
+use Rattle.h5_layout.specs.Kept.{KeptChunks}
 use Rattle.h5_layout.specs.declared.held.HeldChunks.TheInside.{Inside}
 use Rattle.h5_layout.proofs.KeptLaws.{length-parts, offsets_there, whole}
 use Rattle.h5_layout.proofs.held.HeldChunks.push_last_key.Goals as goal
@@ -31,7 +31,7 @@ module _ (c : After-chunk) where
   chunk_is : take c.self.inside.rank c.self.inside.chunk ≡ c.chunk.result.now
   chunk_is = ap (λ (h : HeldCells). h.chunk) c.self.view_is ∙ sym c.chunk.ensures.sizes
 
-  own : IsKeptPlace c.self.inside.image.now.bytes (chunk_shape c.self.inside.fixed (take c.self.inside.rank c.self.inside.chunk)) (place_kept c.index.result.now)
+  own : IsChunkPlace c.self.inside.image.now.bytes (chunk_shape c.self.inside.fixed (take c.self.inside.rank c.self.inside.chunk)) c.index.result.now
   own = whole (kept c.self.inside) c.self.inside.places.items c.args.self.now c.self.view_is last c.index.result.now low c.index.ensures c.self.invariant.2
 
   offsets : (part : List ℕ × List ℤ) → slice_get c.args.self.now.parts (length c.args.self.now.parts - 1) ≡ Some part

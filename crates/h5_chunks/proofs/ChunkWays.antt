@@ -1,0 +1,149 @@
+-- Ways down a tree of chunks: they end in it, at the chunk that is sought, where it is stored.
+use Rattle.std.proofs.Common.{◌≡◌, ℕ, zero, suc, ◌+◌, ◌<◌, ◌≤◌, ◌^◌, Bool, List, [], ◌∷◌, ◌++◌, length, map, get_or, slice_index, Option, None, IsSome, refl, sym, ap, ◌∙◌, subst, arith}
+use Rattle.std.proofs.lemmas.List.{places}
+use Rattle.std.proofs.lemmas.Option.{slice_get-get_or}
+use Rattle.std.specs.Ordering.{nat_cmp}
+use Rattle.std.specs.declared.cmp.Ordering.{Ordering}
+use Rattle.std.specs.declared.cmp.Ordering.TheVariants.{Equal, Greater, Less}
+use Rattle.std.specs.Cmp.Lexicographic.{slice_cmp}
+use Rattle.std.specs.FinMap.{get, values}
+use Rattle.h5_bytes.specs.Blocks.{block, cover}
+use Rattle.h5_bytes.proofs.BlockLaws.{cover-append}
+use Rattle.h5_model.specs.Format.Chunks.{all_offsets_in, offsets_in}
+use Rattle.h5_model.specs.Format.Nodes.{IsNode, Kind, node_at, node_bytes, node_length, reading_of, tree_blocks}
+use Rattle.h5_model.specs.Format.Reached.{Shape, level_at, shape_kind}
+use Rattle.h5_model.specs.Format.Rows.{Node, Reading, leaves, next_row}
+use Rattle.h5_model.proofs.RowLaws.{at_listed, root_level}
+use Rattle.h5_space.specs.Space.{Space}
+use Rattle.h5_space.specs.Whole.{IsApart}
+use Rattle.h5_btree.specs.Descent.{EndsAt, IsWayTo}
+use Rattle.h5_btree.specs.Removal.{EndsInTree}
+use Rattle.h5_btree.specs.declared.way.Step.{Step}
+use Rattle.h5_btree.proofs.ClimbSteps.{inside_of_apart}
+use Rattle.h5_btree.proofs.LeafLaws.{next_row-append}
+use Rattle.h5_btree.proofs.TreeReadings.{owned_at}
+use Rattle.h5_btree.proofs.WayInTree.{way_in_tree}
+use Rattle.h5_btree.proofs.WayRows.{leaves_here}
+use Rattle.h5_btree.proofs.WaySteps.{first_owned}
+use Rattle.h5_chunks.specs.Edited.{AreChunksApart}
+use Rattle.h5_chunks.specs.Told.{chunk_blocks_told, chunks_told}
+use Rattle.h5_chunks.specs.Way.{chunk_behind}
+use Rattle.h5_chunks.proofs.ChunkFound.{heads, key_is_chunk, chunk_absent, key_low, stored_there, top}
+
+-- ---- the first step of a way
+
+module _ (V : Reading) (behind : List ℕ → Bool) where
+  first_step : (level at : ℕ) (way : List Step) → IsWayTo V behind level at way
+      → (step : Step) × (above : List Step) × (way ≡ step ∷ above) × EndsAt V behind level at (V step.node) step.place
+  first_step zero at way to = (record { node = at; place = to.0 }, [], to.2, (refl, to.1))
+  first_step (suc level) at way to =
+      let s : Step = record { node = at; place = to.0 } in
+      let r = first_step level (slice_index (V at).children to.0) to.1 to.3 in
+      (r.0, r.1 ++ s ∷ [], to.4 ∙ ap (λ (xs : List Step). xs ++ s ∷ []) r.2, (to.0, to.2, r.3))
+
+  -- it is where the way ends
+  pub first_ends : (level at : ℕ) (step : Step) (above way : List Step) → way ≡ step ∷ above → IsWayTo V behind level at way
+      → EndsAt V behind level at (V step.node) step.place
+  first_ends level at step above way is to =
+      let r = first_step level at way to in
+      let both : step ∷ above ≡ r.0 ∷ r.1 = sym is ∙ r.2 in
+      let same : r.0 ≡ step = cc in
+      subst (λ (s : Step). EndsAt V behind level at (V s.node) s.place) same r.3
+
+-- ---- the child at the end of a way is one of those at the bottom, by its number
+
+amid : (xs ys zs : List ℕ) (i k : ℕ) → i < length ys → k ≡ length xs + i → (k < length (xs ++ (ys ++ zs))) × (get_or (xs ++ (ys ++ zs)) k 0 ≡ get_or ys i 0)
+amid xs ys zs i k low at = (grind (arith, places, low, at), grind (arith, places, low, at))
+
+module _ (s : Space) (kind : Kind) (root level : ℕ) (way : List Step) (owned list : List ℕ) (k : ℕ) (e : EndsInTree s kind root level way owned list k) where
+  abbrev Y : Reading
+  Y = reading_of s.bytes kind owned
+
+  abbrev p : ℕ
+  p = (e.step).node
+
+  list_is : list ≡ next_row Y e.front ++ ((Y p).children ++ next_row Y e.back)
+  list_is =
+      let bottom = leaves_here Y root p e.above e.front e.back e.leads e.row in
+      let high : level ≡ length e.above = sym (root_level Y level root (e.tree).rows) ∙ root_level Y (length e.above) root bottom.0 in
+      (e.tree).all ∙ ap (λ (l : ℕ). leaves Y l (root ∷ [])) high ∙ bottom.1 ∙ next_row-append Y e.front (p ∷ e.back)
+
+  pub end_here : Y p ≡ node_at s.bytes kind p
+  end_here = owned_at (node_at s.bytes kind) owned p (first_owned s kind root level way owned list k e)
+
+  pub end_listed : (k < length list) × (get_or list k 0 ≡ get_or (node_at s.bytes kind p).children (e.step).place 0)
+  end_listed =
+      let all = amid (next_row Y e.front) (Y p).children (next_row Y e.back) (e.step).place k e.place e.number in
+      subst (λ (xs : List ℕ). (k < length xs) × (get_or xs k 0 ≡ get_or (node_at s.bytes kind p).children (e.step).place 0)) (sym list_is)
+      (all.0, all.1 ∙ ap (λ (o : Node). get_or o.children (e.step).place 0) end_here)
+
+  -- a node stands there, and has that child
+  pub end_stands : (p + node_length kind ≤ length s.bytes) × IsNode kind (node_bytes s.bytes kind p) × ((e.step).place < length (node_at s.bytes kind p).children)
+  end_stands =
+      let listed = first_owned s kind root level way owned list k e in (
+        inside_of_apart s kind owned e.apart p listed,
+        at_listed (λ at. IsNode kind (node_bytes s.bytes kind at)) owned p (e.tree).formed listed,
+        subst (λ (o : Node). (e.step).place < length o.children) end_here e.place,
+      )
+
+-- ---- in a tree of chunks
+
+module _ (s : Space) (shape : Shape) (root : ℕ) (chunks : AreChunksApart s shape root) where
+  abbrev kind : Kind
+  kind = shape_kind s.bytes shape
+
+  abbrev V : Reading
+  V = node_at s.bytes kind
+
+  abbrev level : ℕ
+  level = ((chunks.read).stored).level
+
+  abbrev owned : List ℕ
+  owned = ((chunks.read).stored).owned
+
+  abbrev list : List ℕ
+  list = values (chunks_told s.bytes shape root)
+
+  abbrev pub ChunkWay : List Step → ℕ → Type 0
+  ChunkWay way k = EndsInTree s kind root level way owned list k
+
+  -- its blocks, one after another
+  pub chunks_cover : (p : ℕ) → cover p (chunk_blocks_told s.bytes shape root) ≡ cover p (tree_blocks kind owned) + cover p (map (λ (at : ℕ). block at shape.bytes) list)
+  chunks_cover p =
+      let all = ap (cover p) ((chunks.read).stored).laid in
+      omega (arith, all, cover-append p (tree_blocks kind owned) (map (λ (at : ℕ). block at shape.bytes) list))
+
+  nodes_apart : IsApart (tree_blocks kind owned) s.free (length s.bytes)
+  nodes_apart p = omega (arith, chunks.apart p, chunks_cover p)
+
+  module _ (short : length s.bytes < 2 ^ 64) (offsets : List ℕ) (way : List Step) (to : IsWayTo V (chunk_behind offsets) (level_at s.bytes kind root) root way) where
+    own_way : IsWayTo V (chunk_behind offsets) level root way
+    own_way = subst (λ (l : ℕ). IsWayTo V (chunk_behind offsets) l root way) (top s.bytes shape root chunks.read) to
+
+    -- the way ends in the tree
+    pub way_leads : (k : ℕ) × ChunkWay way k
+    way_leads = way_in_tree s kind root level owned list (chunk_behind offsets) way (stored_there s.bytes shape root chunks.read) nodes_apart short own_way
+
+    module _ (same : length offsets ≡ length shape.sizes) (there : IsSome (get (chunks_told s.bytes shape root) offsets))
+        (step : Step) (above : List Step) (is : way ≡ step ∷ above) where
+      ends : EndsAt V (chunk_behind offsets) (level_at s.bytes kind root) root (V step.node) step.place
+      ends = first_ends V (chunk_behind offsets) (level_at s.bytes kind root) root step above way is to
+
+      abbrev key : List ℕ
+      key = get_or (V step.node).keys step.place []
+
+      missing : get (chunks_told s.bytes shape root) offsets ≡ None → ⊥
+      missing none = let never : IsSome {T = ℕ} None = subst (λ (o : Option ℕ). IsSome o) none there in absurd (cc)
+
+      -- and the key at its end has these offsets, where a chunk is stored there
+      pub key_has : offsets_in (length shape.sizes) key ≡ offsets
+      key_has = by_order (slice_cmp nat_cmp (all_offsets_in (length shape.sizes) key) (offsets ++ 0 ∷ [])) refl where
+        other : (key_is_chunk (length shape.sizes) key offsets same → ⊥) → ⊥
+        other not =
+            missing (chunk_absent s.bytes shape root chunks.read offsets same (V step.node) step.place ends key
+            (slice_get-get_or (V step.node).keys step.place [] (key_low s.bytes shape root chunks.read offsets same (V step.node) step.place ends)) not)
+
+        by_order : (r : Ordering) → slice_cmp nat_cmp (all_offsets_in (length shape.sizes) key) (offsets ++ 0 ∷ []) ≡ r → offsets_in (length shape.sizes) key ≡ offsets
+        by_order Equal is = heads (length shape.sizes) key offsets same is
+        by_order Less is = absurd (other (λ tied. let never : Less ≡ Equal = sym is ∙ tied in cc))
+        by_order Greater is = absurd (other (λ tied. let never : Greater ≡ Equal = sym is ∙ tied in cc))

@@ -1,0 +1,117 @@
+-- The first chunk of a tree of chunks that was read: the root's only child, between its own key and a key past it (File Format Specification
+-- 3.0, section III.A.1).
+use Rattle.std.proofs.Common.{◌≡◌, ℕ, zero, suc, ◌^◌, ◌<◌, ◌≤◌, Bool, true, false, List, [], ◌∷◌, ◌++◌, length, map, refl, sym, ap, ◌∙◌, subst, arith}
+use Rattle.std.specs.Prelude.{if◌then◌else◌, ◌==◌}
+use Rattle.std.specs.FinMap.{entries, values}
+use Rattle.std.specs.List.{AllByRecursion, list_any}
+use Rattle.h5_bytes.specs.Blocks.{block, cover}
+use Rattle.h5_model.specs.Format.Chunks.{IsChunkKey, all_offsets_in, offsets_in}
+use Rattle.h5_model.specs.Format.Links.{Before, NotAfter}
+use Rattle.h5_model.specs.Format.Nodes.{HasTree, Kind, entries_in, node_at, node_bytes, reading_of, tree_blocks}
+use Rattle.h5_model.specs.Format.Reached.{Shape, shape_kind}
+use Rattle.h5_model.specs.Format.Rows.{blank, next_row}
+use Rattle.h5_model.proofs.TextOrder.{before_le, not_after_itself}
+use Rattle.h5_laws.specs.ChunkLadders.{rising_chunk_sides}
+use Rattle.h5_laws.specs.KeyEdits.{IsPut}
+use Rattle.h5_space.specs.Space.{Space}
+use Rattle.h5_btree.specs.Insertion.{IsChildPut, IsEmptyTree}
+use Rattle.h5_btree.specs.Keyed.{items_of_tree}
+use Rattle.h5_btree.proofs.KeyedFills.{first_sorted}
+use Rattle.h5_btree.proofs.NodeLaws.{length-children}
+use Rattle.h5_chunks.specs.Put.{HasChunkPut, IsBlockBeside}
+use Rattle.h5_chunks.specs.Told.{chunk_blocks_told, chunks_told, listed_told}
+use Rattle.h5_chunks.proofs.ChunkBlocks.{chunk_put}
+use Rattle.h5_chunks.proofs.ChunkFound.{stored_there}
+use Rattle.h5_chunks.proofs.FullWays.{trees_apart}
+use Rattle.h5_chunks.proofs.InsertedChunk.{IsChunkBefore}
+use Rattle.h5_chunks.proofs.KeyedTold.{IsKeyedChunk, IsOrderedTree, chunk_numbers, chunk_of, items_told, keyed_at}
+use Rattle.h5_chunks.proofs.ToldLaws.{entries_told}
+
+-- ---- a tree without children
+
+module _ (image : List ℕ) (kind : Kind) (root : ℕ) (owned : List ℕ) (none : (node_at image kind root).children ≡ []) where
+  read_none : (b : Bool) → (if b then node_at image kind root else blank).children ≡ []
+  read_none true = none
+  read_none false = refl
+
+  row_none : next_row (reading_of image kind owned) (root ∷ []) ≡ []
+  row_none = ap (λ (ns : List ℕ). ns ++ []) (read_none (list_any (λ n. n == root) owned))
+
+pub empty_tree : (image : List ℕ) (kind : Kind) (root level : ℕ) (owned list : List ℕ) → HasTree image kind root level owned list
+    → (node_at image kind root).children ≡ [] → (level ≡ 0) × (owned ≡ root ∷ []) × (list ≡ [])
+empty_tree image kind root zero owned list has none = (refl, has.owns, has.all ∙ row_none image kind root owned none)
+empty_tree image kind root (suc level) owned list has none =
+    let filled = subst (AllByRecursion (λ at. 1 ≤ entries_in (node_bytes image kind at))) has.owns (has.filled (omega arith)) in
+    let count = length-children kind (node_bytes image kind root) (node_at image kind root) refl in
+    let zero_long = ap (λ (ns : List ℕ). length ns) none in
+    absurd (omega (arith, filled.0, count, zero_long))
+
+no_entries : (es : List (List ℕ × ℕ)) → map (λ (e : List ℕ × ℕ). e.1) es ≡ [] → es ≡ []
+no_entries [] none = refl
+no_entries (e ∷ es) none = let long = ap (λ (ns : List ℕ). length ns) none in absurd (omega (arith, long))
+
+-- ---- the first chunk
+
+module _ (s : Space) (shape : Shape) (root chunk : ℕ) (beside : IsBlockBeside s shape root chunk)
+    (none : (node_at s.bytes (shape_kind s.bytes shape) root).children ≡ []) (short : length s.bytes < 2 ^ 64) where
+  abbrev kind : Kind
+  kind = shape_kind s.bytes shape
+
+  abbrev rank : ℕ
+  rank = length shape.sizes
+
+  abbrev owned : List ℕ
+  owned = (beside.read.stored).owned
+
+  abbrev list : List ℕ
+  list = values (chunks_told s.bytes shape root)
+
+  is_empty : ((beside.read.stored).level ≡ 0) × (owned ≡ root ∷ []) × (list ≡ [])
+  is_empty = empty_tree s.bytes kind root (beside.read.stored).level owned list (stored_there s.bytes shape root beside.read) none
+
+  -- the root is one without children
+  pub still_empty : IsEmptyTree s (shape_kind s.bytes shape) root (beside.read.stored).owned
+  still_empty = record {
+    tree = subst (λ (l : ℕ). HasTree s.bytes kind root l owned []) is_empty.0
+        (subst (HasTree s.bytes kind root (beside.read.stored).level owned) is_empty.2 (stored_there s.bytes shape root beside.read));
+    apart = trees_apart s shape root beside.read (λ p. omega (arith, beside.apart p)) short;
+    short = short;
+  }
+
+  module _ (some : 1 ≤ shape.bytes) (t : Space) (all : List ℕ) (put : IsChildPut s t (shape_kind s.bytes shape) root 0 (chunk ∷ []) (beside.read.stored).owned all)
+      (low high : List ℕ) (keys : (node_at t.bytes (shape_kind s.bytes shape) root).keys ≡ low ∷ high ∷ [])
+      (children : (node_at t.bytes (shape_kind s.bytes shape) root).children ≡ chunk ∷ []) (keyed : IsChunkKey shape.sizes shape.bytes low)
+      (past : Before (offsets_in (length shape.sizes) low ++ 0 ∷ []) (all_offsets_in (length shape.sizes) high)) where
+    abbrev x : List ℕ × ℕ
+    x = (offsets_in rank low, chunk)
+
+    own : all_offsets_in rank low ≡ offsets_in rank low ++ 0 ∷ []
+    own = chunk_numbers shape.sizes shape.bytes low keyed
+
+    sorted : IsOrderedTree t.bytes shape root 0 all (chunk ∷ []) put.tree × (items_of_tree (chunk_of rank) t.bytes kind keyed_at 0 root ≡ x ∷ [])
+    sorted =
+        let numbers = offsets_in rank low ++ 0 ∷ [] in
+        first_sorted (rising_chunk_sides rank) (chunk_of rank) (IsKeyedChunk shape) x t.bytes kind root keyed_at low high chunk keys children keyed refl
+        (subst (λ (ns : List ℕ). NotAfter ns numbers) (sym own) (not_after_itself numbers)) past
+        (subst (λ (ns : List ℕ). NotAfter ns (all_offsets_in rank high)) (sym own) (before_le numbers (all_offsets_in rank high) past))
+
+    none_listed : listed_told s.bytes shape root ≡ []
+    none_listed = sym (entries_told s.bytes shape root (chunks_told s.bytes shape root) (chunk_blocks_told s.bytes shape root) beside.read.stored)
+        ∙ no_entries (entries (chunks_told s.bytes shape root)) is_empty.2
+
+    more : IsPut IsChunkBefore x (listed_told s.bytes shape root) (listed_told t.bytes shape root)
+    more = record {
+      front = [];
+      back = [];
+      before = none_listed;
+      after = sym (items_told t.bytes shape root 0 all (chunk ∷ []) put.tree sorted.0) ∙ sorted.1;
+      above = tt;
+      below = tt;
+    }
+
+    laid : (p : ℕ) → cover p (chunk_blocks_told s.bytes shape root) ≡ cover p (tree_blocks kind owned ++ map (λ (at : ℕ). block at shape.bytes) [])
+    laid p = ap (cover p) (beside.read.stored).laid ∙ ap (λ (ns : List ℕ). cover p (tree_blocks kind owned ++ map (λ (at : ℕ). block at shape.bytes) ns)) is_empty.2
+
+    -- THE FIRST CHUNK is put in
+    pub first_put : HasChunkPut s t shape root (offsets_in (length shape.sizes) low) chunk
+    first_put = chunk_put s t shape root chunk beside some owned [] laid is_empty.2 0 all 0 put.moves put.tree sorted.0 (offsets_in rank low) more

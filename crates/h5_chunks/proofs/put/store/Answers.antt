@@ -1,0 +1,62 @@
+use Rattle.std.proofs.Common.{◌≡◌, ℕ, ◌^◌, ◌<◌, [], ◌∷◌, length, ap, ◌∙◌, subst, arith}
+use Rattle.std.specs.FinMap.{get}
+use Rattle.h5_bytes.specs.Blocks.{block}
+use Rattle.h5_model.specs.Format.Chunks.{Chunks, offsets_in}
+use Rattle.h5_model.specs.Format.Reached.{Shape}
+use Rattle.h5_space.specs.Moves.{Moves}
+use Rattle.h5_space.specs.Space.{growth}
+use Rattle.h5_space.proofs.MovesLaws.{moves_take, spends_take}
+use Rattle.h5_chunks.proofs.BehindLaws.{length-offsets}
+use Rattle.h5_chunks.proofs.BushyTrees.{bushy_beside}
+use Rattle.h5_chunks.proofs.TakenBlock.{beside_now, full_before, others_stay, stored_now, told_still}
+use Rattle.h5_chunks.proofs.put.store.Goals as goal
+use Rattle.h5_chunks.proofs.put.store.Goals.{After-take-chunk}
+
+module _ (c : After-take-chunk) where
+  bytes_are : c.shape.inside.bytes ≡ c.args.shape.now.bytes
+  bytes_are = ap (λ (o : Shape). o.bytes) c.shape.view_is
+
+  -- the block is taken
+  taken : Moves c.args.image.now c.take-chunk.new.self [] (block c.take-chunk.result c.args.shape.now.bytes ∷ [])
+  taken = subst (λ (n : ℕ). Moves c.args.image.now c.take-chunk.new.self [] (block c.take-chunk.result n ∷ [])) bytes_are
+      (moves_take c.args.image.now c.take-chunk.new.self c.take-chunk.result c.shape.inside.bytes (growth c.shape.inside.bytes c.args.image.now.free)
+      c.take-chunk.ensures.bytes c.take-chunk.ensures.taken)
+
+  short : length c.take-chunk.new.self.bytes < 2 ^ 64
+  short =
+      let spent = spends_take c.args.image.now c.take-chunk.new.self c.shape.inside.bytes c.take-chunk.ensures.bytes c.take-chunk.ensures.room_bytes c.take-chunk.ensures.room_blocks in
+      let grown = spent.grown in
+      omega (arith, grown, bytes_are, c.requires.short)
+
+pub put_chunk-requires-clause-beside : goal.put_chunk-requires-clause-beside
+put_chunk-requires-clause-beside c =
+    beside_now c.args.image.now c.take-chunk.new.self c.args.shape.now c.args.root c.take-chunk.result c.requires.chunks
+    (taken (goal.at.put_chunk-requires-clause-beside c).After-take-chunk)
+
+pub put_chunk-requires-clause-absent : goal.put_chunk-requires-clause-absent
+put_chunk-requires-clause-absent c =
+    ap (λ (m : Chunks). get m (offsets_in (length c.args.shape.now.sizes) c.args.key.now))
+    (told_still c.args.image.now c.take-chunk.new.self c.args.shape.now c.args.root c.take-chunk.result c.requires.chunks
+    (taken (goal.at.put_chunk-requires-clause-absent c).After-take-chunk))
+    ∙ c.requires.absent
+
+pub put_chunk-requires-clause-roomy : goal.put_chunk-requires-clause-roomy
+put_chunk-requires-clause-roomy c = λ full.
+    let b = (goal.at.put_chunk-requires-clause-roomy c).After-take-chunk in
+    c.requires.roomy (full_before c.args.image.now c.take-chunk.new.self c.args.shape.now c.args.root c.take-chunk.result c.requires.chunks (taken b) (short b)
+    (offsets_in (length c.args.shape.now.sizes) c.args.key.now) (length-offsets c.args.shape.now.sizes c.args.key.now) full)
+
+pub returns-clause-stored : goal.returns-clause-stored
+returns-clause-stored c =
+    stored_now c.args.image.now c.take-chunk.new.self c.args.shape.now c.args.root c.take-chunk.result c.requires.chunks
+    (taken (goal.at.returns-clause-stored c).After-take-chunk) c.put_chunk.new.image (offsets_in (length c.args.shape.now.sizes) c.args.key.now) c.put_chunk.ensures.put
+
+pub returns-clause-bushy : goal.returns-clause-bushy
+returns-clause-bushy c = λ low bushy.
+    c.put_chunk.ensures.bushy low (bushy_beside c.args.image.now c.take-chunk.new.self c.args.shape.now c.args.root low []
+    (block c.take-chunk.result c.args.shape.now.bytes ∷ []) c.requires.chunks (taken (goal.at.returns-clause-bushy c).After-take-chunk) (λ p. omega arith) bushy)
+
+pub returns-clause-kept : goal.returns-clause-kept
+returns-clause-kept c =
+    others_stay c.args.image.now c.take-chunk.new.self c.args.shape.now c.args.root c.take-chunk.result c.requires.chunks
+    (taken (goal.at.returns-clause-kept c).After-take-chunk) c.put_chunk.new.image (offsets_in (length c.args.shape.now.sizes) c.args.key.now) c.put_chunk.ensures.put

@@ -1,0 +1,50 @@
+use Rattle.std.proofs.Common.{◌≡◌, ℕ, [], List, length, ap, ◌∙◌, subst}
+use Rattle.std.specs.Prelude.{IfNone, IfSome}
+use Rattle.std.specs.FinMap.{values}
+use Rattle.h5_bytes.specs.Blocks.{Inside}
+use Rattle.h5_model.specs.Format.Nodes.{HasTree, chunk_kind, node_at, tree_blocks}
+use Rattle.h5_model.specs.Format.Reached.{Shape}
+use Rattle.h5_btree.specs.Descent.{IsWayTo}
+use Rattle.h5_chunks.specs.Told.{chunks_told}
+use Rattle.h5_chunks.specs.Way.{chunk_behind}
+use Rattle.h5_chunks.proofs.ChunkFound.{if_none, nodes_inside, none_stored, stored_there}
+use Rattle.h5_chunks.proofs.search.way_to.Goals as goal
+use Rattle.h5_chunks.proofs.search.way_to.Goals.{After-unwrap}
+
+pub unwrap-requires : goal.unwrap-requires
+unwrap-requires c =
+    let image : List ℕ = c.args.image.now.bytes in
+    let shape : Shape = c.args.shape.now in
+    let root : ℕ = c.args.root in
+    let stored = (c.requires.chunks).stored in
+    let ranks : length c.new-sought.result ≡ length shape.sizes = ap (λ (xs : List ℕ). length xs) c.new-sought.ensures.offsets ∙ c.requires.rank in
+    let tree : HasTree c.bytes.result.now (chunk_kind 32 (length c.new-sought.result)) root stored.level stored.owned (values (chunks_told image shape root))
+    = rw (c.bytes.ensures, ranks) (stored_there image shape root c.requires.chunks) in
+    let inside : Inside (length c.bytes.result.now) (tree_blocks (chunk_kind 32 (length c.new-sought.result)) stored.owned)
+    = rw (c.bytes.ensures, ranks) (nodes_inside image shape root c.requires.chunks) in
+    c.find_way.ensures.only stored.level stored.owned (values (chunks_told image shape root)) tree inside
+
+pub returns-clause-leads : goal.returns-clause-leads
+returns-clause-leads c =
+    let image : List ℕ = c.args.image.now.bytes in
+    let offsets : List ℕ = c.args.offsets.now in
+    let root : ℕ = c.args.root in
+    let leads = rw (c.bytes.ensures, c.new-sought.ensures.offsets) at (rw c.unwrap.ensures at c.find_way.ensures.leads) in
+    subst (λ (n : ℕ). IfSome c.unwrap.result (IsWayTo (node_at image (chunk_kind 32 n)) (chunk_behind offsets) (node_at image (chunk_kind 32 n) root).level root))
+    c.requires.rank leads
+
+none_there : (c : After-unwrap) → IfNone c.unwrap.result ((node_at c.args.image.now.bytes (chunk_kind 32 (length c.args.shape.now.sizes)) c.args.root).children ≡ [])
+none_there c =
+    let image : List ℕ = c.args.image.now.bytes in
+    let empty = rw (c.bytes.ensures, c.new-sought.ensures.offsets) at (rw c.unwrap.ensures at c.find_way.ensures.empty) in
+    if_none c.unwrap.result _ (λ none. subst (λ (n : ℕ). (node_at image (chunk_kind 32 n) c.args.root).children ≡ []) c.requires.rank (empty.0 none))
+
+pub returns-clause-empty : goal.returns-clause-empty
+returns-clause-empty c = none_there c
+
+pub returns-clause-none : goal.returns-clause-none
+returns-clause-none c =
+    let image : List ℕ = c.args.image.now.bytes in
+    let empty = rw (c.bytes.ensures, c.new-sought.ensures.offsets) at (rw c.unwrap.ensures at c.find_way.ensures.empty) in
+    if_none c.unwrap.result _ (λ none. none_stored image c.args.shape.now c.args.root c.requires.chunks c.args.offsets.now
+    (subst (λ (n : ℕ). (node_at image (chunk_kind 32 n) c.args.root).children ≡ []) c.requires.rank (empty.0 none)))

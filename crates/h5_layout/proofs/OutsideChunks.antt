@@ -1,0 +1,99 @@
+-- The chunks that an array stores outside an extent, and at its edge, as they are listed.
+use Rattle.std.proofs.Common.{◌≡◌, ℕ, ◌*◌, ◌^◌, ◌≤◌, ℤ, List, [], ◌∷◌, length, map, false, true, Bool, Option, None, Some, refl, sym, ap, ◌∙◌, subst, arith}
+use Rattle.std.specs.Prelude.{nat_lt, not}
+use Rattle.std.specs.FinMap.{empty, entries, retain_keys}
+use Rattle.std.specs.List.{filter}
+use Rattle.std.proofs.lemmas.Bool.Decides.{nat_tests}
+use Rattle.h5_model.specs.Format.Chunks.{Chunks, offsets_in}
+use Rattle.h5_model.specs.Format.Fixed.{Fixed, IsFixed, fits}
+use Rattle.h5_model.specs.Format.Layout.{InChunks}
+use Rattle.h5_model.specs.Tree.Places.{cells, is_inside}
+use Rattle.h5_chunks.specs.Held.{place_entry}
+use Rattle.h5_chunks.specs.Shapes.{AreChunkSizes}
+use Rattle.h5_chunks.specs.Told.{chunks_told}
+use Rattle.h5_chunks.specs.declared.held.ChunkPlace.{ChunkPlace}
+use Rattle.h5_layout.specs.ArrayChunks.{ArrayChunks, AreSoundChunks, IsInChunksOf}
+use Rattle.h5_chunks.specs.Lists.{offsets_outside}
+use Rattle.h5_layout.specs.Data.{chunk_shape, stored_chunks}
+use Rattle.h5_layout.specs.Described.{Described}
+use Rattle.h5_layout.specs.HeldChunks.{held_chunks}
+use Rattle.h5_layout.specs.Judged.{is_chunk_large}
+use Rattle.h5_chunks.specs.Lists.{ChunkOffsets}
+use Rattle.h5_layout.specs.Trimmed.{chunk_list, offsets_across, reaches_beyond}
+use Rattle.h5_layout.proofs.KeptValues.{layout_parts}
+use Rattle.h5_layout.proofs.NoChunks.{none_kept}
+use Rattle.h5_layout.proofs.TrimmedArray.{stored_by}
+
+-- the chunks of an array are sound
+pub sound_chunks : (t : Fixed) (fill : ℤ) (chunk lent : List ℕ) (root : Option ℕ) → lent ≡ chunk → AreChunkSizes chunk → IsFixed t → fits t fill ≡ true
+    → is_chunk_large t (InChunks chunk root) ≡ false → AreSoundChunks (record { fixed = t; fill = fill; chunk = lent; root = root })
+sound_chunks t fill chunk lent root same sizes sound of_type small =
+    subst (λ (xs : List ℕ). AreSoundChunks (record { fixed = t; fill = fill; chunk = xs; root = root })) (sym same)
+    (record { sizes = sizes; small = few (cells chunk * t.size) small; sound = sound; of_type = of_type }) where
+      few : (n : ℕ) → nat_lt (2 ^ 30) n ≡ false → n ≤ 2 ^ 30
+      few n not_large = grind (arith, nat_tests)
+
+-- ---- as lists of chunks
+
+module _ (a : Described) (k : ArrayChunks) (of : IsInChunksOf a k) where
+  listed : (chunk : List ℕ) (root : Option ℕ) → a.layout ≡ InChunks chunk root → (offsets : List (List ℕ))
+      → record { rank = length k.chunk; bytes = (chunk_shape k.fixed k.chunk).bytes; offsets = offsets } ≡ chunk_list a chunk offsets
+  listed chunk root laid offsets =
+      let same = layout_parts k.chunk chunk k.root root (sym of.layout ∙ laid) in
+      λ i. record { rank = length (same.0 i); bytes = cells (same.0 i) * (of.fixed i).size; offsets = offsets }
+
+  module _ (image sizes chunk : List ℕ) (root : Option ℕ) (laid : a.layout ≡ InChunks chunk root) where
+    abbrev stored : Chunks
+    stored = stored_chunks image a.fixed a.layout
+
+    pub lost_are : (at : ℕ) → k.root ≡ Some at → (list : ChunkOffsets)
+        → list ≡ record {
+          rank = length k.chunk;
+          bytes = (chunk_shape k.fixed k.chunk).bytes;
+          offsets = offsets_outside sizes (chunks_told image (chunk_shape k.fixed k.chunk) at);
+        } → list ≡ chunk_list a chunk (offsets_outside sizes stored)
+    lost_are at rooted list is =
+        is ∙ listed chunk root laid (offsets_outside sizes (chunks_told image (chunk_shape k.fixed k.chunk) at))
+        ∙ ap (λ (c : Chunks). chunk_list a chunk (offsets_outside sizes c)) (sym (stored_by a k of at rooted image))
+
+    pub edges_are : (at : ℕ) → k.root ≡ Some at → (list : ChunkOffsets)
+        → list ≡ record {
+          rank = length k.chunk;
+          bytes = (chunk_shape k.fixed k.chunk).bytes;
+          offsets = offsets_across sizes k.chunk (chunks_told image (chunk_shape k.fixed k.chunk) at);
+        } → list ≡ chunk_list a chunk (offsets_across sizes chunk stored)
+    edges_are at rooted list is =
+        let same = layout_parts k.chunk chunk k.root root (sym of.layout ∙ laid) in
+        is ∙ listed chunk root laid (offsets_across sizes k.chunk (chunks_told image (chunk_shape k.fixed k.chunk) at))
+        ∙ (λ i. chunk_list a chunk (offsets_across sizes (same.0 i) (sym (stored_by a k of at rooted image) i)))
+
+    module _ (rootless : k.root ≡ None) (list : ChunkOffsets)
+        (is : list ≡ record { rank = length k.chunk; bytes = (chunk_shape k.fixed k.chunk).bytes; offsets = [] }) where
+      none_stored : stored ≡ empty
+      none_stored = (λ i. stored_chunks image (sym of.fixed i) (of.layout i)) ∙ ap (λ (r : Option ℕ). stored_chunks image k.fixed (InChunks k.chunk r)) rootless
+
+      none_at : (test : List ℕ → Bool) → entries (retain_keys stored test) ≡ []
+      none_at test = ap (λ (c : Chunks). entries (retain_keys c test)) none_stored ∙ none_kept test
+
+      pub none_lost : list ≡ chunk_list a chunk (offsets_outside sizes stored)
+      none_lost =
+          is ∙ listed chunk root laid []
+          ∙ ap (λ (es : List (List ℕ × ℕ)). chunk_list a chunk (map (λ (e : List ℕ × ℕ). e.0) es)) (sym (none_at (λ offsets. not (is_inside sizes offsets))))
+
+      pub none_across : list ≡ chunk_list a chunk (offsets_across sizes chunk stored)
+      none_across =
+          is ∙ listed chunk root laid []
+          ∙ ap (λ (es : List (List ℕ × ℕ)). chunk_list a chunk (filter (reaches_beyond sizes chunk) (map (λ (e : List ℕ × ℕ). e.0) es))) (sym (none_at (is_inside sizes)))
+
+-- ---- the places of chunks, and their offsets
+
+module _ (rank : ℕ) where
+  abbrev pub offsets_of_place : ChunkPlace → List ℕ
+  offsets_of_place p = offsets_in rank p.key.now
+
+  pub places_are : (items : List ChunkPlace) (sizes : List ℕ) (chunks : Chunks) → map (place_entry rank) items ≡ entries (retain_keys chunks (is_inside sizes))
+      → map offsets_of_place items ≡ held_chunks sizes chunks
+  places_are items sizes chunks held = firsts items ∙ ap (λ (es : List (List ℕ × ℕ)). map (λ (e : List ℕ × ℕ). e.0) es) held where
+    firsts : (ps : List ChunkPlace) → map offsets_of_place ps ≡ map (λ (e : List ℕ × ℕ). e.0) (map (place_entry rank) ps)
+    firsts [] = refl
+    firsts (p ∷ ps) = ap (λ (xs : List (List ℕ)). offsets_in rank p.key.now ∷ xs) (firsts ps)

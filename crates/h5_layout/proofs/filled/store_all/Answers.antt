@@ -1,0 +1,70 @@
+use Rattle.std.proofs.Common.{◌+◌, ◌*◌, ◌^◌, ◌≤◌, length, ap, ◌∙◌, subst, arith}
+use Rattle.std.specs.FinMap.{get}
+use Rattle.h5_space.proofs.MovesLaws.{spends_none, spends_then, spends_within}
+use Rattle.h5_chunks.specs.Told.{chunks_told}
+use Rattle.h5_chunks.specs.Edited.{IsFullAt, store_room}
+use Rattle.h5_layout.specs.Filled.{cells_of_fill}
+use Rattle.h5_chunks.proofs.BushyFull.{never_full}
+use Rattle.h5_layout.proofs.FilledLaws.{filled_none}
+use Rattle.h5_layout.proofs.TurnLaws.{turn_absent, turn_full, turn_next, turn_offsets, turn_room}
+use Rattle.h5_layout.proofs.filled.store_all.Goals as goal
+
+pub loop-k-init : goal.loop-k-init
+loop-k-init c =
+    let cells = c.args.cells.now in
+    record {
+      filled = filled_none c.args.shape.now c.args.root (cells_of_fill cells.fixed cells.fill cells.count) c.args.image.now c.requires.chunks;
+      spends = spends_within c.args.image.now c.args.image.now 0 (0 * store_room c.args.image.now.bytes c.args.shape.now) 0 0 (omega arith) (omega arith) (spends_none c.args.image.now);
+      first = λ none. λ i. c.args.image.now;
+    }
+
+pub is_full_at-requires-clause-chunks : goal.is_full_at-requires-clause-chunks
+is_full_at-requires-clause-chunks c = c.loop-k.invariant.filled.stand
+
+pub returns-then-is_full_at-clause-turn : goal.returns-then-is_full_at-clause-turn
+returns-then-is_full_at-clause-turn c =
+    let s = c.args.shape.now in
+    let cells = c.args.cells.now in
+    let bytes = cells_of_fill cells.fixed cells.fill cells.count in
+    let now = c.loop-k.image in
+    let offsets = turn_offsets c.args.image.now now s c.args.root bytes c.args.new.now c.loop-k.k (omega arith) c.requires.new c.loop-k.invariant.filled c.key-key.result.now c.key-key.ensures.key
+    c.key-key.ensures.offsets in
+    let full = subst (IsFullAt now.bytes s c.args.root) offsets (c.is_full_at.ensures.0 c.if-is_full_at.true) in
+    (c.loop-k.k, turn_full c.args.image.now now s c.args.root bytes c.args.new.now c.loop-k.k (omega arith) c.requires.new c.loop-k.invariant.filled c.loop-k.invariant.first full)
+
+pub returns-then-is_full_at-clause-low : goal.returns-then-is_full_at-clause-low
+returns-then-is_full_at-clause-low c bushy =
+    let s = c.args.shape.now in
+    let now = c.loop-k.image in
+    let room = store_room c.args.image.now.bytes s in
+    let more = turn_room (length c.args.new.now.offsets) c.loop-k.k room (omega arith) in
+    let grown = c.loop-k.invariant.spends.grown in
+    let short : length now.bytes ≤ 2 ^ 31 = omega (arith, more, grown, c.requires.short) in
+    never_full now s c.args.root _ c.loop-k.invariant.filled.stand c.requires.storable short (c.loop-k.invariant.filled.bushy 10 bushy) (c.is_full_at.ensures.0 c.if-is_full_at.true)
+
+pub store_filled-requires-clause-absent : goal.store_filled-requires-clause-absent
+store_filled-requires-clause-absent c =
+    let s = c.args.shape.now in
+    let cells = c.args.cells.now in
+    let bytes = cells_of_fill cells.fixed cells.fill cells.count in
+    let now = c.loop-k.image in
+    let offsets = turn_offsets c.args.image.now now s c.args.root bytes c.args.new.now c.loop-k.k (omega arith) c.requires.new c.loop-k.invariant.filled c.key-key.result.now c.key-key.ensures.key
+    c.key-key.ensures.offsets in
+    ap (get (chunks_told now.bytes s c.args.root)) offsets
+    ∙ turn_absent c.args.image.now now s c.args.root bytes c.args.new.now c.loop-k.k (omega arith) c.requires.new c.loop-k.invariant.filled
+
+pub loop-k-preserved : goal.loop-k-preserved
+loop-k-preserved c =
+    let s = c.args.shape.now in
+    let cells = c.args.cells.now in
+    let bytes = cells_of_fill cells.fixed cells.fill cells.count in
+    let now = c.loop-k.image in
+    let k = c.loop-k.k in
+    let room = store_room c.args.image.now.bytes s in
+    record {
+      filled = turn_next c.args.image.now now s c.args.root bytes c.args.new.now k (omega arith) c.requires.new c.loop-k.invariant.filled c.key-key.result.now c.key-key.ensures.key
+          c.key-key.ensures.offsets c.store_filled.new.image c.store_filled.ensures.stored;
+      spends = spends_within c.args.image.now c.store_filled.new.image (k * room + room) ((k + 1) * room) (18 * k + 18) (18 * (k + 1)) (omega arith) (omega arith)
+          (spends_then c.args.image.now now c.store_filled.new.image (k * room) room (18 * k) 18 c.loop-k.invariant.spends c.store_filled.ensures.spends);
+      first = λ never. absurd (omega (arith, never));
+    }

@@ -1,0 +1,89 @@
+//! Chunks stored where their tree stands, with each cell the fill (File Format Specification 3.0, section III.A.1).
+
+ghost use Rattle.std.specs.Prelude.{◌≡◌, ℕ, ◌+◌, ◌*◌, ◌^◌, ◌≤◌, IfErr, None, OnOk, [], ◌∷◌, length};
+ghost use Rattle.std.specs.FinMap.{get};
+ghost use Rattle.h5_model.specs.Format.Chunks.{IsChunkKey, offsets_in};
+ghost use Rattle.h5_space.specs.Moves.{Spends};
+ghost use Rattle.h5_chunks.specs.Told.{chunks_told};
+ghost use Rattle.h5_chunks.specs.Bushy.{IsBushy};
+ghost use Rattle.h5_chunks.specs.Edited.{AreChunksApart, CanBeStored, IsFullAt, store_room};
+ghost use Rattle.h5_layout.specs.Filled.{AreToStore, FillsChunk, HasFilledChunks, cells_of_fill};
+ghost use Rattle.h5_chunks.specs.Lists.{key_length as length_of_key};
+ghost use Rattle.h5_layout.specs.Storage.{IsFullInTurn};
+
+use crate::address::fill_stored;
+use crate::copied::CellsToFill;
+use h5_chunks::{ChunkList, ChunkShape, InsertFault, is_full_at, store};
+use h5_space::Image;
+
+/// Stores new chunks in a tree, with each cell the fill. Takes no memory.
+///
+/// These are the caller's conditions: the chunks of the tree were read, on blocks that share no byte with each other, with
+/// the superblock or with a free block; chunks of this shape can be stored, and have as many cells as are to be filled; none
+/// of the new chunks is stored; and the image has the room that these chunks may take.
+///
+/// # Errors
+///
+/// `TreeTooDeep`: one of the chunks, in its turn, finds no room in the tree. Those before it are stored then.
+pub(crate) fn store_all(
+    image: &mut Image,
+    shape: &ChunkShape<'_>,
+    root: u64,
+    new: &ChunkList,
+    cells: &CellsToFill,
+) -> Result<(), InsertFault>
+    requires chunks { AreChunksApart image.old shape.now root }
+    requires storable { CanBeStored shape.now }
+    requires cells { FillsChunk cells.now.fixed cells.now.fill cells.now.count shape.now }
+    requires new { AreToStore (chunks_told image.old.bytes shape.now root) shape.now new.now }
+    requires bytes { length new.now.offsets * store_room image.old.bytes shape.now ≤ image.old.room_bytes }
+    requires calls { 18 * length new.now.offsets ≤ image.old.room_blocks }
+    requires short { length image.old.bytes
+        + length new.now.offsets * store_room image.old.bytes shape.now ≤ 2 ^ 31 }
+    ensures stored { OnOk result (HasFilledChunks image.old image.new shape.now root
+        (cells_of_fill cells.now.fixed cells.now.fill cells.now.count) new.now.offsets) }
+    ensures spends { OnOk result (Spends image.old image.new
+        (length new.now.offsets * store_room image.old.bytes shape.now) (18 * length new.now.offsets)) }
+    ensures deep { IfErr result (λ fault. fault ≡ InsertFault.TreeTooDeep) }
+    ensures turn { IfErr result (λ fault. (n : ℕ)
+        × IsFullInTurn image.old.bytes shape.now root new.now.offsets n) }
+    ensures low { IfErr result (λ fault. IsBushy image.old.bytes shape.now root 10 → ⊥) }
+{
+    for k in 0..new.len() {
+        let key = new.key(k);
+        if is_full_at(image, shape, root, key) {
+            return Err(InsertFault::TreeTooDeep);
+        }
+        store_filled(image, shape, root, key, cells);
+    }
+    Ok(())
+}
+
+/// Stores the chunk with this key in a tree, with each cell the fill.
+fn store_filled(
+    image: &mut Image,
+    shape: &ChunkShape<'_>,
+    root: u64,
+    key: &[u8],
+    cells: &CellsToFill,
+)
+    requires chunks { AreChunksApart image.old shape.now root }
+    requires storable { CanBeStored shape.now }
+    requires cells { FillsChunk cells.now.fixed cells.now.fill cells.now.count shape.now }
+    requires long { length key.now ≡ length_of_key (length shape.now.sizes) }
+    requires keyed { IsChunkKey shape.now.sizes shape.now.bytes key.now }
+    requires absent { get (chunks_told image.old.bytes shape.now root)
+        (offsets_in (length shape.now.sizes) key.now) ≡ None }
+    requires roomy { IsFullAt image.old.bytes shape.now root
+        (offsets_in (length shape.now.sizes) key.now) → ⊥ }
+    requires bytes { store_room image.old.bytes shape.now ≤ image.old.room_bytes }
+    requires calls { 18 ≤ image.old.room_blocks }
+    requires short { length image.old.bytes + store_room image.old.bytes shape.now ≤ 2 ^ 31 }
+    ensures stored { HasFilledChunks image.old image.new shape.now root
+        (cells_of_fill cells.now.fixed cells.now.fill cells.now.count)
+        (offsets_in (length shape.now.sizes) key.now ∷ []) }
+    ensures spends { Spends image.old image.new (store_room image.old.bytes shape.now) 18 }
+{
+    let at = store(image, shape, root, key);
+    fill_stored(image, &cells.fixed, at, cells.fill, cells.count);
+}

@@ -1,0 +1,393 @@
+//! Storage made for the cells of an array, where the array stands (File Format Specification 3.0, sections III.A.1 and
+//! IV.A.2.i).
+
+ghost use Rattle.std.specs.Prelude.{◌≡◌, ◌↔◌, ℕ, ◌+◌, ◌-◌, ◌*◌, ◌^◌, ◌<◌, ◌≤◌, ◌||◌, Err, IfErr, IsFalse, IsTrue, OnErr, OnOk, None, min, nat_le, length as length_of, true};
+ghost use Rattle.std.specs.FinMap.{empty};
+ghost use Rattle.h5_model.specs.Format.Fixed.{fits};
+ghost use Rattle.h5_model.specs.Format.Layout.{InBlock, InChunks};
+ghost use Rattle.h5_model.specs.Format.Reached.{level_at, shape_kind};
+ghost use Rattle.h5_model.specs.Tree.Places.{cells as cells_of};
+ghost use Rattle.h5_model.specs.Views.Selection.{Slab};
+ghost use Rattle.h5_space.specs.Moves.{Spends};
+ghost use Rattle.h5_space.specs.declared.image.SpaceFault.{SpaceFault as FaultOfSpace};
+ghost use Rattle.h5_chunks.specs.Told.{chunks_told};
+ghost use Rattle.h5_layout.specs.ArrayEdits.{IsArrayApart, described_in};
+ghost use Rattle.h5_chunks.specs.Edited.{AreChunksApart, CanBeStored, chunk_node_length};
+ghost use Rattle.h5_layout.specs.Copied.{AreChunksCopied, IsChunked, sizes_copied};
+ghost use Rattle.h5_layout.specs.Data.{chunk_shape};
+ghost use Rattle.h5_layout.specs.Filled.{AreToStore, FillsChunk, HasFilledChunks, cells_of_fill};
+ghost use Rattle.h5_layout.specs.Lacking.{IsMissing};
+ghost use Rattle.h5_layout.specs.NewChunks.{AreMissing};
+ghost use Rattle.h5_layout.specs.NewTrees.{IsTreeMade, IsTreeNamed};
+ghost use Rattle.h5_layout.specs.Storage.{IsDeepFor, IsFullInTurn, IsStorageMade, chunks_room, is_low_root, is_refused_first as refuses_first, storage_bytes};
+ghost use Rattle.h5_layout.specs.declared.lacking.Missing.TheVariants as missing;
+
+use crate::address::fill_stored;
+use crate::copied::{CellsToFill, CopiedChunks, copied_cells, copied_chunks};
+use crate::filled::store_all;
+use crate::header::{set_block, set_root};
+use crate::lacking::Missing;
+use crate::read::known_array;
+use h5_chunks::{
+    ChunkList, ChunkShape, InsertFault, chunk_node_length, is_full_at, is_low, make_root,
+};
+use h5_header::Messages;
+use h5_msg::Layout;
+use h5_space::{Image, MAXIMUM_IMAGE, SpaceFault};
+use std::alloc::Global;
+
+/// Whether `make_storage` is refused before any change, if it is refused: one chunk at most is missing, or the root of the
+/// tree is so low that the tree never gets too deep. Takes no memory.
+///
+/// That the array was read, with its data, is the caller's condition.
+pub fn is_refused_first(
+    alloc: Global,
+    image: &Image,
+    messages: &Messages,
+    missing: &Missing,
+) -> bool
+    requires array { IsArrayApart image.now messages.now }
+    ensures { result ≡ refuses_first image.now.bytes (described_in image.now.bytes messages.now) missing.now }
+{
+    match missing {
+        Missing::Block => true,
+        Missing::Chunks(new) => new.len() <= 1 || has_low_root(alloc, image, messages),
+    }
+}
+
+/// Whether the root of the tree of chunks, where there is one, is so low that the tree never gets too deep.
+fn has_low_root(alloc: Global, image: &Image, messages: &Messages) -> bool
+    requires array { IsArrayApart image.now messages.now }
+    ensures { result ≡ is_low_root image.now.bytes (described_in image.now.bytes messages.now)
+        (described_in image.now.bytes messages.now).layout }
+{
+    if !is_chunked(alloc, image, messages) {
+        return true;
+    }
+    let chunks = copied_chunks(alloc, image, messages);
+    let Some(root) = chunks.root else {
+        return true;
+    };
+    let shape = ChunkShape::new(&chunks.sizes[..chunks.rank], chunks.length);
+    is_low(image, &shape, root)
+}
+
+/// Whether an array is in chunks.
+fn is_chunked(alloc: Global, image: &Image, messages: &Messages) -> bool
+    requires array { IsArrayApart image.now messages.now }
+    ensures yes { IsTrue result → IsChunked (described_in image.now.bytes messages.now).layout }
+    ensures no { IsFalse result → is_low_root image.now.bytes (described_in image.now.bytes messages.now)
+        (described_in image.now.bytes messages.now).layout ≡ true }
+{
+    match known_array(alloc, image, messages).layout() {
+        Layout::Compact(_) => false,
+        Layout::Contiguous(_) => false,
+        Layout::Chunked { .. } => true,
+    }
+}
+
+/// Whether there is room for the storage that is missing of an array: in the tree, for the first chunk, and in the image. Takes
+/// no memory.
+///
+/// These are the caller's conditions: the array was read, with its data; so much is missing of it for some selection; and the
+/// image has at most 2147483648 bytes.
+///
+/// # Errors
+///
+/// `TreeTooDeep` exactly where the first of the missing chunks finds the root at level 15 and each node on its way full; else
+/// `ImageFull` exactly where the image has more than 2147483648 bytes with those that the storage may take.
+pub fn check_storage(
+    alloc: Global,
+    image: &Image,
+    messages: &Messages,
+    missing: &Missing,
+) -> Result<(), InsertFault>
+    requires array { IsArrayApart image.now messages.now }
+    requires missing { (slab : Slab)
+        × IsMissing image.now.bytes (described_in image.now.bytes messages.now) slab missing.now }
+    requires short { length_of image.now.bytes ≤ 2 ^ 31 }
+    ensures deep { (result ≡ Err InsertFault.TreeTooDeep)
+        ↔ IsDeepFor image.now.bytes (described_in image.now.bytes messages.now) missing.now 0 }
+    ensures full { (result ≡ Err (InsertFault.Space SpaceFault.ImageFull))
+        ↔ ((IsDeepFor image.now.bytes (described_in image.now.bytes messages.now) missing.now 0 → ⊥)
+        × (2 ^ 31 < length_of image.now.bytes
+        + storage_bytes image.now.bytes (described_in image.now.bytes messages.now) missing.now)) }
+{
+    match missing {
+        Missing::Block => {
+            let cells = copied_cells(alloc, image, messages);
+            check_room(image, cells.count * cells.fixed.size() as u64)
+        }
+        Missing::Chunks(new) => {
+            let chunks = copied_chunks(alloc, image, messages);
+            let shape = ChunkShape::new(&chunks.sizes[..chunks.rank], chunks.length);
+            if let Some(root) = chunks.root {
+                if is_first_full(image, &shape, root, new) {
+                    return Err(InsertFault::TreeTooDeep);
+                }
+            }
+            check_room(image, room_for(image, &shape, chunks.length, new))
+        }
+    }
+}
+
+/// Whether the image has room for so many bytes more.
+fn check_room(image: &Image, bytes: u64) -> Result<(), InsertFault>
+    requires short { length_of image.now.bytes ≤ 2 ^ 31 }
+    ensures full { (result ≡ Err (InsertFault.Space SpaceFault.ImageFull))
+        ↔ (2 ^ 31 < length_of image.now.bytes + bytes) }
+    ensures not_deep { result ≡ Err InsertFault.TreeTooDeep → ⊥ }
+{
+    if bytes > MAXIMUM_IMAGE - image.bytes().len() as u64 {
+        return Err(InsertFault::Space(SpaceFault::ImageFull));
+    }
+    Ok(())
+}
+
+/// Makes the storage that is missing of an array: the block of a contiguous one, or chunks, each cell of which is the fill.
+///
+/// The block's address and size, or the address of a tree that is new, come into the Data Layout message. Each chunk comes
+/// into the tree by one way down. The room for all that is made before the first change.
+///
+/// These are the caller's conditions: the array was read, with its data, on blocks that share no byte with each other, with
+/// the superblock or with a free block; so much is missing of it for some selection; and the image has at most 2147483648
+/// bytes.
+///
+/// # Errors
+///
+/// - `TreeTooDeep`: one of the missing chunks, in its turn, finds the root at level 15 and each node on its way full. Where
+///   the first one does, always.
+/// - `Space`: `ImageFull` where the image has more than 2147483648 bytes with those that the storage may take, and the first
+///   chunk finds room; or `NoMemory`.
+///
+/// Where `is_refused_first` holds, a refusal changes nothing. Else what became of the image is left open.
+pub fn make_storage(
+    alloc: Global,
+    image: &mut Image,
+    messages: &Messages,
+    missing: &Missing,
+) -> Result<(), InsertFault>
+    requires array { IsArrayApart image.old messages.now }
+    requires missing { (slab : Slab)
+        × IsMissing image.old.bytes (described_in image.old.bytes messages.now) slab missing.now }
+    requires short { length_of image.old.bytes ≤ 2 ^ 31 }
+    ensures made { OnOk result ((slab : Slab)
+        → IsMissing image.old.bytes (described_in image.old.bytes messages.now) slab missing.now
+        → IsStorageMade image.old image.new messages.now slab missing.now) }
+    ensures spends { OnOk result (length_of image.new.bytes ≤ length_of image.old.bytes
+        + storage_bytes image.old.bytes (described_in image.old.bytes messages.now) missing.now) }
+    ensures deep { result ≡ Err InsertFault.TreeTooDeep
+        → (n : ℕ) × IsDeepFor image.old.bytes (described_in image.old.bytes messages.now) missing.now n }
+    ensures deep_first { IsDeepFor image.old.bytes (described_in image.old.bytes messages.now) missing.now 0
+        → result ≡ Err InsertFault.TreeTooDeep }
+    ensures full { (result ≡ Err (InsertFault.Space SpaceFault.ImageFull))
+        ↔ ((IsDeepFor image.old.bytes (described_in image.old.bytes messages.now) missing.now 0 → ⊥)
+        × (2 ^ 31 < length_of image.old.bytes
+        + storage_bytes image.old.bytes (described_in image.old.bytes messages.now) missing.now)) }
+    ensures refused { refuses_first image.old.bytes (described_in image.old.bytes messages.now)
+        missing.now ≡ true
+        → OnErr result (image.new ≡ image.old) }
+{
+    match missing {
+        Missing::Block => {
+            let cells = copied_cells(alloc, image, messages);
+            make_block(image, messages, &cells)
+        }
+        Missing::Chunks(new) => {
+            let chunks = copied_chunks(alloc, image, messages);
+            make_chunks(image, messages, &chunks, new)
+        }
+    }
+}
+
+/// Makes the block of a contiguous array, each cell of which is the fill.
+fn make_block(
+    image: &mut Image,
+    messages: &Messages,
+    cells: &CellsToFill,
+) -> Result<(), InsertFault>
+    requires array { IsArrayApart image.old messages.now }
+    requires none { (described_in image.old.bytes messages.now).layout ≡ InBlock None }
+    requires fixed { cells.now.fixed ≡ (described_in image.old.bytes messages.now).fixed }
+    requires fill { cells.now.fill ≡ (described_in image.old.bytes messages.now).fill }
+    requires of_type { fits cells.now.fixed cells.now.fill ≡ true }
+    requires count { cells.now.count ≡ cells_of (described_in image.old.bytes messages.now).sizes }
+    ensures made { OnOk result ((slab : Slab)
+        → IsStorageMade image.old image.new messages.now slab missing.Block) }
+    ensures spends { OnOk result (length_of image.new.bytes ≤ length_of image.old.bytes
+        + cells.now.count * cells.now.fixed.size) }
+    ensures space { IfErr result (λ fault. (f : FaultOfSpace) × (fault ≡ InsertFault.Space f)) }
+    ensures full { (result ≡ Err (InsertFault.Space SpaceFault.ImageFull))
+        ↔ (2 ^ 31 < length_of image.old.bytes + cells.now.count * cells.now.fixed.size) }
+    ensures refused { OnErr result (image.new ≡ image.old) }
+{
+    // The image is not longer than memory.
+    let _image = image.bytes();
+    let length = cells.count * cells.fixed.size() as u64;
+    if let Err(fault) = image.reserve(length, 1) {
+        return Err(InsertFault::Space(fault));
+    }
+    let at = image.take(length);
+    fill_stored(image, &cells.fixed, at, cells.fill, cells.count);
+    set_block(image, messages, at, length);
+    Ok(())
+}
+
+/// Makes chunks of an array, each cell of which is the fill, and a tree for them where there is none.
+fn make_chunks(
+    image: &mut Image,
+    messages: &Messages,
+    chunks: &CopiedChunks,
+    new: &ChunkList,
+) -> Result<(), InsertFault>
+    requires array { IsArrayApart image.old messages.now }
+    requires copied { AreChunksCopied (described_in image.old.bytes messages.now) chunks.now }
+    requires missing { (slab : Slab) × AreMissing image.old.bytes
+        (described_in image.old.bytes messages.now) (sizes_copied chunks.now) slab new.now }
+    ensures made { OnOk result ((slab : Slab) → AreMissing image.old.bytes
+        (described_in image.old.bytes messages.now) (sizes_copied chunks.now) slab new.now
+        → IsStorageMade image.old image.new messages.now slab (missing.Chunks new.now)) }
+    ensures spends { OnOk result (length_of image.new.bytes ≤ length_of image.old.bytes
+        + storage_bytes image.old.bytes (described_in image.old.bytes messages.now)
+        (missing.Chunks new.now)) }
+    ensures deep { result ≡ Err InsertFault.TreeTooDeep → (n : ℕ)
+        × IsDeepFor image.old.bytes (described_in image.old.bytes messages.now) (missing.Chunks new.now) n }
+    ensures deep_first { IsDeepFor image.old.bytes (described_in image.old.bytes messages.now)
+        (missing.Chunks new.now) 0 → result ≡ Err InsertFault.TreeTooDeep }
+    ensures full { (result ≡ Err (InsertFault.Space SpaceFault.ImageFull))
+        ↔ ((IsDeepFor image.old.bytes (described_in image.old.bytes messages.now)
+        (missing.Chunks new.now) 0 → ⊥)
+        × (2 ^ 31 < length_of image.old.bytes + storage_bytes image.old.bytes
+        (described_in image.old.bytes messages.now) (missing.Chunks new.now))) }
+    ensures refused { refuses_first image.old.bytes (described_in image.old.bytes messages.now)
+        (missing.Chunks new.now) ≡ true → OnErr result (image.new ≡ image.old) }
+{
+    let shape = ChunkShape::new(&chunks.sizes[..chunks.rank], chunks.length);
+    let bytes = room_for(image, &shape, chunks.length, new);
+    match chunks.root {
+        Some(root) => add_chunks(image, &shape, root, bytes, new, &chunks.cells),
+        None => make_tree(image, messages, &shape, bytes, new, &chunks.cells),
+    }
+}
+
+/// How many bytes chunks may take, or `u64::MAX` where these are more.
+fn room_for(image: &Image, shape: &ChunkShape<'_>, length: u64, new: &ChunkList) -> u64
+    requires few { length_of shape.now.sizes ≤ 32 }
+    requires length { length ≡ shape.now.bytes }
+    requires small { length ≤ 2 ^ 30 }
+    ensures { result ≡ min (chunks_room image.now.bytes shape.now (length_of new.now.offsets)) (2 ^ 64 - 1) }
+{
+    let node = chunk_node_length(image, shape);
+    (new.len() as u64)
+        .saturating_mul(length + 17 * node)
+        .saturating_add(node)
+}
+
+/// Whether the first of these chunks finds no room in the tree at this root.
+fn is_first_full(image: &Image, shape: &ChunkShape<'_>, root: u64, new: &ChunkList) -> bool
+    requires chunks { AreChunksApart image.now shape.now root }
+    requires rank { new.now.rank ≡ length_of shape.now.sizes }
+    ensures { IsTrue result ↔ IsFullInTurn image.now.bytes shape.now root new.now.offsets 0 }
+{
+    !new.is_empty() && is_full_at(image, shape, root, new.key(0))
+}
+
+/// Makes chunks in the tree at this root. `bytes` is the room that they may take.
+fn add_chunks(
+    image: &mut Image,
+    shape: &ChunkShape<'_>,
+    root: u64,
+    bytes: u64,
+    new: &ChunkList,
+    cells: &CellsToFill,
+) -> Result<(), InsertFault>
+    requires chunks { AreChunksApart image.old shape.now root }
+    requires storable { CanBeStored shape.now }
+    requires cells { FillsChunk cells.now.fixed cells.now.fill cells.now.count shape.now }
+    requires new { AreToStore (chunks_told image.old.bytes shape.now root) shape.now new.now }
+    requires bytes { bytes ≡ min (chunks_room image.old.bytes shape.now (length_of new.now.offsets))
+        (2 ^ 64 - 1) }
+    ensures stored { OnOk result (HasFilledChunks image.old image.new shape.now root
+        (cells_of_fill cells.now.fixed cells.now.fill cells.now.count) new.now.offsets) }
+    ensures spends { OnOk result (length_of image.new.bytes ≤ length_of image.old.bytes
+        + chunks_room image.old.bytes shape.now (length_of new.now.offsets)) }
+    ensures deep { result ≡ Err InsertFault.TreeTooDeep
+        → (n : ℕ) × IsFullInTurn image.old.bytes shape.now root new.now.offsets n }
+    ensures deep_first { IsFullInTurn image.old.bytes shape.now root new.now.offsets 0
+        → result ≡ Err InsertFault.TreeTooDeep }
+    ensures full { (result ≡ Err (InsertFault.Space SpaceFault.ImageFull))
+        ↔ ((IsFullInTurn image.old.bytes shape.now root new.now.offsets 0 → ⊥)
+        × (2 ^ 31 < length_of image.old.bytes
+        + chunks_room image.old.bytes shape.now (length_of new.now.offsets))) }
+    ensures refused { (nat_le (length_of new.now.offsets) 1
+        || nat_le (level_at image.old.bytes (shape_kind image.old.bytes shape.now) root) 10) ≡ true
+        → OnErr result (image.new ≡ image.old) }
+{
+    if is_first_full(image, shape, root, new) {
+        return Err(InsertFault::TreeTooDeep);
+    }
+    if let Err(fault) = image.reserve(bytes, calls_for(new)) {
+        return Err(InsertFault::Space(fault));
+    }
+    store_all(image, shape, root, new, cells)
+}
+
+/// Makes chunks in a tree that is new. `bytes` is the room that they may take.
+fn make_tree(
+    image: &mut Image,
+    messages: &Messages,
+    shape: &ChunkShape<'_>,
+    bytes: u64,
+    new: &ChunkList,
+    cells: &CellsToFill,
+) -> Result<(), InsertFault>
+    requires array { IsArrayApart image.old messages.now }
+    requires none { (described_in image.old.bytes messages.now).layout ≡ InChunks shape.now.sizes None }
+    requires shape { shape.now ≡ chunk_shape
+        (described_in image.old.bytes messages.now).fixed shape.now.sizes }
+    requires storable { CanBeStored shape.now }
+    requires cells { FillsChunk cells.now.fixed cells.now.fill cells.now.count shape.now }
+    requires new { AreToStore empty shape.now new.now }
+    requires bytes { bytes ≡ min (chunks_room image.old.bytes shape.now (length_of new.now.offsets))
+        (2 ^ 64 - 1) }
+    ensures made { OnOk result (IsTreeMade image.old image.new messages.now shape.now
+        (cells_of_fill cells.now.fixed cells.now.fill cells.now.count) new.now.offsets) }
+    ensures spends { OnOk result (length_of image.new.bytes ≤ length_of image.old.bytes
+        + chunks_room image.old.bytes shape.now (length_of new.now.offsets)) }
+    ensures space { IfErr result (λ fault. (f : FaultOfSpace) × (fault ≡ InsertFault.Space f)) }
+    ensures full { (result ≡ Err (InsertFault.Space SpaceFault.ImageFull))
+        ↔ (2 ^ 31 < length_of image.old.bytes
+        + chunks_room image.old.bytes shape.now (length_of new.now.offsets)) }
+    ensures refused { OnErr result (image.new ≡ image.old) }
+{
+    if let Err(fault) = image.reserve(bytes, calls_for(new)) {
+        return Err(InsertFault::Space(fault));
+    }
+    let root = name_tree(image, messages, shape);
+    let _ = store_all(image, shape, root, new, cells);
+    Ok(())
+}
+
+/// Makes a tree for the chunks of an array, without a chunk, and names it in the array's header. Gives its root.
+fn name_tree(image: &mut Image, messages: &Messages, shape: &ChunkShape<'_>) -> u64
+    requires array { IsArrayApart image.old messages.now }
+    requires none { (described_in image.old.bytes messages.now).layout ≡ InChunks shape.now.sizes None }
+    requires shape { shape.now ≡ chunk_shape
+        (described_in image.old.bytes messages.now).fixed shape.now.sizes }
+    requires bytes { chunk_node_length image.old.bytes shape.now ≤ image.old.room_bytes }
+    requires calls { 1 ≤ image.old.room_blocks }
+    requires short { length_of image.old.bytes + chunk_node_length image.old.bytes shape.now ≤ 2 ^ 31 }
+    ensures named { IsTreeNamed image.old image.new messages.now shape.now result }
+    ensures spends { Spends image.old image.new (chunk_node_length image.old.bytes shape.now) 1 }
+{
+    let root = make_root(image, shape);
+    set_root(image, messages, root);
+    root
+}
+
+/// How many calls of `take` the storing of new chunks needs, with a root for them; or `u64::MAX` where these are more.
+fn calls_for(new: &ChunkList) -> u64
+    ensures { result ≡ min (18 * length_of new.now.offsets + 1) (2 ^ 64 - 1) }
+{
+    (new.len() as u64).saturating_mul(18).saturating_add(1)
+}
