@@ -11,6 +11,7 @@ from h5oracle.values import Fixed, product  # noqa: E402
 GROUP, SOFT_LINK = 1, 3
 STORES = {"compact": 1, "contiguous": 2, "chunked": 3}
 UNLIMITED = (1 << 64) - 1
+TYPES = [Fixed(size, signed, big) for size in (1, 2, 4, 8) for signed in (False, True) for big in (False, True)[:size]]
 # The statuses of bytes that are no file begin behind this one.
 CAUSES = 300
 
@@ -63,8 +64,9 @@ def slab(hyper):
 
 
 def common_type(values):
-    """A type that has all of these values, or `None`."""
-    return next((fixed for fixed in (Fixed(8, True, False), Fixed(8, False, True)) if all(map(fixed.holds, values))), None)
+    """A type that has all of these values, or `None`. Which one depends on the values, so that all forms of them are written."""
+    types = [fixed for fixed in TYPES if all(map(fixed.holds, values))]
+    return types[sum(values) % len(types)] if types else None
 
 
 class Library:

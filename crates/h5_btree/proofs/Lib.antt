@@ -64,3 +64,7 @@ pub mod RetiredBeside
 pub mod KeyedBare
 pub mod KeyedFrom
 pub mod KeyedKeys
+pub mod WaysDown
+pub mod EndKeys
+pub mod EmptyTrees
+pub mod BlocksInside

@@ -17,3 +17,7 @@ early before after edit made u status same is of number =
       session = record { answer = Err fault.NoMemory; status_is = number ∙ ap number_of short; says = (ap (λ (h : Held). h.session) same, inr refl) };
       text = ap (λ (h : Held). h.text) same;
     }
+
+-- where memory was refused before the library was asked
+pub unasked : (before : Held) (edit : Edit) → HasEdited before edit before 31
+unasked before edit = record { session = record { answer = Err fault.NoMemory; status_is = refl; says = (refl, inr refl) }; text = refl }

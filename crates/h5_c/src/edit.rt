@@ -5,11 +5,11 @@ ghost use Rattle.h5_model.specs.declared.edits.Edit.{Edit as TheEdit};
 ghost use Rattle.h5_model.specs.declared.edits.Edit.TheVariants as edits;
 ghost use Rattle.h5_model.specs.Format.Fixed.{fixed_from};
 ghost use Rattle.h5_c.specs.Calls.{HasEdited, HasRepacked, IsKeptOpen, IsRefusedEarly};
-ghost use Rattle.h5_c.specs.Given.{IsArrayMadeWith, IsMadeOf, IsMadeWith, creating, is_whole, number_of, selecting, setting, store_of_number, writing};
+ghost use Rattle.h5_c.specs.Given.{IsArrayMadeWith, IsMadeOf, IsMadeWith, creating, is_whole, number_of, setting, store_of_number};
 
 use crate::given::{
-    CType, Lists, NewArray, Unmade, make_array, make_group, make_hard_link, make_soft_link,
-    remove_attribute, resize_array, set_attribute, unlink_at, write_bytes,
+    CType, NewArray, Unmade, make_array, make_group, make_hard_link, make_soft_link,
+    remove_attribute, resize_array, set_attribute, unlink_at,
 };
 use crate::held::Held;
 use crate::slot::Slot;
@@ -206,40 +206,4 @@ pub extern "C" fn h5i_set_attribute(
         (λ u. IsRefusedEarly slot.old.held slot.new.held (number_of u) result) }
 {
     slot.edit(alloc, set_attribute(alloc, path, name, of, dims, values))
-}
-
-/// Writes values into the selected cells of the array at the path, in row-major order: they are given as bytes of a
-/// type of their own, which need not be the array's. Each is held as an `i128` for the time of the call, since
-/// the library takes values so.
-///
-/// # Errors
-///
-/// As [`h5i_set_attribute`].
-#[unsafe(no_mangle)]
-pub extern "C" fn h5i_write(
-    alloc: Global,
-    slot: &mut Slot,
-    path: &[u8],
-    start: &[u64],
-    stride: &[u64],
-    count: &[u64],
-    block: &[u64],
-    of: CType,
-    values: &[u8],
-) -> u32
-    ensures kept { IsKeptOpen slot.old.is_open slot.new.is_open result }
-    ensures edited { slot.old.is_open ≡ true
-        → IsMadeWith (fixed_from of.size of.signed of.big) (is_whole values.now)
-        (λ t. HasEdited slot.old.held
-        (writing path.now (selecting start.now stride.now count.now block.now) t values.now)
-        slot.new.held result)
-        (λ u. IsRefusedEarly slot.old.held slot.new.held (number_of u) result) }
-{
-    let lists = Lists {
-        start,
-        stride,
-        count,
-        block,
-    };
-    slot.edit(alloc, write_bytes(alloc, path, &lists, of, values))
 }

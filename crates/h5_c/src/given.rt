@@ -4,10 +4,10 @@ ghost use Rattle.std.specs.Prelude.{◌≡◌, IfOk, Ok, Err, map};
 ghost use Rattle.h5_model.specs.declared.edits.Edit.TheVariants as edits;
 ghost use Rattle.h5_model.specs.Format.Fixed.{fixed_from};
 ghost use Rattle.h5_model.specs.Scripts.Answers.{stored_values};
-ghost use Rattle.h5_c.specs.Given.{IsArrayMadeWith, IsMadeOf, IsMadeWith, IsStoreMade, creating, hyper_of, is_whole, maximum_of, number_of, setting, store_of_number, writing};
+ghost use Rattle.h5_c.specs.Given.{IsArrayMadeWith, IsMadeOf, IsMadeWith, IsStoreMade, creating, hyper_of, is_whole, maximum_of, number_of, setting, store_of_number};
 
 use crate::status::{NO_MEMORY, NO_SUCH_TYPE, WRONG_ROOM};
-use h5_file::{AttrSpec, Edit, Fixed, Hyper, Items, Spec, Store};
+use h5_file::{AttrSpec, Buffer, Edit, Fixed, Hyper, Items, Spec, Store};
 use h5_types::decode;
 use std::alloc::{AllocError, Global};
 
@@ -164,23 +164,18 @@ fn type_of(of: CType, bytes: &[u8]) -> Result<Fixed, Unmade>
     Ok(fixed)
 }
 
-pub(crate) fn write_bytes(
-    alloc: Global,
-    path: &[u8],
-    lists: &Lists<'_>,
-    of: CType,
-    bytes: &[u8],
-) -> Result<Edit, Unmade>
+/// The values that these bytes stand for, lent as they are.
+pub(crate) fn buffer_of(of: CType, bytes: &[u8]) -> Result<Buffer<'_>, Unmade>
     ensures { IsMadeWith (fixed_from of.size of.signed of.big) (is_whole bytes.now)
-        (λ t. IsMadeOf (writing path.now (hyper_of lists.now) t bytes.now) result)
-        (λ u. result ≡ Err u) }
+        (λ t. result ≡ Ok (stored_values t bytes.now)) (λ u. result ≡ Err u) }
 {
-    let fixed = type_of(of, bytes)?;
-    Ok(Edit::Write {
-        path: Items::from_slice(alloc, path)?,
-        hyper: lists.hyper(alloc)?,
-        values: Items::new(values_of(alloc, &fixed, bytes)?),
-    })
+    let Some(fixed) = Fixed::new(of.size, of.signed, of.big) else {
+        return Err(Unmade::NoSuchType);
+    };
+    let Some(buffer) = Buffer::cells(fixed, bytes) else {
+        return Err(Unmade::WrongRoom);
+    };
+    Ok(buffer)
 }
 
 pub(crate) fn set_attribute(

@@ -16,6 +16,7 @@ mod script;
 mod slot;
 pub mod status;
 mod view;
+mod write;
 
 pub use ask::About;
 pub use given::CType;

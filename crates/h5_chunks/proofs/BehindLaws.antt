@@ -1,15 +1,15 @@
 -- The offsets behind a chunk, one after another.
-use Rattle.std.proofs.Common.{◌≡◌, ℕ, zero, suc, ◌+◌, ◌<◌, ◌^◌, List, [], ◌∷◌, ◌++◌, length, get_or, take, refl, ap, ◌∙◌, arith}
+use Rattle.std.proofs.Common.{◌≡◌, ℕ, zero, suc, ◌+◌, ◌*◌, ◌<◌, ◌^◌, List, [], ◌∷◌, ◌++◌, length, get_or, take, refl, ap, ◌∙◌, arith}
 use Rattle.std.proofs.lemmas.Grind.{flat_map-append}
 use Rattle.std.proofs.lemmas.List.{take_more}
 use Rattle.std.proofs.lemmas.List.FromFn.{get_or-map-range_with_len, length-map-range_with_len}
-use Rattle.std.specs.List.{AllByRecursion}
-use Rattle.h5_bytes.specs.Bytes.{little_bytes}
+use Rattle.std.specs.List.{AllByRecursion, AllZip}
+use Rattle.h5_bytes.specs.Bytes.{little_bytes, number_at}
 use Rattle.h5_bytes.specs.Numbers.{word}
 use Rattle.h5_model.specs.Format.Bodies.{words}
-use Rattle.h5_model.specs.Format.Chunks.{offsets_in}
+use Rattle.h5_model.specs.Format.Chunks.{IsOffset, offsets_in}
 use Rattle.h5_chunks.specs.Keys.{index_from}
-use Rattle.h5_chunks.proofs.OffsetLaws.{offset_at}
+use Rattle.h5_chunks.proofs.OffsetLaws.{aligned_at, offset_at}
 
 pub length-index_from : (offsets inner : List ℕ) → length offsets ≡ length inner → length (index_from offsets inner) ≡ length inner
 length-index_from [] [] same = refl
@@ -30,6 +30,11 @@ short_at [] zero all = omega arith
 short_at [] (suc d) all = omega arith
 short_at (s ∷ ss) zero all = all.0
 short_at (s ∷ ss) (suc d) all = short_at ss d all.1
+
+-- the offset of a whole chunk with its size added fits eight bytes
+pub behind_fits : (sizes key : List ℕ) (d : ℕ) → AllZip IsOffset sizes (offsets_in (length sizes) key) → AllByRecursion (λ (size : ℕ). size < 2 ^ 32) sizes → d < length sizes
+    → number_at key (8 + 8 * d) 8 + get_or sizes d 0 < 2 ^ 64
+behind_fits sizes key d aligned short low = omega (arith, (aligned_at sizes key d aligned low).small, short_at sizes d short)
 
 module _ (sizes key : List ℕ) where
   abbrev offsets : List ℕ

@@ -16,29 +16,12 @@ use Rattle.h5_space.specs.Whole.{IsApart}
 use Rattle.h5_space.proofs.MovesLaws.{moves_apart, moves_beside, moves_kept, moves_same}
 use Rattle.h5_btree.specs.Walk.Forms.{OfChunks}
 use Rattle.h5_btree.specs.Walk.Trees.{nodes_blocks}
+use Rattle.h5_btree.proofs.BlocksInside.{inside_held, made_long}
 use Rattle.h5_chunks.specs.Put.{HasChunkPut, IsBlockBeside}
 use Rattle.h5_chunks.specs.Told.{chunk_blocks_told, chunks_told, listed_told}
 use Rattle.h5_chunks.proofs.InsertedChunk.{IsChunkBefore, read_with, told_with}
 use Rattle.h5_chunks.proofs.KeyedTold.{IsOrderedTree, ordered_tree}
 use Rattle.h5_chunks.proofs.Stored.{blocks_are}
-
--- ---- blocks that lie in an image
-
--- blocks that have bytes and hold none from an end on lie before it
-inside_held : (end : ℕ) (bs : List Block) → ((p : ℕ) → cover p bs ≤ holds p 0 end) → AllByRecursion (λ (b : Block). 1 ≤ b.len) bs → Inside end bs
-inside_held end [] held some = tt
-inside_held end (b ∷ bs) held some =
-    let last = b.at + (b.len - 1) in
-    let here : holds last b.at b.len ≡ 1 = holds_in last b.at b.len (omega arith) (omega (arith, some.0)) in
-    let first : b.at + b.len ≤ end = elim (cases_lt last end) [
-      | inl low ↦ omega (arith, low)
-      | inr past ↦ absurd (omega (arith, here, held last, holds_past last 0 end (omega (arith, past))))
-    ] in
-    (first, inside_held end bs (λ p. omega (arith, held p)) some.1)
-
-made_long : (f : ℕ → Block) (xs : List ℕ) → ((x : ℕ) → 1 ≤ (f x).len) → AllByRecursion (λ (b : Block). 1 ≤ b.len) (map f xs)
-made_long f [] some = tt
-made_long f (x ∷ xs) some = (some x, made_long f xs some)
 
 -- the blocks of chunks with one more
 cover-insert : (p bytes : ℕ) (list : List ℕ) (j chunk : ℕ) → cover p (map (λ (at : ℕ). block at bytes) (insert list j chunk)) ≡ holds p chunk bytes + cover p (map (λ (at : ℕ). block at bytes) list)

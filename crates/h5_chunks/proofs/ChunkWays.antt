@@ -25,30 +25,11 @@ use Rattle.h5_btree.proofs.TreeReadings.{owned_at}
 use Rattle.h5_btree.proofs.WayInTree.{way_in_tree}
 use Rattle.h5_btree.proofs.WayRows.{leaves_here}
 use Rattle.h5_btree.proofs.WaySteps.{first_owned}
+use Rattle.h5_btree.proofs.WaysDown.{first_ends}
 use Rattle.h5_chunks.specs.Edited.{AreChunksApart}
 use Rattle.h5_chunks.specs.Told.{chunk_blocks_told, chunks_told}
 use Rattle.h5_chunks.specs.Way.{chunk_behind}
 use Rattle.h5_chunks.proofs.ChunkFound.{heads, key_is_chunk, chunk_absent, key_low, stored_there, top}
-
--- ---- the first step of a way
-
-module _ (V : Reading) (behind : List ℕ → Bool) where
-  first_step : (level at : ℕ) (way : List Step) → IsWayTo V behind level at way
-      → (step : Step) × (above : List Step) × (way ≡ step ∷ above) × EndsAt V behind level at (V step.node) step.place
-  first_step zero at way to = (record { node = at; place = to.0 }, [], to.2, (refl, to.1))
-  first_step (suc level) at way to =
-      let s : Step = record { node = at; place = to.0 } in
-      let r = first_step level (slice_index (V at).children to.0) to.1 to.3 in
-      (r.0, r.1 ++ s ∷ [], to.4 ∙ ap (λ (xs : List Step). xs ++ s ∷ []) r.2, (to.0, to.2, r.3))
-
-  -- it is where the way ends
-  pub first_ends : (level at : ℕ) (step : Step) (above way : List Step) → way ≡ step ∷ above → IsWayTo V behind level at way
-      → EndsAt V behind level at (V step.node) step.place
-  first_ends level at step above way is to =
-      let r = first_step level at way to in
-      let both : step ∷ above ≡ r.0 ∷ r.1 = sym is ∙ r.2 in
-      let same : r.0 ≡ step = cc in
-      subst (λ (s : Step). EndsAt V behind level at (V s.node) s.place) same r.3
 
 -- ---- the child at the end of a way is one of those at the bottom, by its number
 
@@ -127,7 +108,8 @@ module _ (s : Space) (shape : Shape) (root : ℕ) (chunks : AreChunksApart s sha
     module _ (same : length offsets ≡ length shape.sizes) (there : IsSome (get (chunks_told s.bytes shape root) offsets))
         (step : Step) (above : List Step) (is : way ≡ step ∷ above) where
       ends : EndsAt V (chunk_behind offsets) (level_at s.bytes kind root) root (V step.node) step.place
-      ends = first_ends V (chunk_behind offsets) (level_at s.bytes kind root) root step above way is to
+      ends = first_ends V (chunk_behind offsets) (level_at s.bytes kind root) root step above
+          (subst (IsWayTo V (chunk_behind offsets) (level_at s.bytes kind root) root) is to)
 
       abbrev key : List ℕ
       key = get_or (V step.node).keys step.place []

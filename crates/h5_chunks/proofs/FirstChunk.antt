@@ -16,8 +16,8 @@ use Rattle.h5_laws.specs.KeyEdits.{IsPut}
 use Rattle.h5_space.specs.Space.{Space}
 use Rattle.h5_btree.specs.Insertion.{IsChildPut, IsEmptyTree}
 use Rattle.h5_btree.specs.Keyed.{items_of_tree}
+use Rattle.h5_btree.proofs.EmptyTrees.{empty_tree}
 use Rattle.h5_btree.proofs.KeyedFills.{first_sorted}
-use Rattle.h5_btree.proofs.NodeLaws.{length-children}
 use Rattle.h5_chunks.specs.Put.{HasChunkPut, IsBlockBeside}
 use Rattle.h5_chunks.specs.Told.{chunk_blocks_told, chunks_told, listed_told}
 use Rattle.h5_chunks.proofs.ChunkBlocks.{chunk_put}
@@ -26,25 +26,6 @@ use Rattle.h5_chunks.proofs.FullWays.{trees_apart}
 use Rattle.h5_chunks.proofs.InsertedChunk.{IsChunkBefore}
 use Rattle.h5_chunks.proofs.KeyedTold.{IsKeyedChunk, IsOrderedTree, chunk_numbers, chunk_of, items_told, keyed_at}
 use Rattle.h5_chunks.proofs.ToldLaws.{entries_told}
-
--- ---- a tree without children
-
-module _ (image : List ℕ) (kind : Kind) (root : ℕ) (owned : List ℕ) (none : (node_at image kind root).children ≡ []) where
-  read_none : (b : Bool) → (if b then node_at image kind root else blank).children ≡ []
-  read_none true = none
-  read_none false = refl
-
-  row_none : next_row (reading_of image kind owned) (root ∷ []) ≡ []
-  row_none = ap (λ (ns : List ℕ). ns ++ []) (read_none (list_any (λ n. n == root) owned))
-
-pub empty_tree : (image : List ℕ) (kind : Kind) (root level : ℕ) (owned list : List ℕ) → HasTree image kind root level owned list
-    → (node_at image kind root).children ≡ [] → (level ≡ 0) × (owned ≡ root ∷ []) × (list ≡ [])
-empty_tree image kind root zero owned list has none = (refl, has.owns, has.all ∙ row_none image kind root owned none)
-empty_tree image kind root (suc level) owned list has none =
-    let filled = subst (AllByRecursion (λ at. 1 ≤ entries_in (node_bytes image kind at))) has.owns (has.filled (omega arith)) in
-    let count = length-children kind (node_bytes image kind root) (node_at image kind root) refl in
-    let zero_long = ap (λ (ns : List ℕ). length ns) none in
-    absurd (omega (arith, filled.0, count, zero_long))
 
 no_entries : (es : List (List ℕ × ℕ)) → map (λ (e : List ℕ × ℕ). e.1) es ≡ [] → es ≡ []
 no_entries [] none = refl

@@ -19,12 +19,13 @@ use Rattle.h5_btree.specs.declared.way.Step.{Step}
 use Rattle.h5_btree.proofs.TreeReadings.{Listed}
 use Rattle.h5_btree.proofs.WayInTree.{way_in_tree}
 use Rattle.h5_btree.proofs.WaySteps.{all_map, way_owned}
+use Rattle.h5_btree.proofs.WaysDown.{way_long}
 use Rattle.h5_chunks.specs.Edited.{IsFullAt}
 use Rattle.h5_chunks.specs.Read.{AreChunksRead}
 use Rattle.h5_chunks.specs.Told.{chunk_blocks_told, chunks_told}
 use Rattle.h5_chunks.specs.Way.{chunk_behind}
 use Rattle.h5_chunks.proofs.ChunkFound.{each_rises, stored_there, top}
-use Rattle.h5_chunks.proofs.SoughtWays.{IsRisingNode, IsRisingStep, behind_at, behind_same, one_way, way_long}
+use Rattle.h5_chunks.proofs.SoughtWays.{IsRisingNode, IsRisingStep, behind_at, behind_same, chunk_way}
 
 module _ (s : Space) (shape : Shape) (root : ℕ) (read : AreChunksRead s.bytes shape root)
     (apart : (p : ℕ) → cover p (chunk_blocks_told s.bytes shape root) + cover p s.free ≤ holds p 0 (length s.bytes)) (short : length s.bytes < 2 ^ 64) where
@@ -87,11 +88,9 @@ module _ (s : Space) (shape : Shape) (root : ℕ) (read : AreChunksRead s.bytes 
           (way_owned s kind root level way owned (values (chunks_told s.bytes shape root)) own_ends.0 own_ends.1)
 
       -- there is no other way
-      pub of_full : IsFullAt s.bytes shape root offsets → (length way ≡ 16) × IsFullWay s.bytes (shape_kind s.bytes shape) way
+      pub of_full : IsFullAt s.bytes shape root offsets → IsFullWay s.bytes (shape_kind s.bytes shape) way
       of_full f =
           let there : IsWayTo V (chunk_behind offsets) (level_at s.bytes kind root) root f.way
           = subst (λ (l : ℕ). IsWayTo V (chunk_behind offsets) l root f.way) (sym f.high) f.sought in
-          let one : way ≡ f.way = one_way rank V offsets level root way f.way (own_way way to) (own_way f.way there) steps_rise in
-          let n = long in
-          let high = f.high in
-          (omega (arith, n, high), subst (IsFullWay s.bytes kind) (sym one) f.nodes)
+          let one : way ≡ f.way = chunk_way rank V offsets level root way f.way (own_way way to) (own_way f.way there) steps_rise in
+          subst (IsFullWay s.bytes kind) (sym one) f.nodes

@@ -1,5 +1,5 @@
 -- The chunks of a tree that hold a cell of an extent are those of its nodes of level 0.
-use Rattle.std.proofs.Common.{◌≡◌, ℕ, ◌+◌, ◌≤◌, List, [], ◌∷◌, ◌++◌, length, map, Bool, true, false, cond, refl, sym, ap, ◌∙◌, subst, arith}
+use Rattle.std.proofs.Common.{◌≡◌, ℕ, ◌+◌, ◌<◌, ◌≤◌, List, [], ◌∷◌, ◌++◌, length, map, get_or, Bool, true, false, cond, refl, sym, ap, ◌∙◌, subst, arith}
 use Rattle.std.specs.Prelude.{T}
 use Rattle.std.specs.Ordering.{nat_cmp}
 use Rattle.std.specs.Cmp.Lexicographic.{slice_cmp}
@@ -18,6 +18,8 @@ use Rattle.h5_model.specs.Format.Reached.{Shape, shape_kind}
 use Rattle.h5_model.proofs.MapSteps.{retain_by_name}
 use Rattle.h5_laws.proofs.Lists.{In, all_in, in_all, in_flat, in_map}
 use Rattle.h5_laws.proofs.Maps.{true_of}
+use Rattle.h5_laws.proofs.Subtrees.{index_in}
+use Rattle.h5_btree.specs.Walk.Below.{IsStanding}
 use Rattle.h5_btree.specs.Walk.Forms.{IsKeyed, OfChunks}
 use Rattle.h5_btree.specs.Walk.Stands.{IsNodeAt, IsTreeAt, bottom_at}
 use Rattle.h5_btree.proofs.WalkLaws.Descended.{root_there}
@@ -69,7 +71,7 @@ module _ (image : List ℕ) (shape : Shape) (root : ℕ) (read : AreChunksRead i
       ap (map (λ (c : List ℕ × ℕ). c.1)) (entries_are image shape root read) ∙ row_addresses image shape (row_below V (read.stored).level (root ∷ []))
       ∙ ap (next_row V) (sym rows_are)
 
-  pub bottom_node : (at : ℕ) → In at bottom → IsNodeAt image (OfChunks shape) at → IsBottomNode image shape at
+  bottom_node : (at : ℕ) → In at bottom → IsNodeAt image (OfChunks shape) at → IsBottomNode image shape at
   bottom_node at here stands =
       let tree = stored_tree image shape root (chunks_told image shape root) _ read.stored in
       record {
@@ -78,6 +80,15 @@ module _ (image : List ℕ) (shape : Shape) (root : ℕ) (read : AreChunksRead i
         inside = all_in (λ (n : ℕ). n + shape.bytes ≤ length image) (V at).children (λ n child.
             chunk_there n (subst (In n) (sym values_are) (in_flat (λ a. (V a).children) at n bottom here child)));
       }
+
+  -- so it is of each of the row
+  pub row_node : (row : List ℕ) (k : ℕ) → k < length row → row ≡ bottom_at image (OfChunks shape) root → AllByRecursion (IsStanding image (OfChunks shape) 0) row
+      → IsBottomNode image shape (get_or row k 0)
+  row_node row k low is stand =
+      let at : ℕ = get_or row k 0 in
+      let here : In at row = index_in row k 0 low in
+      let stands : IsStanding image (OfChunks shape) 0 at = in_all (IsStanding image (OfChunks shape) 0) at row stand here in
+      bottom_node at (subst (In at) is here) (record { formed = stands.formed; inside = stands.there })
 
   -- those that hold a cell of the extent
   pub held_entries : (test : List ℕ → Bool) → entries (retain_keys (chunks_told image shape root) test) ≡ where_key (slice_cmp nat_cmp) test (listed_told image shape root)

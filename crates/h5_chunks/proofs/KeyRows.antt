@@ -13,15 +13,6 @@ use Rattle.h5_chunks.specs.Lists.{AreKeysOf, IsKeyOf, key_length, keys_in, rows}
 div_small : (n k : ℕ) → n < k → n / k ≡ 0
 div_small n k low = let under : n / k < 1 = div_below n k 1 (omega (arith, low)) (omega (arith, low)) in omega (arith, under)
 
-div_more : (n k : ℕ) → 0 < k → k ≤ n → n / k ≡ suc ((n - k) / k)
-div_more n k some high =
-    let a : ℕ = (n - k) / k in
-    let b : ℕ = (n - k) % k in
-    let less : a * k + b ≡ n - k = div-add-mod' (n - k) k in
-    let one : suc a * k ≡ a * k + k = omega arith in
-    let whole : suc a * k + b ≡ n = omega (arith, less, one, high) in
-    ap (λ m. m / k) (sym whole) ∙ div-mul-add (suc a) k b (mod_below (n - k) k some)
-
 -- ---- rows
 
 module _ (long : ℕ) where
@@ -57,12 +48,6 @@ module _ (rank : ℕ) where
   keys_none bytes few =
       let none : length bytes / long ≡ 0 = div_small (length bytes) long few in
       ap (λ n. rows long n bytes) none
-
-  pub keys_first : (bytes : List ℕ) → long ≤ length bytes → keys_in rank bytes ≡ take long bytes ∷ keys_in rank (drop long bytes)
-  keys_first bytes some =
-      let less : length (drop long bytes) ≡ length bytes - long = length-drop long bytes in
-      let one : length bytes / long ≡ suc ((length bytes - long) / long) = div_more (length bytes) long (omega arith) some in
-      ap (λ n. rows long n bytes) (one ∙ ap (λ n. suc (n / long)) (sym less))
 
   pub length-keys : (bytes : List ℕ) → length (keys_in rank bytes) ≡ length bytes / long
   length-keys bytes = length-rows long (length bytes / long) bytes

@@ -3,23 +3,20 @@
 use Rattle.std.proofs.Common.{◌≡◌, ℕ, zero, suc, ◌<◌, ◌≤◌, List, [], ◌∷◌, length, map, refl, sym, ap, ◌∙◌, subst, arith}
 use Rattle.std.specs.Prelude.{slice_index_or}
 use Rattle.std.specs.List.{AllByRecursion, zip}
-use Rattle.h5_bytes.specs.Bytes.{undefined}
 use Rattle.h5_model.specs.Format.Chunks.{IsChunkKey, IsChunkOrdered, chunks_at, offsets_in}
 use Rattle.h5_model.specs.Format.Nodes.{HasTree, Kind, node_at, reading_of}
 use Rattle.h5_model.specs.Format.Reached.{Shape, shape_kind}
 use Rattle.h5_model.specs.Format.Rows.{Node, Reading, row_below}
-use Rattle.h5_model.proofs.OneTree.{owned_is}
 use Rattle.h5_laws.specs.ChunkLadders.{chunk_lists, rising_chunk_sides}
 use Rattle.h5_laws.specs.Ladders.{IsOrderedBy}
 use Rattle.h5_laws.proofs.ChunkLadders.{chunks_by, chunks_under}
 use Rattle.h5_laws.proofs.LadderTrees.{ordered_there, own_ordered}
 use Rattle.h5_laws.proofs.Lists.{In, all_in, in_all}
-use Rattle.h5_laws.proofs.Rows.{row_is, row_level, row_of, rows_below}
 use Rattle.h5_laws.proofs.Subtrees.{read_same}
-use Rattle.h5_laws.proofs.Trees.{row_owned, tree_rows}
 use Rattle.h5_btree.specs.Keyed.{AtChild, IsInOrder, at_children, items_of_tree}
 use Rattle.h5_btree.specs.Walk.Forms.{IsKeyed, OfChunks}
 use Rattle.h5_btree.proofs.KeyedOrder.{IsBottomOf, IsNodeInOrder, items-under, nodes_in_order, tree_in_order}
+use Rattle.h5_chunks.proofs.KeyedTold.{at_bottom, bottom_level, bottom_owned}
 use Rattle.h5_chunks.proofs.NodeKeys.{one_more_key}
 
 -- a chunk at the bottom, by its key and its address
@@ -94,17 +91,6 @@ module _ (image : List ℕ) (shape : Shape) (root level : ℕ) where
     abbrev Rises : ℕ → Type 0
     Rises n = IsOrderedBy (rising_chunk_sides rank) V (chunk_lists rank) (V n)
 
-    -- a node of level 0 is one of the lowest row
-    low_row : (n : ℕ) → In n owned → (V n).level ≡ 0 → In n bottom
-    low_row n there low =
-        let place = row_of V level n (root ∷ []) (subst (In n) (owned_is image kind root level owned list has) there) in
-        let rows = tree_rows image kind root level owned list has in
-        let here : (V n).level ≡ place.1
-        = row_level V place.1 undefined n (row_below V place.0 (root ∷ []))
-        (row_is V place.1 (row_below V place.0 (root ∷ [])) (rows_below V place.0 place.1 level (root ∷ []) place.2 rows)) place.3 in
-        let last : place.0 ≡ level = (let sum = place.2 in omega (arith, sum, here, low)) in
-        subst (λ (d : ℕ). In n (row_below V d (root ∷ []))) last place.3
-
     -- A TREE IS IN ORDER where each of its nodes is, and its keys are those of chunks
     pub chunks_in_order : AllByRecursion Rises owned → AllByRecursion (λ at. IsKeyed (OfChunks shape) (V at)) bottom → AreInOrder image shape level root
     chunks_in_order rises keyed =
@@ -115,7 +101,7 @@ module _ (image : List ℕ) (shape : Shape) (root level : ℕ) where
               (in_all Rises n owned rises there),
           λ low. subst (λ (o : Node). AllByRecursion (HasShape shape) (at_children keyed_chunk o.keys o.children)) (sym same)
               (all_keyed shape (V n).keys (V n).children
-              (in_all (λ at. IsKeyed (OfChunks shape) (V at)) n bottom keyed (low_row n there (ap (λ (o : Node). o.level) (sym same) ∙ low)))),
+              (in_all (λ at. IsKeyed (OfChunks shape) (V at)) n bottom keyed (at_bottom image shape root level owned list has n there (ap (λ (o : Node). o.level) (sym same) ∙ low)))),
         )))
 
     module _ (sorted : AreInOrder image shape level root) where
@@ -135,10 +121,9 @@ module _ (image : List ℕ) (shape : Shape) (root level : ℕ) where
       -- and the keys of the lowest row are those of chunks
       pub chunks_keyed : AllByRecursion (λ at. IsKeyed (OfChunks shape) (V at)) bottom
       chunks_keyed = all_in (λ at. IsKeyed (OfChunks shape) (V at)) bottom (λ n there.
-          let own : In n owned = row_owned image kind root level owned list has level 0 n (omega arith) there in
+          let own : In n owned = bottom_owned image shape root level owned list has n there in
           let same : Y n ≡ V n = read_same image kind root level owned list has n own in
-          let rows = tree_rows image kind root level owned list has in
-          let low : (V n).level ≡ 0 = row_level V 0 undefined n bottom (row_is V 0 bottom (rows_below V level 0 level (root ∷ []) (omega arith) rows)) there in
+          let low : (V n).level ≡ 0 = bottom_level image shape root level owned list has n there in
           let all : AllByRecursion (HasShape shape) (at_children keyed_chunk (V n).keys (V n).children)
           = subst (λ (o : Node). AllByRecursion (HasShape shape) (at_children keyed_chunk o.keys o.children)) same
           ((in_all IsRight n owned all_right own).1 (ap (λ (o : Node). o.level) same ∙ low)) in

@@ -103,7 +103,7 @@ module _ (image : List ℕ) (shape : Shape) (root level : ℕ) (owned list : Lis
   InOrder = IsNodeInOrder (chunk_of rank) keyed_at (chunk_lists rank) Y bottom_is (rising_chunk_sides rank) (IsKeyedChunk shape)
 
   -- the nodes of level 0 are those of the row at the bottom
-  at_bottom : (n : ℕ) → In n owned → (V n).level ≡ 0 → In n bottom
+  pub at_bottom : (n : ℕ) → In n owned → (V n).level ≡ 0 → In n bottom
   at_bottom n there zero_level =
       let place = row_of V level n (root ∷ []) (subst (In n) (owned_is image kind root level owned list has) there) in
       let rows = rows_below V place.0 place.1 level (root ∷ []) place.2 (tree_rows image kind root level owned list has) in
@@ -111,10 +111,10 @@ module _ (image : List ℕ) (shape : Shape) (root level : ℕ) (owned list : Lis
       let last : place.0 ≡ level = let sum = place.2 in omega (arith, sum, here, zero_level) in
       subst (λ (d : ℕ). In n (row_below V d (root ∷ []))) last place.3
 
-  bottom_owned : (n : ℕ) → In n bottom → In n owned
+  pub bottom_owned : (n : ℕ) → In n bottom → In n owned
   bottom_owned n there = row_owned image kind root level owned list has level 0 n (omega arith) there
 
-  bottom_level : (n : ℕ) → In n bottom → (V n).level ≡ 0
+  pub bottom_level : (n : ℕ) → In n bottom → (V n).level ≡ 0
   bottom_level n there =
       row_level V 0 undefined n bottom (row_is V 0 bottom (rows_below V level 0 level (root ∷ []) (omega arith) (tree_rows image kind root level owned list has))) there
 

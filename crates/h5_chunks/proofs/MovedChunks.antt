@@ -1,5 +1,5 @@
 -- Edits of chunks one after another.
-use Rattle.std.proofs.Common.{◌≡◌, ℕ, ◌+◌, List, [], ◌∷◌, refl, sym, ◌∙◌, subst}
+use Rattle.std.proofs.Common.{◌≡◌, ℕ, ◌+◌, List, [], ◌∷◌, ◌++◌, refl, sym, ◌∙◌, subst}
 use Rattle.std.specs.FinMap.{remove, retain_keys}
 use Rattle.h5_bytes.specs.Blocks.{Keeps}
 use Rattle.h5_model.specs.Format.Chunks.{Chunks}
@@ -12,7 +12,7 @@ use Rattle.h5_chunks.specs.Edited.{AreChunksApart, HasChunksNow}
 use Rattle.h5_chunks.specs.Lists.{offsets_outside}
 use Rattle.h5_chunks.specs.Told.{chunk_blocks_told, chunks_told}
 use Rattle.h5_chunks.proofs.KeptChunks.{blocks_of_chunks, keeps_after, keeps_same, less_kept}
-use Rattle.h5_chunks.proofs.OutsideLaws.{first_outside, none_outside}
+use Rattle.h5_chunks.proofs.OutsideLaws.{last_outside, none_outside}
 
 module _ (shape : Shape) (root : ℕ) where
   -- nothing happens
@@ -29,7 +29,7 @@ module _ (shape : Shape) (root : ℕ) where
     k = second.k ∙ first.k;
   }
 
-  -- ---- chunks outside of an extent are taken out one by one
+  -- ---- chunks outside of an extent are taken out one by one, from the last on
 
   module _ (sizes : List ℕ) where
     -- Some were taken out, with so many calls. These are left that are outside, and as many are inside as before.
@@ -43,17 +43,17 @@ module _ (shape : Shape) (root : ℕ) where
     pub none_taken : (s : Space) → AreChunksApart s shape root → AreTakenOut s s (offsets_outside sizes (chunks_told s.bytes shape root)) 0
     none_taken s apart = record { has = has_chunks_none s apart; outside = refl; inside = refl; spent = spends_none s; kept = keeps_same s.bytes (blocks_of_chunks shape (chunks_told s.bytes shape root)) }
 
-    pub one_taken : (old now next : Space) (offsets : List ℕ) (others : List (List ℕ)) (calls : ℕ) → AreTakenOut old now (offsets ∷ others) calls
+    pub one_taken : (old now next : Space) (others : List (List ℕ)) (offsets : List ℕ) (calls : ℕ) → AreTakenOut old now (others ++ offsets ∷ []) calls
         → HasChunksNow now next shape root (remove (chunks_told now.bytes shape root) offsets) → Spends now next 0 16
         → Keeps now.bytes next.bytes (blocks_of_chunks shape (chunks_told now.bytes shape root)) → AreTakenOut old next others (calls + 16)
-    one_taken old now next offsets others calls taken step spent kept =
-        let first = first_outside sizes (chunks_told now.bytes shape root) offsets others taken.outside in
+    one_taken old now next others offsets calls taken step spent kept =
+        let last = last_outside sizes (chunks_told now.bytes shape root) others offsets taken.outside in
         record {
           has = subst (HasChunksNow old next shape root) (sym step.told)
               (has_chunks_then old now next (chunks_told now.bytes shape root) (remove (chunks_told now.bytes shape root) offsets) taken.has step);
-          outside = subst (λ (c : Chunks). offsets_outside sizes c ≡ others) (sym step.told) first.outside;
+          outside = subst (λ (c : Chunks). offsets_outside sizes c ≡ others) (sym step.told) last.outside;
           inside = subst (λ (c : Chunks). retain_keys c (is_inside sizes) ≡ retain_keys (chunks_told old.bytes shape root) (is_inside sizes)) (sym step.told)
-              (first.inside ∙ taken.inside);
+              (last.inside ∙ taken.inside);
           spent = spends_then old now next 0 0 calls 16 taken.spent spent;
           kept = subst (λ (c : Chunks). Keeps old.bytes next.bytes (blocks_of_chunks shape c)) (sym step.told)
               (less_kept (chunks_told now.bytes shape root) shape old.bytes next.bytes offsets

@@ -25,6 +25,7 @@ use Rattle.h5_btree.specs.Removal.{EndsInTree}
 use Rattle.h5_btree.specs.Widened.{IsWidened, ends_along}
 use Rattle.h5_btree.specs.declared.way.Step.{Step}
 use Rattle.h5_btree.proofs.KeyedOwn.{keys_count}
+use Rattle.h5_btree.proofs.WaysDown.{IsChosen, first_ends, way_chosen}
 use Rattle.h5_chunks.specs.Bushy.{IsBushy}
 use Rattle.h5_chunks.specs.Edited.{CanBeStored, IsFullAt}
 use Rattle.h5_chunks.specs.Put.{HasChunkPut, IsBlockBeside, IsKeyBehind, IsPutBeside, IsWayWidened}
@@ -36,7 +37,7 @@ use Rattle.h5_chunks.proofs.BushyPuts.{bushy_put, bushy_widened}
 use Rattle.h5_chunks.proofs.BushyTrees.{bushy_below, bushy_told}
 use Rattle.h5_chunks.proofs.ChunkBlocks.{chunk_put}
 use Rattle.h5_chunks.proofs.ChunkFound.{chunk_found, each_rises, stored_there}
-use Rattle.h5_chunks.proofs.SoughtWays.{IsChosen, behind_at, behind_same, first_ends, way_chosen}
+use Rattle.h5_chunks.proofs.SoughtWays.{behind_at, behind_same}
 use Rattle.h5_chunks.proofs.FullWays.{few_steps, full_of, own_ends, own_way}
 use Rattle.h5_chunks.proofs.InsertedChunk.{IsChunkBefore}
 use Rattle.h5_chunks.proofs.KeyedTold.{IsOrderedTree, chunk_numbers, chunk_of, items_told, keyed_at, to_order}

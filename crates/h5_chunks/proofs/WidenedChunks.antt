@@ -21,7 +21,8 @@ use Rattle.h5_btree.proofs.KeyedEases.{IsEased, eased_sorted}
 use Rattle.h5_btree.proofs.KeyedOwn.{keys_count}
 use Rattle.h5_btree.proofs.TreeReadings.{Listed}
 use Rattle.h5_btree.proofs.WaySteps.{way_owned}
-use Rattle.h5_chunks.proofs.SoughtWays.{IsChosen, behind_at}
+use Rattle.h5_btree.proofs.WaysDown.{IsChosen}
+use Rattle.h5_chunks.proofs.SoughtWays.{behind_at}
 use Rattle.h5_chunks.proofs.KeyedTold.{IsKeyedChunk, IsOrderedTree, chunk_of, keyed_at}
 use Rattle.h5_chunks.proofs.WidenedNode.{gives_way, high_now, keys_now, left_there, low_now, low_there, right_there}
 

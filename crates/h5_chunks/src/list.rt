@@ -1,9 +1,8 @@
 //! Chunks that are kept by their keys (File Format Specification 3.0, section III.A.1).
 
-ghost use Rattle.std.specs.Prelude.{◌≡◌, ◌==◌, ◌^◌, ◌<◌, ◌≤◌, ◌++◌, ◌∷◌, [], OnOk, length, map, slice_index_or};
-ghost use Rattle.std.specs.List.{AllByRecursion};
+ghost use Rattle.std.specs.Prelude.{◌≡◌, ◌==◌, ◌^◌, ◌<◌, ◌≤◌, ◌++◌, ◌∷◌, [], OnOk, length, slice_index_or};
 ghost use Rattle.h5_model.specs.Format.Chunks.{offsets_in};
-ghost use Rattle.h5_chunks.specs.Lists.{IsKeyOf, key_length as length_of_key, keys_in};
+ghost use Rattle.h5_chunks.specs.Lists.{IsKeyOf, key_length as length_of_key};
 
 use crate::key::{LONGEST_KEY, OFFSETS, key_length};
 use crate::shape::ChunkShape;
@@ -100,16 +99,6 @@ impl ChunkList {
         ensures { result ≡ (length self.now.offsets == 0) }
     {
         self.len() == 0
-    }
-
-    /// Their keys, one behind another.
-    pub fn keys(&self) -> &[u8]
-        ensures offsets { map (offsets_in self.now.rank) (keys_in self.now.rank result.now)
-            ≡ self.now.offsets }
-        ensures each { AllByRecursion (IsKeyOf self.now.rank self.now.bytes)
-            (keys_in self.now.rank result.now) }
-    {
-        self.keys.as_slice()
     }
 
     /// The key of chunk `k`.

@@ -125,7 +125,10 @@ pub fn drop_outside(
         (values (chunks_told image.new.bytes shape.now root))) }
     ensures spends { Spends image.old image.new 0 (16 * length outside.now.offsets) }
 {
-    for k in 0..outside.len() {
+    // From the last one on, since what stands behind a chunk in its node moves up.
+    let mut k = outside.len();
+    while k > 0 {
+        k -= 1;
         take_out(image, shape, root, outside.key(k));
     }
 }

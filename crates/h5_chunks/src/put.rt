@@ -29,11 +29,14 @@ use h5_btree::{
 use h5_bytes::{put_u64, u64_at};
 use h5_space::Image;
 
-/// Bytes of the keys that come in along a way: the longest for each of its levels, which are 16 at most.
-const KEYS: usize = 4352;
+/// The level of the highest root that a tree may have.
+const HIGHEST: u8 = 15;
 
-/// How many steps a way has to a root at level 15.
-const MOST_STEPS: usize = 16;
+/// Bytes of the keys that come in along a way: the longest for each of its levels, which are 16 at most.
+const MOST_KEYS: usize = 4352;
+
+/// The same along most ways, which have few levels and short keys.
+const FEW_KEYS: usize = 512;
 
 /// Whether the tree has no room for the chunk with this key: its root is at level 15, and each node on the way to the
 /// chunk has as many children as it has room for. Takes no memory.
@@ -45,13 +48,16 @@ pub fn is_full_at(image: &Image, shape: &ChunkShape<'_>, root: u64, key: &[u8]) 
     ensures { IsTrue result
         ↔ IsFullAt image.now.bytes shape.now root (offsets_in (length shape.now.sizes) key.now) }
 {
+    if tree_node(image, shape, root).level() < HIGHEST {
+        return false;
+    }
     // An image has fewer than 2^64 bytes.
     let _bytes = image.bytes();
     let offsets = Offsets::of_key(shape.sizes.len(), key);
     let Some(way) = way_to(image, shape, root, offsets.as_slice()) else {
         return false;
     };
-    way.steps().len() == MOST_STEPS && is_full_way(image, shape.kind(image), &way)
+    is_full_way(image, shape.kind(image), &way)
 }
 
 /// Stores the chunk with this key in a tree, in a new block, and gives its address. What stands in the block is left open.
@@ -200,18 +206,38 @@ fn put_beside(image: &mut Image, kind: NodeKind, way: &Way, behind: bool, key: &
     ensures spends { Spends image.old image.new ((length way.now + 1) * length_of_node kind)
         (length way.now + 1) }
 {
-    let mut keys = keys_from(kind, key);
-    hold_keys(image, kind, &AnyKey, way, behind, &mut keys);
-    put_at(image, kind, way, behind, &keys, chunk);
+    // Clearing room for the keys of the highest tree takes longer than all else does in a low one.
+    if way.steps().len() * kind.key_length() <= FEW_KEYS {
+        put_in_room::<FEW_KEYS>(image, kind, way, behind, key, chunk);
+    } else {
+        put_in_room::<MOST_KEYS>(image, kind, way, behind, key, chunk);
+    }
 }
 
-/// Room for the keys that come in along a way. The first of them is this one.
-fn keys_from(kind: NodeKind, key: &[u8]) -> [u8; KEYS]
-    requires { length key.now ≡ kind.key_length }
-    ensures first { take kind.key_length result ≡ key.now }
-    ensures few { kind.key_length ≤ 272 }
+/// The same, with room for `N` bytes of the keys that come in along the way.
+fn put_in_room<const N: usize>(
+    image: &mut Image,
+    kind: NodeKind,
+    way: &Way,
+    behind: bool,
+    key: &[u8],
+    chunk: u64,
+)
+    requires ends { EndsSomewhere image.old kind way.now }
+    requires low { IsFullWay image.old.bytes kind way.now → length way.now < 16 }
+    requires width { length key.now ≡ kind.key_length }
+    requires room { length way.now * kind.key_length ≤ N }
+    requires least { 272 ≤ N }
+    requires most { N ≤ 4352 }
+    requires bytes { (length way.now + 1) * length_of_node kind ≤ image.old.room_bytes }
+    requires blocks { length way.now + 1 ≤ image.old.room_blocks }
+    requires short { length image.old.bytes + (length way.now + 1) * length_of_node kind < 2 ^ 64 }
+    ensures put { IsPutBeside image.old image.new kind way.now behind key.now chunk }
+    ensures spends { Spends image.old image.new ((length way.now + 1) * length_of_node kind)
+        (length way.now + 1) }
 {
-    let mut keys = [0; KEYS];
+    let mut keys = [0; N];
     keys[..kind.key_length()].copy_from_slice(key);
-    keys
+    hold_keys(image, kind, &AnyKey, way, behind, &mut keys);
+    put_at(image, kind, way, behind, &keys, chunk);
 }

@@ -52,7 +52,7 @@ IsTrimmedBy edit before after = Unit {0}
 
 -- No rule refuses it. The image is one of the tree that it gives, no byte of which gets lost, and keeps the K values. The bytes of the
 -- objects alone changed that the edit touches, no header moved, and the image has grown by no more than the edit needs. An object that it
--- makes stands in new blocks.
+-- makes stands in new blocks. Behind other sizes of an array nothing is stored outside of them.
 pub record IsEdited (before : FileState) (edit : Edit) (after : FileState) (e : Edited) : Type 0 where
   pub accepted : IsAccepted before edit
   pub state : state_of after ≡ state_after (state_of before) edit

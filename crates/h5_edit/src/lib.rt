@@ -19,6 +19,7 @@ mod written;
 
 pub use attributes::{remove_attr, set_attr};
 pub use created::{create_dataset, create_group};
+pub use h5_layout::{Buffer, encode};
 pub use h5_query::{
     ArrayRef, AttrRef, Dims, Found, Kind, MAX_DEPTH, MAX_RANK, Opened, Piece, Runs, Slab,
     SlabFault, StoreKind, StoredArray, Values, array_at, array_of, attributes_at, found_at,
@@ -26,7 +27,6 @@ pub use h5_query::{
     selected_at, store_of,
 };
 pub use h5_repack::empty_image;
-pub use h5_types::encode;
 pub use links::{hard_link, soft_link};
 pub use made::Made;
 pub use opening::{open_made, open_written};

@@ -13,7 +13,7 @@ ghost use Rattle.h5_edit.specs.Stored.{AreRunsStored, AreValuesWritten, HasStora
 
 use crate::links::insertion_fault;
 use crate::rules::check_write;
-use h5_layout::{Missing, missing_of};
+use h5_layout::{Buffer, Missing, missing_of};
 use h5_model::{EditFault, Edited, Hyper, ObjectNo};
 use h5_query::{Opened, described_of, slab_within};
 use h5_shape::CellRuns;
@@ -51,7 +51,7 @@ pub fn write(
     opened: &mut Opened,
     path: &[u8],
     hyper: &Hyper,
-    values: &[i128],
+    values: &Buffer<'_>,
 ) -> Result<Edited, EditFault>
     ensures { MatchResult result (IsEdited opened.old (Write path.now hyper.now values.now) opened.new) (λ e.
         IsRefused opened.old (Write path.now hyper.now values.now) e × (opened.new ≡ opened.old)) }
@@ -77,7 +77,7 @@ fn write_selected(
     opened: &mut Opened,
     number: u32,
     hyper: &Hyper,
-    values: &[i128],
+    values: &Buffer<'_>,
 ) -> Result<(), EditFault>
     requires { (path : List ℕ) × IsWriteAt opened.old path hyper.now values.now number }
     ensures { (path : List ℕ) → IsWriteAt opened.old path hyper.now values.now number
@@ -147,14 +147,14 @@ fn plan_write(
 }
 
 /// Writes values into the cells of these runs, all of which are stored.
-fn write_runs(alloc: Global, opened: &mut Opened, number: u32, runs: CellRuns, values: &[i128])
+fn write_runs(alloc: Global, opened: &mut Opened, number: u32, runs: CellRuns, values: &Buffer<'_>)
     requires { (d : Dataset) × AreRunsStored opened.old number runs values.now d }
     ensures { AreValuesWritten opened.old number (places_in runs) values.now opened.new }
 {
-    let mut left = values;
+    let mut left = values.lend();
     for run in runs {
         let (first, others) = left.split_at(run.length as usize);
-        opened.write_cells(alloc, number, run.place, first);
+        opened.write_cells(alloc, number, run.place, &first);
         left = others;
     }
 }

@@ -1,7 +1,10 @@
 -- A session once an edit was carried out, and its views followed it.
-use Rattle.std.proofs.Common.{◌≡◌, ℕ, ◌<◌, ◌≤◌, ◌^◌, ◌==◌, true, false, cond, List, [], ◌∷◌, length, map, Option, Some, None, refl, sym, ap, ◌∙◌, subst, arith}
+use Rattle.std.proofs.Common.{◌≡◌, ℕ, ◌+◌, ◌<◌, ◌≤◌, ◌^◌, ◌==◌, true, false, cond, List, [], ◌∷◌, length, map, Option, Some, None, refl, sym, ap, ◌∙◌, subst, arith}
 use Rattle.std.proofs.lemmas.Bool.Decides.{nat_tests}
-use Rattle.std.specs.FinMap.{from_entries}
+use Rattle.std.specs.Prelude.{sum_by}
+use Rattle.std.specs.Ordering.{nat_cmp}
+use Rattle.std.proofs.lemmas.List.Sums.{sum_by-cons}
+use Rattle.std.specs.FinMap.{from_entries, values}
 use Rattle.std.specs.List.{AllByRecursion}
 use Rattle.std.specs.Option.{option_and_then, option_map, option_map_or}
 use Rattle.h5_model.specs.Edits.Applied.{State, applied, named_object, resized, state_after, with_dataset, written}
@@ -11,14 +14,15 @@ use Rattle.h5_model.specs.Tree.Paths.{object_at}
 use Rattle.h5_model.specs.Tree.Places.{cells}
 use Rattle.h5_model.specs.Tree.Sound.{IsDataset}
 use Rattle.h5_model.specs.Views.Selection.{Slab, axes_of, selects_none}
-use Rattle.h5_model.specs.Views.Shown.{View, refreshing_path}
+use Rattle.h5_model.specs.Views.Shown.{View, met_by, refreshed_by, refreshed_of, refreshing_path}
 use Rattle.h5_model.specs.declared.edits.Edit.{Edit}
 use Rattle.h5_model.specs.declared.edits.Edit.TheVariants.{CreateGroup, CreateDataset, HardLink, SoftLink, Unlink, SetAttr, RemoveAttr, Write, Resize}
 use Rattle.h5_model.specs.declared.edits.Edited.{Edited}
+use Rattle.h5_model.proofs.MapSteps.{entries-empty}
 use Rattle.h5_edit.specs.Edited.{IsEdited}
 use Rattle.h5_edit.specs.Opened.State.{FileState, state_of}
 use Rattle.h5_shape.specs.InBox.{AreApart}
-use Rattle.h5_file.specs.OpenViews.{AreViewsFollowed, AreViewsKept, IsViewFit, IsViewShown, numbered_view, session_state}
+use Rattle.h5_file.specs.OpenViews.{AreViewsFollowed, AreViewsKept, IsViewFit, IsViewShown, numbered_view, session_state, views_of}
 use Rattle.h5_file.specs.Session.{IsSessionEdited}
 use Rattle.h5_file.specs.Touched.{HasBoxes, IsTouchOf, IsTouching, sizes_before}
 use Rattle.h5_file.specs.declared.touched.Touched.{Touched}
@@ -100,6 +104,34 @@ fit_stepped old new next edit (v ∷ vs) (w ∷ ws) are fit shown =
       fit_stepped old new next edit vs ws are.1 fit.1 shown.1,
     )
 
+-- ---- no view is open
+
+no_values : values (views_of []) ≡ []
+no_values = ap (λ (es : List (ℕ × View)). map (λ e. e.1) es) (entries-empty {X = View} nat_cmp)
+
+abbrev met_at : Tree → Tree → Edit → List ℕ → ℕ
+met_at old new edit path = option_map_or (λ number. refreshed_by old new (views_of []) number edit) (object_at old path) 0
+
+unrefreshed : (old new : Tree) (edit : Edit) (path : List ℕ) → met_at old new edit path ≡ 0
+unrefreshed old new edit path = at (object_at old path) where
+  by_new : (o : Option Dataset) (d : Dataset) (n : ℕ) → option_map_or (λ after. sum_by (met_by n d after edit) (values (views_of []))) o 0 ≡ 0
+  by_new None d n = refl
+  by_new (Some after) d n = ap (sum_by (met_by n d after edit)) no_values
+
+  by_old : (o : Option Dataset) (n : ℕ) → option_map_or (λ before. option_map_or (λ after. sum_by (met_by n before after edit) (values (views_of []))) (dataset_of new n) 0) o 0 ≡ 0
+  by_old None n = refl
+  by_old (Some before) n = by_new (dataset_of new n) before n
+
+  at : (o : Option ℕ) → option_map_or (λ number. refreshed_by old new (views_of []) number edit) o 0 ≡ 0
+  at None = refl
+  at (Some n) = by_old (dataset_of old n) n
+
+none_refreshed : (old new : Tree) (edit : Edit) → refreshed_of old new (views_of []) edit ≡ 0
+none_refreshed old new edit = sum (refreshing_path edit) where
+  sum : (paths : List (List ℕ)) → sum_by (met_at old new edit) paths ≡ 0
+  sum [] = refl
+  sum (path ∷ paths) = sum_by-cons (met_at old new edit) path paths ∙ (λ i. unrefreshed old new edit path i + sum paths i)
+
 -- ---- sessions
 
 module _ (before after : FileState) (edit : Edit) (e : Edited) (is : IsEdited before edit after e) (views : List KeptView) (next : ℕ) (kept : AreViewsKept before views next) where
@@ -124,6 +156,24 @@ module _ (before after : FileState) (edit : Edit) (e : Edited) (is : IsEdited be
       next_view = refl;
       patches = λ number view there. patches_stepped before.tree after.tree edit views views (stepped_still before after edit is.state none views shown_after) number view there;
     }
+
+  module _ (none : views ≡ []) where
+    all_unseen : AllByRecursion (IsViewShown after.tree) views
+    all_unseen = subst (AllByRecursion (IsViewShown after.tree)) (sym none) tt
+
+    pub kept_unseen : AreViewsKept after views next
+    kept_unseen = kept_again before after views views next kept refl fit_after all_unseen
+
+    pub edited_unseen : IsSessionEdited (session_state before views next) edit (session_state after views next) e
+    edited_unseen =
+        let stepped : AreStepped before.tree after.tree edit views views = subst (λ (vs : List KeptView). AreStepped before.tree after.tree edit vs vs) (sym none) tt in
+        record {
+          file = file_edited;
+          refreshed = is.refreshed ∙ sym (ap (λ (vs : List KeptView). refreshed_of before.tree after.tree (views_of vs) edit) none ∙ none_refreshed before.tree after.tree edit);
+          views = refl;
+          next_view = refl;
+          patches = λ number view there. patches_stepped before.tree after.tree edit views views stepped number view there;
+        }
 
   module _ (number : ℕ) (touched : Touched) (touching : IsTouching before.tree edit touched) (named : named_object before.tree edit before.next ≡ Some number) where
     pub at : changed_array before.tree edit ≡ Some number

@@ -12,8 +12,8 @@ ghost use Rattle.h5_file.specs.Anew.{IsRepacked};
 
 use crate::file::File;
 use h5_edit::{
-    create_dataset, create_group, hard_link, open_made, remove_attr, repack, resize, set_attr,
-    soft_link, unlink, write,
+    Buffer, create_dataset, create_group, hard_link, open_made, remove_attr, repack, resize,
+    set_attr, soft_link, unlink, write,
 };
 use h5_model::{AttrSpec, Edit, EditFault, Edited, Hyper, Spec};
 use std::alloc::AllocError;
@@ -312,6 +312,24 @@ impl File {
         path: &[u8],
         hyper: &Hyper,
         values: &[i128],
+    ) -> Result<Edited, EditFault>
+        ensures edited { MatchResult result (IsEdited self.old (Write path.now hyper.now values.now) self.new)
+            (λ e. IsRefused self.old (Write path.now hyper.now values.now) e × (self.new ≡ self.old)) }
+    {
+        self.write_from(path, hyper, &Buffer::numbers(values))
+    }
+
+    /// Writes values from a buffer: numbers, or the bytes of cells of a type in memory, which need not be the array's. It
+    /// makes no copy of them. Else as [`File::write`].
+    ///
+    /// # Errors
+    ///
+    /// Those of [`File::write`]. A refusal changes nothing.
+    pub fn write_from(
+        &mut self,
+        path: &[u8],
+        hyper: &Hyper,
+        values: &Buffer<'_>,
     ) -> Result<Edited, EditFault>
         ensures edited { MatchResult result (IsEdited self.old (Write path.now hyper.now values.now) self.new)
             (λ e. IsRefused self.old (Write path.now hyper.now values.now) e × (self.new ≡ self.old)) }

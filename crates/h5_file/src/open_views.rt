@@ -1,6 +1,6 @@
 //! The open views of a session.
 
-ghost use Rattle.std.specs.Prelude.{◌≡◌, ◌^◌, ◌<◌, ◌≤◌, ℕ, OnOk, OnErr, Some, ◌∷◌, ◌++◌, [], length, map};
+ghost use Rattle.std.specs.Prelude.{◌≡◌, ◌↔◌, ◌^◌, ◌<◌, ◌≤◌, ℕ, IsTrue, OnOk, OnErr, Some, ◌∷◌, ◌++◌, [], length, map};
 ghost use Rattle.std.specs.List.{AllByRecursion, remove};
 ghost use Rattle.h5_model.specs.Tree.Objects.{Dataset, dataset_of};
 ghost use Rattle.h5_model.specs.Tree.Places.{cells};
@@ -47,6 +47,13 @@ impl OpenViews {
             views: Vec::new(alloc),
             by_array: Vec::new(alloc),
         }
+    }
+
+    /// Whether no view is open.
+    pub(crate) fn is_empty(&self) -> bool
+        ensures { IsTrue result ↔ (self.now ≡ []) }
+    {
+        self.views.is_empty()
     }
 
     /// The views, by their numbers.

@@ -3,9 +3,11 @@
 ghost use Rattle.std.specs.Prelude.{◌≡◌, ℕ, ℤ, IsTrue, List, MatchOption, []};
 ghost use Rattle.h5_model.specs.Tree.Objects.{Dataset};
 ghost use Rattle.h5_model.specs.declared.edits.Edit.TheVariants.{Resize, Write};
-ghost use Rattle.h5_file.specs.Touched.{HasGrid, IsGridOf, IsTouching, IsUntouching, met_with};
+ghost use Rattle.h5_file.specs.Following.{IsTouchedBy};
+ghost use Rattle.h5_file.specs.Touched.{HasGrid, IsGridOf, met_with};
 
 use crate::file::File;
+use crate::open_views::OpenViews;
 use h5_edit::{Dims, Slab, array_at};
 use h5_model::{Edit, Hyper};
 use h5_shape::{MetBoxes, lie_apart, lost_boxes, written_boxes};
@@ -21,14 +23,16 @@ pub(crate) enum Touched {
 }
 
 impl Touched {
-    /// What an edit touches, or `None` where this is no cell of an array, or a rule refuses the edit. It takes no memory.
-    pub(crate) fn of(file: &File, edit: &Edit) -> Option<Touched>
-        ensures { MatchOption result (IsUntouching file.now.tree file.now.next edit.now)
-            (IsTouching file.now.tree edit.now) }
+    /// What an edit touches, or `None` where this is no cell of an array, a rule refuses the edit, or no view is open. It
+    /// takes no memory.
+    pub(crate) fn of(file: &File, views: &OpenViews, edit: &Edit) -> Option<Touched>
+        ensures { IsTouchedBy file.now views.now edit.now result }
     {
         match edit {
-            Edit::Write { hyper, .. } => Touched::written(file, hyper),
-            Edit::Resize { path, dims } => Touched::lost(file, path.as_slice(), dims.as_slice()),
+            Edit::Write { hyper, .. } => Touched::written(file, views, hyper),
+            Edit::Resize { path, dims } => {
+                Touched::lost(file, views, path.as_slice(), dims.as_slice())
+            }
             Edit::CreateGroup { .. }
             | Edit::CreateDataset { .. }
             | Edit::HardLink { .. }
@@ -39,23 +43,28 @@ impl Touched {
         }
     }
 
-    /// The cells that a write selects, or `None` where the lists are no selection.
-    pub(crate) fn written(file: &File, hyper: &Hyper) -> Option<Touched>
-        ensures { (path : List ℕ) (values : List ℤ) → MatchOption result
-            (IsUntouching file.now.tree file.now.next (Write path hyper.now values))
-            (IsTouching file.now.tree (Write path hyper.now values)) }
+    /// The cells that a write selects, or `None` where the lists are no selection or no view is open.
+    pub(crate) fn written(file: &File, views: &OpenViews, hyper: &Hyper) -> Option<Touched>
+        ensures { (path : List ℕ) (values : List ℤ)
+            → IsTouchedBy file.now views.now (Write path hyper.now values) result }
     {
+        if views.is_empty() {
+            return None;
+        }
         // Its arrays are sound.
         let _image = file.image();
         let slab = Slab::new(hyper).ok()?;
         Some(Touched::Written(slab))
     }
 
-    /// The cells that the array at the path may lose where it gets these sizes, or `None` where it can't get them.
-    pub(crate) fn lost(file: &File, path: &[u8], dims: &[u64]) -> Option<Touched>
-        ensures { MatchOption result (IsUntouching file.now.tree file.now.next (Resize path.now dims.now))
-            (IsTouching file.now.tree (Resize path.now dims.now)) }
+    /// The cells that the array at the path may lose where it gets these sizes, or `None` where it can't get them or no
+    /// view is open.
+    pub(crate) fn lost(file: &File, views: &OpenViews, path: &[u8], dims: &[u64]) -> Option<Touched>
+        ensures { IsTouchedBy file.now views.now (Resize path.now dims.now) result }
     {
+        if views.is_empty() {
+            return None;
+        }
         // Its arrays are sound.
         let _image = file.image();
         let (_number, array) = array_at(file.alloc, &file.opened, path).ok()?;

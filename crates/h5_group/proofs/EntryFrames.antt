@@ -18,9 +18,10 @@ use Rattle.h5_laws.proofs.Entries.{flat-same}
 use Rattle.h5_laws.proofs.Lists.{In}
 use Rattle.h5_space.specs.Space.{Space}
 use Rattle.h5_space.specs.Moves.{Moves}
+use Rattle.h5_btree.proofs.BlocksInside.{inside_held, made_long}
 use Rattle.h5_group.specs.Edited.{IsGroupIn}
 use Rattle.h5_group.specs.Nodes.Trees.{kind_in}
-use Rattle.h5_group.proofs.BlockFrames.{fact_kept, inside_held, made_long, read_kept}
+use Rattle.h5_group.proofs.BlockFrames.{fact_kept, read_kept}
 use Rattle.h5_group.proofs.EditFrames.{internal_kept, leaf_kept, rest_kept}
 
 -- ---- lists and blocks

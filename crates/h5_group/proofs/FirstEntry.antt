@@ -1,9 +1,8 @@
 -- The first entry of a group without symbol nodes: in a new symbol node, the root's only child, between the empty name and its own (File
 -- Format Specification 3.0, sections III.A.1 and III.B).
-use Rattle.std.proofs.Common.{◌≡◌, inl, inr, ℕ, zero, suc, ◌^◌, ◌<◌, ◌≤◌, Bool, true, false, IsTrue, List, [], ◌∷◌, ◌++◌, map, length, refl, sym, ap, ◌∙◌, subst, arith}
-use Rattle.std.specs.Prelude.{if◌then◌else◌, ◌==◌}
+use Rattle.std.proofs.Common.{◌≡◌, inl, inr, ℕ, ◌^◌, ◌<◌, ◌≤◌, true, IsTrue, List, [], ◌∷◌, ◌++◌, map, length, refl, sym, ap, ◌∙◌, subst, arith}
 use Rattle.std.specs.Bool.{⊤}
-use Rattle.std.specs.List.{AllByRecursion, Contains, flat_map, list_any}
+use Rattle.std.specs.List.{AllByRecursion, Contains, flat_map}
 use Rattle.h5_bytes.specs.Blocks.{cover, Inside, IsKept, Keeps}
 use Rattle.h5_bytes.specs.Texts.{text_at}
 use Rattle.h5_bytes.specs.declared.Block.{Block}
@@ -12,8 +11,8 @@ use Rattle.h5_model.specs.Format.Addresses.{SymbolTable}
 use Rattle.h5_model.specs.Format.Superblock.{leaf_k}
 use Rattle.h5_model.specs.Format.Heap.{KeyNames, heap_blocks, segment_of}
 use Rattle.h5_model.specs.Format.Links.{Before, IsOrdered, key_offsets, names_in, offset_in}
-use Rattle.h5_model.specs.Format.Nodes.{HasTree, Kind, entries_in, node_at, node_bytes, reading_of, tree_blocks}
-use Rattle.h5_model.specs.Format.Rows.{Node, blank, next_row}
+use Rattle.h5_model.specs.Format.Nodes.{HasTree, Kind, node_at, reading_of, tree_blocks}
+use Rattle.h5_model.specs.Format.Rows.{Node, blank}
 use Rattle.h5_model.specs.Format.Symbols.{Entry, IsEntry, IsSymbolNode, Target, entries_of, link_of, symbol_block, symbol_bytes, symbols_at, symbols_of, texts_of}
 use Rattle.h5_model.specs.Tree.Paths.{is_name}
 use Rattle.h5_model.proofs.Frames.{tree-same}
@@ -28,40 +27,23 @@ use Rattle.h5_space.specs.Space.{Space}
 use Rattle.h5_space.specs.Whole.{IsApart}
 use Rattle.h5_space.proofs.MovesLaws.{moves_beside, moves_kept, moves_same, moves_then}
 use Rattle.h5_btree.specs.Insertion.{IsChildPut, IsEmptyTree}
+use Rattle.h5_btree.proofs.BlocksInside.{inside_held}
+use Rattle.h5_btree.proofs.EmptyTrees.{empty_tree}
 use Rattle.h5_btree.proofs.KeyedFills.{first_sorted}
 use Rattle.h5_btree.proofs.KeyedForms.{group_ordered, names_at_child}
-use Rattle.h5_btree.proofs.NodeLaws.{length-children}
 use Rattle.h5_group.specs.Edited.{HasGroupMoved, IsGroupIn, IsLinkPut, offsets_of, superblock_block}
 use Rattle.h5_group.specs.Nodes.Trees.{group_nodes_blocks, kind_in}
 use Rattle.h5_group.specs.Split.{AreNewSymbols}
 use Rattle.h5_group.proofs.EditFrames.{group_apart, rest_kept}
-use Rattle.h5_group.proofs.BlockFrames.{inside_held}
 use Rattle.h5_group.proofs.GrownGroup.{entry_grown}
 use Rattle.h5_group.proofs.Ways.{all_inside}
 use Rattle.h5_group.proofs.MovedNames.{names_of}
 
--- ---- a tree without children
+-- ---- the empty name
 
 pub empty_before : (name : List ℕ) → is_name name ≡ true → Before [] name
 empty_before [] is = cc
 empty_before (n ∷ name) is = refl
-
-module _ (image : List ℕ) (kind : Kind) (root : ℕ) (owned : List ℕ) (none : (node_at image kind root).children ≡ []) where
-  read_none : (b : Bool) → (if b then node_at image kind root else blank).children ≡ []
-  read_none true = none
-  read_none false = refl
-
-  row_none : next_row (reading_of image kind owned) (root ∷ []) ≡ []
-  row_none = ap (λ (ns : List ℕ). ns ++ []) (read_none (list_any (λ n. n == root) owned))
-
-pub empty_tree : (image : List ℕ) (kind : Kind) (root level : ℕ) (owned list : List ℕ) → HasTree image kind root level owned list
-    → (node_at image kind root).children ≡ [] → (level ≡ 0) × (owned ≡ root ∷ []) × (list ≡ [])
-empty_tree image kind root zero owned list has none = (refl, has.owns, has.all ∙ row_none image kind root owned none)
-empty_tree image kind root (suc level) owned list has none =
-    let filled = subst (AllByRecursion (λ at. 1 ≤ entries_in (node_bytes image kind at))) has.owns (has.filled (omega arith)) in
-    let count = length-children kind (node_bytes image kind root) (node_at image kind root) refl in
-    let zero_long = ap (λ (ns : List ℕ). length ns) none in
-    absurd (omega (arith, filled.0, count, zero_long))
 
 -- ---- a group's blocks are there
 

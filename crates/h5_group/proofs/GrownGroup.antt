@@ -20,10 +20,10 @@ use Rattle.h5_laws.specs.KeyEdits.{IsPut}
 use Rattle.h5_space.specs.Moves.{Moves}
 use Rattle.h5_space.specs.Space.{Space}
 use Rattle.h5_btree.proofs.KeyedNames.{AreAscending, ascending_put}
+use Rattle.h5_btree.proofs.BlocksInside.{inside_held}
 use Rattle.h5_group.specs.Edited.{HasGroupMoved, IsGroupIn, IsLinkPut, offsets_of}
 use Rattle.h5_group.specs.Nodes.Trees.{group_nodes_blocks, kind_in}
 use Rattle.h5_group.proofs.EditFrames.{group_apart, group_moves, internal_kept, leaf_kept, rest_kept, still_long}
-use Rattle.h5_group.proofs.BlockFrames.{inside_held}
 use Rattle.h5_group.proofs.LinkLists.{all_put, ascend_names, link_names, names_ascend, names_of_links}
 use Rattle.h5_group.proofs.MovedNames.{entry_named, names_of}
 

@@ -20,12 +20,13 @@ use Rattle.h5_space.specs.Moves.{Moves}
 use Rattle.h5_space.specs.Whole.{IsApart}
 use Rattle.h5_heap.specs.Edited.{IsStandingHeap, free_blocks}
 use Rattle.h5_heap.proofs.EditedLaws.{standing_heap}
+use Rattle.h5_btree.proofs.BlocksInside.{inside_held, made_long}
 use Rattle.h5_group.specs.Edited.{IsGroupIn, HasGroupMoved, IsNamedByNoKey}
 use Rattle.h5_group.specs.KeptNodes.{AreNodesKept, keys_told}
 use Rattle.h5_group.specs.Nodes.Trees.{kind_in}
 use Rattle.h5_group.specs.Told.{nodes_told, symbol_nodes_told}
 use Rattle.h5_group.proofs.ToldLaws.{nodes_are_told, symbol_nodes_are_told}
-use Rattle.h5_group.proofs.BlockFrames.{fact_kept, inside_held, made_long, read_kept}
+use Rattle.h5_group.proofs.BlockFrames.{fact_kept, read_kept}
 use Rattle.h5_group.proofs.EditFrames.{rest_kept, leaf_kept, internal_kept, group_apart, group_moves, still_long}
 use Rattle.h5_group.proofs.HeapLinks.{IsTextKept, begin_kept, keys_kept, links_stay, all_map}
 

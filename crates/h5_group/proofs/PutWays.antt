@@ -1,15 +1,14 @@
 -- The way to a name in a group's tree: there is one at most, and it stays where its nodes read as before and their keys name the same texts.
-use Rattle.std.proofs.Common.{◌≡◌, ℕ, zero, suc, ◌+◌, ◌-◌, ◌<◌, ◌≤◌, Bool, true, false, List, [], ◌∷◌, ◌++◌, length, slice_index, slice_index_or, inl, inr, refl, sym, ap, ap₂, ◌∙◌, subst, arith}
+use Rattle.std.proofs.Common.{◌≡◌, ℕ, zero, suc, ◌+◌, ◌-◌, ◌<◌, Bool, List, [], ◌∷◌, ◌++◌, length, slice_index, slice_index_or, refl, sym, ap, ◌∙◌, subst, arith}
 use Rattle.std.specs.Cmp.Lexicographic.{slice_cmp}
 use Rattle.std.specs.List.{AllByRecursion, Contains}
 use Rattle.std.specs.Ordering.{is_lt, nat_cmp}
-use Rattle.std.proofs.lemmas.Bool.{cases_lt}
 use Rattle.h5_bytes.specs.declared.Block.{Block}
 use Rattle.h5_bytes.proofs.BlockLaws.{all_left, all_right, all_so}
 use Rattle.h5_model.specs.Format.Addresses.{SymbolTable}
 use Rattle.h5_model.specs.Format.Superblock.{leaf_k, internal_k}
 use Rattle.h5_model.specs.Format.Heap.{segment_of}
-use Rattle.h5_model.specs.Format.Links.{Before, NotAfter, IsOrdered, key_name, offset_in}
+use Rattle.h5_model.specs.Format.Links.{NotAfter, IsOrdered, key_name, offset_in}
 use Rattle.h5_model.specs.Format.Nodes.{Kind, group_kind, node_at, node_bytes}
 use Rattle.h5_model.specs.Format.Rows.{Node, Reading, nodes}
 use Rattle.h5_model.specs.Format.Symbols.{Target, symbols_at}
@@ -26,6 +25,7 @@ use Rattle.h5_btree.proofs.NameFound.{name_behind}
 use Rattle.h5_btree.proofs.NodeLaws.{length-keys, length-children}
 use Rattle.h5_btree.proofs.TreeReadings.{Listed}
 use Rattle.h5_btree.proofs.WaySteps.{all_at, all_map, way_owned}
+use Rattle.h5_btree.proofs.WaysDown.{FallsAt, one_way}
 use Rattle.h5_group.specs.Edited.{IsGroupIn, entries_below, heap_text, node_below}
 use Rattle.h5_group.specs.KeptNodes.{AreNodesKept}
 use Rattle.h5_group.specs.Nodes.Trees.{kind_in}
@@ -36,68 +36,28 @@ use Rattle.h5_group.proofs.DropCalls.{end_told}
 use Rattle.h5_group.proofs.Standing.{nodes_ordered}
 use Rattle.h5_group.proofs.Ways.{group_read, way_of}
 
--- ---- one child at most
+-- ---- one way at most
 
 -- no key of the node is above the next
 abbrev pub IsRisingNode : List ℕ → Node → Type 0
 IsRisingNode segment node = (i : ℕ) → i < length node.children → NotAfter (key_name segment node i) (key_name segment node (i + 1))
 
-module _ (segment name : List ℕ) (node : Node) (rising : IsRisingNode segment node) where
-  orderly : IsOrderly (name_sides (key_text segment))
-  orderly = name_order (key_text segment)
-
-  abbrev key : ℕ → List ℕ
-  key i = slice_index_or node.keys i []
-
-  abbrev IsUpTo : ℕ → ℕ → Type 0
-  IsUpTo i j = NotAfter (key_text segment (key i)) (key_text segment (key j))
-
-  -- a key is not above a later one
-  later : (i d : ℕ) → i + d ≤ length node.children → IsUpTo i (i + d)
-  later i zero low = let same : i ≡ i + 0 = omega arith in subst (IsUpTo i) same (orderly.itself (key i))
-  later i (suc d) low =
-      let next : i + d + 1 ≡ i + suc d = omega arith in
-      subst (IsUpTo i) next
-      (orderly.rises (key i) (key (i + d)) (key (i + d + 1)) (later i d (omega (arith, low))) (rising (i + d) (omega (arith, low))))
-
-  none_before : (i j : ℕ) → i < j → IsChildFor (name_behind segment name) node i → IsChildFor (name_behind segment name) node j → j ≡ i
-  none_before i j less a b =
-      let at_j : Before (key_text segment (key j)) name = b.low (omega (arith, less)) in
-      let there : i + 1 + (j - (i + 1)) ≡ j = omega (arith, less) in
-      let in_it = b.child in
-      let rise : IsUpTo (i + 1) j = subst (IsUpTo (i + 1)) there (later (i + 1) (j - (i + 1)) (omega (arith, less, in_it))) in
-      let yes : name_behind segment name (key (i + 1)) ≡ true = orderly.right (key (i + 1)) (key j) name rise at_j in
-      let no : name_behind segment name (key (i + 1)) ≡ false = a.high (omega (arith, less, in_it)) in
-      let bad : false ≡ true = sym no ∙ yes in absurd (cc)
-
-  pub one_child : (i j : ℕ) → IsChildFor (name_behind segment name) node i → IsChildFor (name_behind segment name) node j → i ≡ j
-  one_child i j a b = elim (cases_lt i j) [
-    | inl less ↦ sym (none_before i j less a b)
-    | inr most ↦ elim (cases_lt j i) [
-      | inl more ↦ none_before j i more b a
-      | inr least ↦ omega (arith, most, least)
-    ]
-  ]
-
--- ---- one way at most
-
 module _ (V : Reading) (segment name : List ℕ) where
   abbrev pub IsRisingStep : Step → Type 0
   IsRisingStep step = IsRisingNode segment (V step.node)
 
-  pub one_way : (level at : ℕ) (way way' : List Step) → IsWayTo V (name_behind segment name) level at way → IsWayTo V (name_behind segment name) level at way'
+  orderly : IsOrderly (name_sides (key_text segment))
+  orderly = name_order (key_text segment)
+
+  falls : (step : Step) → IsRisingStep step → FallsAt (name_behind segment name) V step
+  falls step rising i low on =
+      let key = λ (n : ℕ). slice_index_or (V step.node).keys n [] in
+      orderly.right (key i) (key (i + 1)) name (rising i low) on
+
+  pub name_way : (level at : ℕ) (way way' : List Step) → IsWayTo V (name_behind segment name) level at way → IsWayTo V (name_behind segment name) level at way'
       → AllByRecursion IsRisingStep way → way ≡ way'
-  one_way zero at way way' to to' all =
-      let same : to.0 ≡ to'.0 = one_child segment name (V at) (subst (AllByRecursion IsRisingStep) to.2 all).0 to.0 to'.0 to.1 to'.1 in
-      to.2 ∙ ap (λ (n : ℕ). record { node = at; place = n } ∷ []) same ∙ sym to'.2
-  one_way (suc level) at way way' to to' all =
-      let last : List Step = record { node = at; place = to.0 } ∷ [] in
-      let parts : AllByRecursion IsRisingStep (to.1 ++ last) = subst (AllByRecursion IsRisingStep) to.4 all in
-      let same : to.0 ≡ to'.0 = one_child segment name (V at) (all_right IsRisingStep to.1 last parts).0 to.0 to'.0 to.2 to'.2 in
-      let there : IsWayTo V (name_behind segment name) level (slice_index (V at).children to.0) to'.1
-      = subst (λ (n : ℕ). IsWayTo V (name_behind segment name) level (slice_index (V at).children n) to'.1) (sym same) to'.3 in
-      let below : to.1 ≡ to'.1 = one_way level (slice_index (V at).children to.0) to.1 to'.1 to.3 there (all_left IsRisingStep to.1 last parts) in
-      to.4 ∙ ap₂ (λ (xs : List Step) (n : ℕ). xs ++ record { node = at; place = n } ∷ []) below same ∙ sym to'.4
+  name_way level at way way' to to' all =
+      one_way (name_behind segment name) V level at way way' to to' (all_map IsRisingStep (FallsAt (name_behind segment name) V) falls way all)
 
 -- ---- a way stays
 
@@ -171,7 +131,7 @@ module _ (s : Space) (table : SymbolTable) (links : List (List ℕ × Target)) (
       = all_map (λ (step : Step). Listed w.owned step.node) (IsRisingStep V segment name)
       (λ step at. at_listed Rises w.owned step.node (subst (AllByRecursion Rises) owned_same rising) at) way
       (way_owned s kind table.tree w.level way w.owned w.symbol_nodes w.number w.ends) in
-      one_way V segment name w.level table.tree way way' w.sought
+      name_way V segment name w.level table.tree way way' w.sought
       (subst (λ (l : ℕ). IsWayTo V (name_behind segment name) l table.tree way') levels w'.sought) steps
 
   abbrev IsKeptNode : Space → ℕ → Type 0

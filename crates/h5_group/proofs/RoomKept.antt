@@ -24,6 +24,7 @@ use Rattle.h5_btree.specs.declared.way.Step.{Step}
 use Rattle.h5_btree.proofs.NodeLaws.{length-children, length-keys}
 use Rattle.h5_btree.proofs.PlaceFound.{way_ends}
 use Rattle.h5_btree.proofs.WaySteps.{all_map}
+use Rattle.h5_btree.proofs.WaysDown.{first_ends}
 use Rattle.h5_group.specs.LinkEdits.{IsFullFor}
 use Rattle.h5_group.specs.Links.{HasNone, IsGroupRead}
 use Rattle.h5_group.specs.Nodes.Trees.{kind_in}
@@ -32,7 +33,6 @@ use Rattle.h5_group.specs.Ways.{behind_in}
 use Rattle.h5_group.proofs.BlockFrames.{read_kept}
 use Rattle.h5_group.proofs.PutWays.{IsSameStep, full_kept, way_kept}
 use Rattle.h5_group.proofs.ToldLaws.{links_told-same}
-use Rattle.h5_group.proofs.Ways.{first_ends}
 
 -- ---- the nodes of a way are those of the tree in which it goes down
 

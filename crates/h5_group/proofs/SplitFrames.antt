@@ -25,11 +25,12 @@ use Rattle.h5_btree.specs.Climb.{IsWay}
 use Rattle.h5_btree.specs.Insertion.{IsChildPut}
 use Rattle.h5_btree.specs.Removal.{EndsInTree}
 use Rattle.h5_btree.specs.declared.way.Step.{Step}
+use Rattle.h5_btree.proofs.BlocksInside.{inside_held, made_long}
 use Rattle.h5_group.specs.Edited.{IsGroupIn, superblock_block}
 use Rattle.h5_group.specs.Nodes.Trees.{group_nodes_blocks, kind_in}
 use Rattle.h5_group.specs.Split.{AreHalves}
 use Rattle.h5_group.proofs.EditFrames.{group_apart, rest_kept}
-use Rattle.h5_group.proofs.BlockFrames.{fact_kept, inside_held, made_long, read_kept}
+use Rattle.h5_group.proofs.BlockFrames.{fact_kept, read_kept}
 use Rattle.h5_group.proofs.EntryFrames.{entries_cut, parted, within}
 
 -- a way ends where it did, where the nodes of its tree keep their bytes

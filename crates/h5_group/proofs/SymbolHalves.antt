@@ -15,9 +15,9 @@ use Rattle.h5_space.specs.Whole.{IsApart}
 use Rattle.h5_space.proofs.MovesLaws.{moves_apart, moves_beside, moves_kept, moves_same, moves_take, moves_then, spends_take, spends_then}
 use Rattle.h5_btree.specs.Insertion.{left_count}
 use Rattle.h5_btree.proofs.HalfLists.{left_children_with, right_with, right_without, take_without}
+use Rattle.h5_btree.proofs.BlocksInside.{inside_held}
 use Rattle.h5_group.specs.Split.{AreHalves, AreNewSymbols}
 use Rattle.h5_group.specs.SymbolEdits.{IsSymbolsRewritten}
-use Rattle.h5_group.proofs.BlockFrames.{inside_held}
 use Rattle.h5_group.proofs.SymbolEdits.{symbols_rewritten}
 
 -- a block that is not empty ends by the end

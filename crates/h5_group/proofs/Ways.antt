@@ -1,5 +1,5 @@
 -- The way that is found in a group's tree: it ends there, and the symbol node at its end has the name, if the group has it.
-use Rattle.std.proofs.Common.{◌≡◌, ℕ, zero, suc, ◌+◌, ◌≤◌, Bool, List, [], ◌∷◌, ◌++◌, length, map, slice_index, refl, sym, ap, ◌∙◌, subst, arith}
+use Rattle.std.proofs.Common.{◌≡◌, ℕ, ◌+◌, ◌≤◌, List, [], ◌∷◌, ◌++◌, length, map, refl, sym, ap, subst, arith}
 use Rattle.std.specs.Prelude.{Option, Some, None, IfSome}
 use Rattle.std.specs.List.{AllByRecursion, Contains}
 use Rattle.h5_bytes.specs.Blocks.{cover, Inside}
@@ -15,47 +15,19 @@ use Rattle.h5_model.specs.Format.Symbols.{Target, symbol_block, symbols_at}
 use Rattle.h5_model.proofs.OneTree.{level_is}
 use Rattle.h5_space.specs.Space.{Space}
 use Rattle.h5_space.specs.Whole.{IsApart}
-use Rattle.h5_btree.specs.Descent.{EndsAt, IsChildFor, IsWayTo}
+use Rattle.h5_btree.specs.Descent.{IsWayTo}
 use Rattle.h5_btree.specs.Removal.{EndsInTree}
 use Rattle.h5_btree.specs.declared.way.Step.{Step}
+use Rattle.h5_btree.proofs.BlocksInside.{inside_held, made_long}
 use Rattle.h5_btree.proofs.WayInTree.{way_in_tree}
+use Rattle.h5_btree.proofs.WaysDown.{first_ends}
 use Rattle.h5_group.specs.Edited.{IsGroupIn, node_below}
 use Rattle.h5_group.specs.Links.{IsGroupRead}
 use Rattle.h5_group.specs.Nodes.Trees.{kind_in}
 use Rattle.h5_group.specs.Told.{symbol_nodes_told}
 use Rattle.h5_group.specs.Ways.{IsWayOf, behind_of}
-use Rattle.h5_group.proofs.BlockFrames.{inside_held, made_long}
 use Rattle.h5_group.proofs.ToldLaws.{blocks_are_told, told_linked}
 use Rattle.h5_group.proofs.Way.{leaf_has}
-
--- ---- the steps of a way
-
-module _ (V : Reading) (behind : List ℕ → Bool) where
-  way_first : (level at : ℕ) (way : List Step) → IsWayTo V behind level at way
-      → (step : Step) × (above : List Step) × (way ≡ step ∷ above) × EndsAt V behind level at (V step.node) step.place
-  way_first zero at way to = (record { node = at; place = to.0 }, [], to.2, (refl, to.1))
-  way_first (suc level) at way to =
-      let s : Step = record { node = at; place = to.0 } in
-      let r = way_first level (slice_index (V at).children to.0) to.1 to.3 in
-      (r.0, r.1 ++ s ∷ [], to.4 ∙ ap (λ (xs : List Step). xs ++ s ∷ []) r.2, (to.0, to.2, r.3))
-
-  -- the first one ends the way down
-  pub first_ends : (level at : ℕ) (step : Step) (above : List Step) → IsWayTo V behind level at (step ∷ above) → EndsAt V behind level at (V step.node) step.place
-  first_ends level at step above to =
-      let r = way_first level at (step ∷ above) to in
-      let both : step ∷ above ≡ r.0 ∷ r.1 = r.2 in
-      let first : r.0 ≡ step = cc in
-      subst (λ (s : Step). EndsAt V behind level at (V s.node) s.place) first r.3
-
-  abbrev pub IsChosen : Step → Type 0
-  IsChosen step = IsChildFor behind (V step.node) step.place
-
-  -- each goes on to the child for what is sought
-  pub way_chosen : (level at : ℕ) (way : List Step) → IsWayTo V behind level at way → AllByRecursion IsChosen way
-  way_chosen zero at way to = subst (AllByRecursion IsChosen) (sym to.2) (to.1, tt)
-  way_chosen (suc level) at way to =
-      subst (AllByRecursion IsChosen) (sym to.4)
-      (all_append IsChosen to.1 (record { node = at; place = to.0 } ∷ []) (way_chosen level (slice_index (V at).children to.0) to.1 to.3) (to.2, tt))
 
 -- ---- a group between the steps of an edit
 

@@ -7,8 +7,6 @@ use Rattle.h5_bytes.specs.Blocks.{block, cover, holds, Inside, Keeps}
 use Rattle.h5_bytes.specs.declared.Block.{Block}
 use Rattle.h5_bytes.proofs.BlockLaws.{cover-append}
 use Rattle.h5_bytes.proofs.PartLaws.{length-part, length-with_part, part-with_part_same, with_part-with_part}
-use Rattle.h5_model.specs.Format.Datatype.{fixed_of}
-use Rattle.h5_model.specs.Format.Extent.{extent_of}
 use Rattle.h5_model.specs.Format.Layout.{Layout, layout_of}
 use Rattle.h5_model.specs.Format.Messages.{Message, count_of, first_body, reference_count}
 use Rattle.h5_model.specs.Format.Reads.{IsChunkSmall, is_attribute_message, is_kept, kept_of}
@@ -23,7 +21,7 @@ use Rattle.h5_header.specs.Standing.{IsStanding}
 use Rattle.h5_header.specs.declared.message.Message.{Message as Placed}
 use Rattle.h5_header.proofs.BesideLaws.{moves_covered, spends_write}
 use Rattle.h5_header.proofs.BlockPuts.{count_kept, standing_kept}
-use Rattle.h5_header.proofs.FirstWritten.{HasNewBody, IsBodyWritten, body_written, new_first, same_count, same_filter, same_first, written_covered}
+use Rattle.h5_header.proofs.FirstWritten.{HasNewBody, IsBodyWritten, body_written, same_count, same_filter, written_covered}
 use Rattle.h5_header.proofs.FoundLaws.{first_body-in, within_at}
 use Rattle.h5_header.proofs.KeptLaws.{listed-same}
 use Rattle.h5_layout.specs.ArrayEdits.{IsArrayApart, IsArrayMoved, array_blocks, described_in}
@@ -31,6 +29,7 @@ use Rattle.h5_layout.specs.Data.{AreDataRead, data_blocks}
 use Rattle.h5_layout.specs.Described.{Described, HasArray}
 use Rattle.h5_layout.specs.LayoutEdits.{IsLayoutWritten}
 use Rattle.h5_layout.specs.Told.{array_told}
+use Rattle.h5_layout.proofs.Relaid.{relaid}
 use Rattle.h5_layout.proofs.ToldLaws.{told}
 
 -- ---- the data are moved
@@ -224,28 +223,7 @@ module _ (old mid new : Space) (m : Listed) (was : IsArrayApart old m)
     same_one = same_count 8 was_said said (part x.at x.size new.bytes) messages
 
     has_now : HasArray said array_now
-    has_now =
-        let body = part x.at x.size new.bytes in
-        let h = was.array in
-        record {
-          one_space = same_one 1 ∙ h.one_space;
-          one_type = same_one 3 ∙ h.one_type;
-          one_layout = same_one 8 ∙ h.one_layout;
-          old_fills = omega (arith, same_one 4, h.old_fills);
-          fills = omega (arith, same_one 5, h.fills);
-          space = ap (option_and_then extent_of) (same_first 8 was_said said body messages 1 refl) ∙ h.space;
-          type = ap (option_and_then fixed_of) (same_first 8 was_said said body messages 3 refl) ∙ h.type;
-          filled = record {
-            old_fill = (h.filled).old_fill;
-            new_fill = (h.filled).new_fill;
-            old_filled = rw (same_first 8 was_said said body messages 4 refl) (h.filled).old_filled;
-            new_filled = rw (same_first 8 was_said said body messages 5 refl) (h.filled).new_filled;
-            filled = (h.filled).filled;
-          };
-          laid_out = ap (option_and_then (layout_of a.sizes a.fixed.size)) (new_first 8 was_said said body messages) ∙ ap (layout_of a.sizes a.fixed.size) body_there ∙ named;
-          small = h.small;
-          chunk_small = small;
-        }
+    has_now = relaid was_said said (part x.at x.size new.bytes) messages a was.array l (ap (layout_of a.sizes a.fixed.size) body_there ∙ named) small
 
     pub layout_told_now : described_in new.bytes m ≡ array_now
     layout_told_now = told said array_now has_now

@@ -94,6 +94,13 @@ block_long old mid new m was none at len inside taken wrote =
 
 -- ---- a block was taken, and is written
 
+-- the image with these bytes in it
+pub record IsBlockFilled (old f : Space) (at len : ℕ) (w : List ℕ) : Type 0 where
+  pub moves : Moves old f [] (block at len ∷ [])
+  pub grown : length f.bytes ≤ length old.bytes + len
+  pub inside : at + len ≤ length f.bytes
+  pub there : part at len f.bytes ≡ w
+
 module _ (old r t f : Space) (bytes calls : ℕ) (ok : r ≡ record old { room_bytes = bytes; room_blocks = calls }) (at len : ℕ)
     (grown : t.bytes ≡ r.bytes ++ replicate (growth len r.free) 0)
     (taken : (p : ℕ) → cover p t.free + holds p at len ≡ cover p r.free + holds p (length r.bytes) (growth len r.free))
@@ -107,7 +114,7 @@ module _ (old r t f : Space) (bytes calls : ℕ) (ok : r ≡ record old { room_b
   bytes_are : f.bytes ≡ with_part at w t.bytes
   bytes_are = ap (λ (x : Space). x.bytes) wrote
 
-  pub filled_moves : Moves old f [] (block at len ∷ [])
+  filled_moves : Moves old f [] (block at len ∷ [])
   filled_moves =
       moves_then old t f [] (block at len ∷ []) (block at len ∷ []) (moves_take old t at len (growth len old.free) grown_from taken_from)
       (moves_write t f at len w long inside bytes_are (ap (λ (x : Space). x.free) wrote))
@@ -115,10 +122,10 @@ module _ (old r t f : Space) (bytes calls : ℕ) (ok : r ≡ record old { room_b
   same_long : length f.bytes ≡ length t.bytes
   same_long = ap length bytes_are ∙ length-with_part at w t.bytes (omega (arith, inside, long))
 
-  pub filled_inside : at + len ≤ length f.bytes
+  filled_inside : at + len ≤ length f.bytes
   filled_inside = omega (arith, inside, same_long)
 
-  pub filled_grown : length f.bytes ≤ length old.bytes + len
+  filled_grown : length f.bytes ≤ length old.bytes + len
   filled_grown =
       let more = ap length grown_from ∙ length-append old.bytes (replicate (growth len old.free) 0) ∙ ap (λ (n : ℕ). length old.bytes + n) (length-replicate (growth len old.free) 0) in
       let few = growth_few len old.free in
@@ -126,5 +133,8 @@ module _ (old r t f : Space) (bytes calls : ℕ) (ok : r ≡ record old { room_b
         growth_few : (n : ℕ) (free : List Block) → growth n free ≤ n
         growth_few n free = elim (list_any (λ (b : Block). nat_le n b.len) free) as (λ b. (if b then 0 else n) ≤ n) [ true ↦ omega arith | false ↦ omega arith ]
 
-  pub filled_there : part at len f.bytes ≡ w
+  filled_there : part at len f.bytes ≡ w
   filled_there = ap (part at len) bytes_are ∙ part-with_part_same at len w t.bytes (sym long) (omega (arith, inside, long))
+
+  pub block_filled : IsBlockFilled old f at len w
+  block_filled = record { moves = filled_moves; grown = filled_grown; inside = filled_inside; there = filled_there }

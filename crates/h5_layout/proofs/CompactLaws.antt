@@ -9,6 +9,7 @@ use Rattle.h5_model.specs.Format.Messages.{count_of, first_body}
 use Rattle.h5_header.specs.Listed.{messages_in, IsWithin}
 use Rattle.h5_header.specs.declared.message.Message.{Message as Placed}
 use Rattle.h5_layout.specs.Compact.{compact_at}
+use Rattle.h5_layout.specs.LayoutEdits.{HasLayoutRoom}
 use Rattle.h5_header.proofs.FoundLaws.{first_body-in, none_stands, within_at}
 
 -- where there is one message, it is found
@@ -37,3 +38,10 @@ place_told list r b is here = ap (option_map (λ (m : Placed). m.at + 4)) (found
 pub message_met : (list : List Placed) (r : Option (Bor Placed)) (b : Bor Placed) (x : Placed) → option_copied r ≡ find (λ (m : Placed). m.kind == 8) list → r ≡ Some b
     → find (λ (m : Placed). m.kind == 8) list ≡ Some x → b.now ≡ x
 message_met list r b x is here known = same_Some b.now x (sym (found_is list r b is here) ∙ known)
+
+-- it lies in the image, with the room that it is known to have
+pub message_lent : (image : List ℕ) (list : List Placed) (r : Option (Bor Placed)) (b : Bor Placed) (n : ℕ) → IsWithin (length image) list → HasLayoutRoom list n
+    → option_copied r ≡ find (λ (m : Placed). m.kind == 8) list → r ≡ Some b → (b.now.at + b.now.size ≤ length image) × (n ≤ b.now.size)
+message_lent image list r b n within room is here =
+    let size = ap (λ (m : Placed). m.size) (message_met list r b room.place is here room.found) in
+    (message_within image list r b within is here, omega (arith, size, room.long))

@@ -14,11 +14,9 @@ use Rattle.h5_bytes.proofs.TableLaws.{table_same}
 use Rattle.h5_model.specs.Edits.Applied.{with_cells}
 use Rattle.h5_model.specs.Format.Cells.{value_in, cells_of}
 use Rattle.h5_model.specs.Format.Chunks.{Chunks}
-use Rattle.h5_model.specs.Format.Datatype.{fixed_of}
-use Rattle.h5_model.specs.Format.Extent.{extent_of}
 use Rattle.h5_model.specs.Format.Fixed.{Fixed, IsFixed, fits, bytes_of}
 use Rattle.h5_model.specs.Format.Layout.{Layout, InMessage, InBlock, InChunks, layout_of, compact_layout, contiguous_layout, chunked_layout}
-use Rattle.h5_model.specs.Format.Messages.{Message, count_of, first_body}
+use Rattle.h5_model.specs.Format.Messages.{Message, first_body}
 use Rattle.h5_model.specs.Format.Plain.{cells_bytes}
 use Rattle.h5_model.specs.Tree.Places.{cells, place_of, index_of}
 use Rattle.h5_model.proofs.FixedLaws.{length-bytes_of}
@@ -26,7 +24,7 @@ use Rattle.h5_model.proofs.PlaceLaws.{place-index}
 use Rattle.h5_model.proofs.PlainValues.{length-cells_bytes}
 use Rattle.h5_header.specs.Listed.{messages_in, IsWithin}
 use Rattle.h5_header.specs.declared.message.Message.{Message as Placed}
-use Rattle.h5_header.proofs.FirstWritten.{HasNewBody, new_first, same_count, same_first}
+use Rattle.h5_header.proofs.FirstWritten.{HasNewBody}
 use Rattle.h5_header.proofs.FoundLaws.{first_body-in, within_at}
 use Rattle.h5_header.proofs.MessageLaws.{byte_at-part}
 use Rattle.h5_laws.proofs.InPlace.CellWrites.{cells_in, cell_written}
@@ -34,6 +32,7 @@ use Rattle.h5_msg.proofs.WordLaws.{and_left, and_right}
 use Rattle.h5_layout.specs.Compact.{compact_at}
 use Rattle.h5_layout.specs.Data.{dataset_told}
 use Rattle.h5_layout.specs.Described.{Described, HasArray}
+use Rattle.h5_layout.proofs.Relaid.{relaid}
 use Rattle.h5_layout.proofs.WriteLaws.{with_part-none, with_part-append}
 
 -- ---- a compact layout by its bytes
@@ -229,31 +228,12 @@ module _ (old : List ℕ) (list : List Placed) (within : IsWithin (length old) l
     compact_array ms is =
         let was = messages_in old list in
         let body = part x.at x.size new in
-        let same_one : (k : ℕ) → count_of k ms ≡ count_of k was = same_count 8 was ms body is in
         let long_now : length body ≡ x.size = length-part x.at x.size new (omega (arith, length-with_part at w old (omega (arith, compact_high, inside)), inside)) in
         let front : part 0 4 body ≡ part 0 4 (part x.at x.size old)
         = part-part 0 4 x.at x.size new (omega (arith, data_room)) ∙ part-with_part_other at w old (x.at + 0) 4 (omega (arith, compact_high, inside)) (inl (omega arith))
         ∙ sym (part-part 0 4 x.at x.size old (omega (arith, data_room))) in
-        record {
-          one_space = same_one 1 ∙ has.one_space;
-          one_type = same_one 3 ∙ has.one_type;
-          one_layout = same_one 8 ∙ has.one_layout;
-          old_fills = omega (arith, same_one 4, has.old_fills);
-          fills = omega (arith, same_one 5, has.fills);
-          space = ap (option_and_then extent_of) (same_first 8 was ms body is 1 refl) ∙ has.space;
-          type = ap (option_and_then fixed_of) (same_first 8 was ms body is 3 refl) ∙ has.type;
-          filled = record {
-            old_fill = (has.filled).old_fill;
-            new_fill = (has.filled).new_fill;
-            old_filled = rw (same_first 8 was ms body is 4 refl) (has.filled).old_filled;
-            new_filled = rw (same_first 8 was ms body is 5 refl) (has.filled).new_filled;
-            filled = (has.filled).filled;
-          };
-          laid_out = ap (option_and_then (layout_of a.sizes a.fixed.size)) (new_first 8 was ms body is)
-              ∙ compact_again a.sizes a.fixed.size (part x.at x.size old) bytes body form (long_now ∙ sym long) front ∙ ap (λ (bs : List ℕ). Some (InMessage bs)) (data_at new);
-          small = has.small;
-          chunk_small = tt;
-        }
+        relaid was ms body is a has (InMessage (part (x.at + 4) need new))
+        (compact_again a.sizes a.fixed.size (part x.at x.size old) bytes body form (long_now ∙ sym long) front ∙ ap (λ (bs : List ℕ). Some (InMessage bs)) (data_at new)) tt
 
 -- ---- by the address of the data
 

@@ -1,5 +1,5 @@
 -- The bytes of a chunk of which the first slices of each dimension are kept, slice by slice.
-use Rattle.std.proofs.Common.{◌≡◌, ℕ, suc, ◌+◌, ◌-◌, ◌*◌, ◌/◌, ◌%◌, ◌<◌, ◌≤◌, ℤ, List, ◌∷◌, ◌++◌, length, map, take, drop, get_or, replicate, true, false, cond, sym, ap, ap₂, ◌∙◌, arith}
+use Rattle.std.proofs.Common.{◌≡◌, ℕ, suc, ◌+◌, ◌-◌, ◌*◌, ◌/◌, ◌%◌, ◌<◌, ◌≤◌, ℤ, List, [], ◌∷◌, ◌++◌, length, map, take, drop, get_or, replicate, true, false, cond, sym, ap, ap₂, ◌∙◌, arith}
 use Rattle.std.specs.Prelude.{◌&&◌, nat_lt}
 use Rattle.std.specs.List.{range_with_len}
 use Rattle.std.proofs.lemmas.Bool.Decides.{nat_tests}
@@ -17,6 +17,8 @@ use Rattle.h5_model.proofs.ValueLaws.{value_at-moved}
 use Rattle.h5_msg.proofs.ValueBytes.{AreBytes, stored_back}
 use Rattle.h5_chunks.proofs.InsideLaws.{is_inside_from}
 use Rattle.h5_layout.specs.Kept.{corner_value, corner_values}
+use Rattle.h5_layout.specs.Spans.{span_sizes, span_slices}
+use Rattle.h5_layout.specs.declared.corner.Span.{Span}
 use Rattle.h5_layout.proofs.CellLaws.{map_ranges, replicate_range}
 use Rattle.h5_layout.proofs.PieceLaws.{range_split}
 
@@ -138,3 +140,9 @@ corner_whole t fill bytes chunk sound low long =
     let inside : is_inside chunk (index_of chunk j) ≡ true = is_inside_from chunk (index_of chunk j) (inside-index chunk j under) in
     ap (corner_value t fill chunk chunk bytes) here ∙ ap (λ b. cond b (value_in t bytes j) fill) inside ∙ ap (value_in t bytes) (sym here)))
     ∙ bytes_again t bytes (cells chunk) sound low (omega (arith, long)) ∙ ap (λ n. take n bytes) (sym long) ∙ take_all (length bytes) bytes (omega arith)
+
+-- so is one with no dimension
+pub corner_bare : (t : Fixed) (fill : ℤ) (bytes : List ℕ) (spans : List Span) → length spans ≡ 0 → IsFixed t → AreBytes bytes → length bytes ≡ cells (span_sizes spans) * t.size
+    → cells_bytes t (corner_values t fill (span_sizes spans) (span_slices spans) bytes) ≡ bytes
+corner_bare t fill bytes [] none sound low long = corner_whole t fill bytes [] sound low long
+corner_bare t fill bytes (s ∷ spans) none sound low long = absurd (omega (arith, none))

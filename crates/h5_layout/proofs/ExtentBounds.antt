@@ -17,7 +17,7 @@ use Rattle.h5_layout.specs.Extents.{CanHaveSizes}
 
 -- ---- sizes
 
-extent_positive : (sizes : List ℕ) → 1 ≤ extent_cells sizes
+pub extent_positive : (sizes : List ℕ) → 1 ≤ extent_cells sizes
 extent_positive [] = omega arith
 extent_positive (d ∷ ds) = elim (d == 0) as (λ b. (d == 0) ≡ b → 1 ≤ cond b 1 d * extent_cells ds) [
   | true ↦ λ e. omega (arith, extent_positive ds)
@@ -28,7 +28,7 @@ extent_positive (d ∷ ds) = elim (d == 0) as (λ b. (d == 0) ≡ b → 1 ≤ co
 ] refl
 
 -- no size is above the product of those other than 0
-sizes_below : (sizes : List ℕ) (most : ℕ) → extent_cells sizes ≤ most → AllByRecursion (λ n. n ≤ most) sizes
+pub sizes_below : (sizes : List ℕ) (most : ℕ) → extent_cells sizes ≤ most → AllByRecursion (λ n. n ≤ most) sizes
 sizes_below [] most few = tt
 sizes_below (d ∷ ds) most few = elim (d == 0) as (λ b. (d == 0) ≡ b → cond b 1 d * extent_cells ds ≤ most → (d ≤ most) × AllByRecursion (λ n. n ≤ most) ds) [
   | true ↦ λ e low. let none : d ≡ 0 = grind (arith, nat_tests, e) in (omega (arith, none), sizes_below ds most (omega (arith, low)))

@@ -76,15 +76,19 @@ module _ (old mid : Space) (m n : Listed) (was : IsArrayApart old m) (k : ℕ) (
   same_type : first_body 3 (messages_in mid.bytes n.list) ≡ first_body 3 ms
   same_type = ap (first_body 3) mid_is ∙ blank_type cut.front x nil cut.back x_kind refl ∙ ap (first_body 3) (sym cut.whole)
 
-  pub mid_movable : HasMovable (messages_in mid.bytes n.list)
+  mid_movable : HasMovable (messages_in mid.bytes n.list)
   mid_movable = movable_type (messages_in mid.bytes n.list) (described_in old.bytes m).fixed (standing_padded mid.bytes n stands)
       (ap (option_and_then fixed_of) same_type ∙ was.array.type)
 
-  pub mid_apart : IsApart n.blocks mid.free (length mid.bytes)
+  mid_apart : IsApart n.blocks mid.free (length mid.bytes)
   mid_apart =
       subst (λ (bs : List Block). IsApart bs mid.free (length mid.bytes)) (append-nil n.blocks)
       (moves_apart old mid m.blocks n.blocks [] moves
       (subst (λ (bs : List Block). IsApart bs old.free (length old.bytes)) (sym (append-nil m.blocks)) (blocks_apart old m was)))
+
+  -- another can be put in
+  pub mid_ready : HasMovable (messages_in mid.bytes n.list) × IsApart n.blocks mid.free (length mid.bytes)
+  mid_ready = (mid_movable, mid_apart)
 
   -- ---- and with another message
 

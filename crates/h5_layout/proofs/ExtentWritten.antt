@@ -92,7 +92,7 @@ module _ (old : Space) (m : Listed) (was : IsArrayApart old m) (x : Placed) (fou
       (not_without (first_body 1 ms) (part x.at x.size old.bytes) body_is has) in
       omega (arith, long, ranked, length-part x.at x.size old.bytes extent_inside)
 
-  module _ (w : List ℕ) (long : length w ≡ x.size) (new : Space) (image : new ≡ with_bytes_at old x.at w) (e : Extent) (says : extent_of w ≡ Some e) where
+  module _ (w : List ℕ) (long : length w ≡ x.size) (e : Extent) (says : extent_of w ≡ Some e) (new : Space) (image : new ≡ with_bytes_at old x.at w) where
     room : x.at + length w ≤ length old.bytes
     room = omega (arith, long, extent_inside)
 
@@ -118,7 +118,7 @@ module _ (old : Space) (m : Listed) (was : IsArrayApart old m) (x : Placed) (fou
     body_now : part x.at x.size new.bytes ≡ w
     body_now = ap (part x.at x.size) bytes_are ∙ part-with_part_same x.at x.size w old.bytes (sym long) room
 
-    pub extent_written : HasExtentNow old new m m e
+    extent_written : HasExtentNow old new m m e
     extent_written =
         let ms' = messages_in new.bytes m.list in
         let body = part x.at x.size new.bytes in
@@ -138,5 +138,6 @@ module _ (old : Space) (m : Listed) (was : IsArrayApart old m) (x : Placed) (fou
               (written_covered old.bytes m was.standing 1 not_continued x found w x.at low high) room bytes_are (ap (λ (s : Space). s.free) image);
         }
 
-    pub extent_spends : Spends old new 0 0
-    extent_spends = spends_write old new w x.at room image
+    -- and nothing is spent
+    pub extent_now : HasExtentNow old new m m e × Spends old new 0 0
+    extent_now = (extent_written, spends_write old new w x.at room image)

@@ -100,10 +100,6 @@ module _ (k : KeptChunks) (places : List ChunkPlace) (h : HeldCells) (view : kep
   pub whole : AreKept k places → IsChunkPlace k.image (chunk_shape k.fixed k.chunk) place
   whole are = place_there (IsChunkPlace k.image (chunk_shape k.fixed k.chunk)) places n place are.there here
 
-  -- it ends by the end of the image
-  pub ends_inside : AreKept k places → (length_of : ℕ) → length_of ≡ cells k.chunk * (k.fixed).size → place.at + length_of ≤ length k.image
-  ends_inside are length_of long = let own = (whole are).inside in omega (arith, own, long)
-
   -- its offsets, and its cells
   pub offsets_there : (part : List ℕ × List ℤ) → slice_get h.parts n ≡ Some part → offsets_in (length k.chunk) place.key.now ≡ part.0
   offsets_there part got =

@@ -2,12 +2,14 @@ pub mod BesideLaws
 pub mod LocateLaws
 pub mod GridLaws
 pub mod CellLaws
+pub mod BufferLaws
 pub mod PieceLaws
 pub mod DataLaws
 pub mod ArrayLaws
 pub mod BreachLaws
 pub mod RoomLaws
 pub mod CompactLaws
+pub mod Relaid
 pub mod CompactWritten
 pub mod KnownLaws
 pub mod FillLaws

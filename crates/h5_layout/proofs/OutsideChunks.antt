@@ -1,18 +1,20 @@
 -- The chunks that an array stores outside an extent, and at its edge, as they are listed.
-use Rattle.std.proofs.Common.{◌≡◌, ℕ, ◌*◌, ◌^◌, ◌≤◌, ℤ, List, [], ◌∷◌, length, map, false, true, Bool, Option, None, Some, refl, sym, ap, ◌∙◌, subst, arith}
+use Rattle.std.proofs.Common.{◌≡◌, ℕ, ◌*◌, ◌^◌, ◌<◌, ◌≤◌, ℤ, List, [], ◌∷◌, length, map, false, true, Bool, Option, None, Some, refl, sym, ap, ◌∙◌, subst, arith}
 use Rattle.std.specs.Prelude.{nat_lt, not}
 use Rattle.std.specs.FinMap.{empty, entries, retain_keys}
-use Rattle.std.specs.List.{filter}
+use Rattle.std.specs.List.{AllByRecursion, filter}
 use Rattle.std.proofs.lemmas.Bool.Decides.{nat_tests}
 use Rattle.h5_model.specs.Format.Chunks.{Chunks, offsets_in}
 use Rattle.h5_model.specs.Format.Fixed.{Fixed, IsFixed, fits}
-use Rattle.h5_model.specs.Format.Layout.{InChunks}
+use Rattle.h5_model.specs.Edits.Refusal.{is_chunked}
+use Rattle.h5_model.specs.Format.Layout.{InBlock, InChunks, InMessage, Layout}
+use Rattle.h5_model.specs.Format.Reads.{storage_of}
 use Rattle.h5_model.specs.Tree.Places.{cells, is_inside}
 use Rattle.h5_chunks.specs.Held.{place_entry}
 use Rattle.h5_chunks.specs.Shapes.{AreChunkSizes}
 use Rattle.h5_chunks.specs.Told.{chunks_told}
 use Rattle.h5_chunks.specs.declared.held.ChunkPlace.{ChunkPlace}
-use Rattle.h5_layout.specs.ArrayChunks.{ArrayChunks, AreSoundChunks, IsInChunksOf}
+use Rattle.h5_layout.specs.ArrayChunks.{ArrayChunks, AreSoundChunks, IsChunked, IsInChunksOf}
 use Rattle.h5_chunks.specs.Lists.{offsets_outside}
 use Rattle.h5_layout.specs.Data.{chunk_shape, stored_chunks}
 use Rattle.h5_layout.specs.Described.{Described}
@@ -24,12 +26,18 @@ use Rattle.h5_layout.proofs.KeptValues.{layout_parts}
 use Rattle.h5_layout.proofs.NoChunks.{none_kept}
 use Rattle.h5_layout.proofs.TrimmedArray.{stored_by}
 
+-- an array whose dataset is in chunks
+pub chunked_is : (sizes : List ℕ) (l : Layout) → is_chunked (storage_of sizes l) ≡ true → IsChunked l
+chunked_is sizes (InMessage bytes) is = absurd (cc)
+chunked_is sizes (InBlock b) is = absurd (cc)
+chunked_is sizes (InChunks chunk root) is = (chunk, root, refl)
+
 -- the chunks of an array are sound
-pub sound_chunks : (t : Fixed) (fill : ℤ) (chunk lent : List ℕ) (root : Option ℕ) → lent ≡ chunk → AreChunkSizes chunk → IsFixed t → fits t fill ≡ true
+pub sound_chunks : (t : Fixed) (fill : ℤ) (chunk lent : List ℕ) (root : Option ℕ) → lent ≡ chunk → AreChunkSizes chunk → AllByRecursion (λ n. n < 2 ^ 32) chunk → IsFixed t → fits t fill ≡ true
     → is_chunk_large t (InChunks chunk root) ≡ false → AreSoundChunks (record { fixed = t; fill = fill; chunk = lent; root = root })
-sound_chunks t fill chunk lent root same sizes sound of_type small =
+sound_chunks t fill chunk lent root same sizes short sound of_type small =
     subst (λ (xs : List ℕ). AreSoundChunks (record { fixed = t; fill = fill; chunk = xs; root = root })) (sym same)
-    (record { sizes = sizes; small = few (cells chunk * t.size) small; sound = sound; of_type = of_type }) where
+    (record { sizes = sizes; short = short; small = few (cells chunk * t.size) small; sound = sound; of_type = of_type }) where
       few : (n : ℕ) → nat_lt (2 ^ 30) n ≡ false → n ≤ 2 ^ 30
       few n not_large = grind (arith, nat_tests)
 

@@ -1,6 +1,6 @@
 -- The cells that stay of chunks whose array is made smaller or larger, where the chunks stand (File Format Specification 3.0, sections
 -- III.A.1 and IV.A.2.i).
-use Rattle.std.specs.Prelude.{◌≡◌, ℕ, ◌-◌, ◌*◌, ◌^◌, ◌<◌, ◌≤◌, true, min, if◌then◌else◌, ℤ, Option, None, Some, List, [], ◌∷◌, length, map}
+use Rattle.std.specs.Prelude.{◌≡◌, ℕ, ◌-◌, ◌*◌, ◌^◌, ◌<◌, ◌≤◌, true, min, if◌then◌else◌, ℤ, Option, None, Some, List, [], ◌∷◌, length, map, take}
 use Rattle.std.specs.FinMap.{empty}
 use Rattle.std.specs.List.{AllByRecursion}
 use Rattle.h5_bytes.specs.Bytes.{part}
@@ -14,6 +14,7 @@ use Rattle.h5_chunks.specs.Held.{IsChunkPlace}
 use Rattle.h5_chunks.specs.Shapes.{AreChunkSizes}
 use Rattle.h5_chunks.specs.Told.{chunks_told}
 use Rattle.h5_chunks.specs.declared.held.ChunkPlace.{ChunkPlace}
+use Rattle.h5_layout.specs.ArrayChunks.{ArrayChunks}
 use Rattle.h5_layout.specs.Data.{chunk_shape}
 use Rattle.h5_layout.specs.Described.{Described}
 use Rattle.h5_layout.specs.HeldChunks.{HeldCells}
@@ -25,6 +26,10 @@ pub record KeptChunks : Type 0 where
   pub fill : ℤ
   pub chunk : List ℕ
   pub kept : List ℕ
+
+-- those of an array; the kept sizes stand in front
+abbrev pub array_kept : List ℕ → ArrayChunks → List ℕ → KeptChunks
+array_kept image k kept = record { image = image; fixed = k.fixed; fill = k.fill; chunk = k.chunk; kept = take (length k.chunk) kept }
 
 -- in each dimension the smaller of two sizes
 abbrev pub smaller_sizes : List ℕ → List ℕ → List ℕ

@@ -1,4 +1,5 @@
 pub mod ArrayEdits
+pub mod Buffers
 pub mod CellData
 pub mod Compact
 pub mod ChunkCells
@@ -26,7 +27,6 @@ pub mod Values
 pub use Rattle.h5_msg.specs.Layouts
 pub mod ArrayChunks
 pub mod ExtentNow
-pub mod Copied
 pub mod Filled
 pub mod LayoutEdits
 pub mod NewTrees

@@ -1,7 +1,6 @@
 -- Which chunks are stored of the array whose object header stands at an address (File Format Specification 3.0, sections III.A.1, IV.A.1.a
 -- and IV.A.2.i).
-use Rattle.std.specs.Prelude.{◌≡◌, ℕ, List, map}
-use Rattle.std.specs.FinMap.{entries}
+use Rattle.std.specs.Prelude.{◌≡◌, ℕ, List}
 use Rattle.h5_bytes.specs.declared.Block.{Block}
 use Rattle.h5_model.specs.Format.Chunks.{Chunks}
 use Rattle.h5_model.specs.Format.Messages.{Message, HasMessages}
@@ -17,9 +16,3 @@ pub record HasStoredChunks (image : List ℕ) (header : ℕ) (chunks : Chunks) :
   pub data_blocks : List Block
   pub array : HasDataset image messages dataset data_blocks
   pub chunks_are : array.chunks ≡ chunks
-
--- those at these offsets, ascending
-pub record HasStored (image : List ℕ) (header : ℕ) (offsets : List (List ℕ)) : Type 0 where
-  pub chunks : Chunks
-  pub there : HasStoredChunks image header chunks
-  pub offsets_are : map (λ e. e.0) (entries chunks) ≡ offsets

@@ -11,6 +11,7 @@ ghost use Rattle.h5_layout.specs.Data.{AreDataRead};
 ghost use Rattle.h5_layout.specs.Standing.{IsStandingAt, address_at};
 
 use crate::array::ArrayRef;
+use crate::buffer::Buffer;
 use crate::grid::{GridRef, copy_sizes};
 use h5_model::Fixed;
 use h5_msg::{Layout, write_values};
@@ -78,13 +79,15 @@ pub fn stored_from(image: &Image, array: &ArrayRef<'_>, place: u64, most: u64) -
 /// Writes values into cells that stand one behind another from this address on. Takes no memory.
 ///
 /// That the cells lie in the image, and that the values are of the type, are the caller's conditions.
-pub fn write_stored(image: &mut Image, fixed: &Fixed, at: u64, values: &[i128])
+pub fn write_stored(image: &mut Image, fixed: &Fixed, at: u64, values: &Buffer<'_>)
     requires inside { at + length values.now * fixed.now.size ≤ length image.old.bytes }
     requires of_type { list_all (fits fixed.now) values.now ≡ true }
     ensures { image.new ≡ with_bytes_at image.old at (cells_bytes fixed.now values.now) }
 {
+    // The image is not longer than memory.
+    let _image = image.bytes();
     let bytes = image.part_at_mut(at, (values.len() * fixed.size()) as u64);
-    write_values(fixed, values, bytes);
+    values.write(fixed, bytes);
 }
 
 /// Writes one value into so many cells that stand one behind another from this address on. Takes no memory.

@@ -2,15 +2,16 @@
 //! and IV.A.2.i).
 
 ghost use Rattle.std.specs.Prelude.{◌≡◌, ◌*◌, ◌^◌, ◌≤◌, true};
-ghost use Rattle.h5_model.specs.Edits.Refusal.{is_chunked};
 ghost use Rattle.h5_model.specs.Format.Fixed.{IsFixed, fits};
-ghost use Rattle.h5_model.specs.Format.Reads.{storage_of};
 ghost use Rattle.h5_model.specs.Tree.Places.{cells as cells_of};
 ghost use Rattle.h5_chunks.specs.Shapes.{AreChunkSizes};
-ghost use Rattle.h5_layout.specs.ArrayChunks.{AreSoundChunks, IsInChunksOf};
+ghost use Rattle.h5_layout.specs.ArrayChunks.{AreSoundChunks, IsChunked, IsInChunksOf};
 ghost use Rattle.h5_layout.specs.ArrayEdits.{IsArrayApart, described_in};
 ghost use Rattle.h5_layout.specs.Data.{chunk_shape};
+ghost use Rattle.h5_layout.specs.Stored.{IsArray};
 
+use crate::array::ArrayRef;
+use crate::copied::CellsToFill;
 use crate::grid::{bytes_of, copy_sizes};
 use crate::read::known_array;
 use h5_chunks::ChunkShape;
@@ -62,12 +63,21 @@ impl ChunkedArray {
     /// The array of these messages, which is in chunks.
     pub(crate) fn new(alloc: Global, image: &Image, messages: &Messages) -> ChunkedArray
         requires array { IsArrayApart image.now messages.now }
-        requires chunked { is_chunked (storage_of (described_in image.now.bytes messages.now).sizes
-            (described_in image.now.bytes messages.now).layout) ≡ true }
+        requires chunked { IsChunked (described_in image.now.bytes messages.now).layout }
         ensures chunks { IsInChunksOf (described_in image.now.bytes messages.now) result }
         ensures sound { AreSoundChunks result }
     {
         let array = known_array(alloc, image, messages);
+        ChunkedArray::of(&array)
+    }
+
+    /// The array with this description, which is in chunks.
+    pub(crate) fn of(array: &ArrayRef<'_>) -> ChunkedArray
+        requires { IsChunked array.now.layout }
+        ensures chunks { IsInChunksOf array.now result }
+        ensures sound { AreSoundChunks result }
+        ensures array { IsArray array.now }
+    {
         let Layout::Chunked {
             sizes: chunk_sizes,
             tree,
@@ -120,6 +130,20 @@ impl ChunkedArray {
         ensures few { result ≤ 2 ^ 30 }
     {
         self.chunk_length
+    }
+
+    /// The cells of one chunk, each of which is to be the fill.
+    pub(crate) fn cells(&self) -> CellsToFill
+        ensures fixed { result.fixed ≡ self.now.fixed }
+        ensures fill { result.fill ≡ self.now.fill }
+        ensures count { result.count ≡ cells_of self.now.chunk }
+        ensures sound { AreSoundChunks self.now }
+    {
+        CellsToFill {
+            fixed: self.fixed,
+            fill: self.fill,
+            count: bytes_of(self.sizes(), 1),
+        }
     }
 
     /// What the chunks have in common.

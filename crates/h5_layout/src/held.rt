@@ -19,11 +19,10 @@ ghost use Rattle.h5_layout.specs.HeldChunks.{held_cells};
 ghost use Rattle.h5_layout.specs.Kept.{chunks_below_root, smaller_sizes};
 
 use crate::array::ArrayRef;
+use crate::chunked::ChunkedArray;
 use crate::corner::{Span, push_kept, write_spans};
-use crate::grid::{bytes_of, copy_sizes};
 use h5_chunks::{ChunkKey, ChunkPlace, ChunkShape, held_places, push_last_key};
 use h5_model::Fixed;
-use h5_msg::Layout;
 use h5_shape::{Dims, MAX_RANK};
 use h5_space::Image;
 use std::alloc::{AllocError, Global};
@@ -34,39 +33,20 @@ use std::marker::Model;
 #[derive(Drop)]
 pub struct HeldChunks<'a> {
     image: &'a Image,
-    fixed: Fixed,
-    fill: i128,
-    rank: usize,
-    chunk: [u64; 32],
+    array: ChunkedArray,
     kept: [u64; 32],
-    chunk_length: u64,
     places: Vec<ChunkPlace<'a>>,
 }
 
 impl<'a> Model for HeldChunks<'a> {
-    ghost use Rattle.std.specs.Prelude.{◌≡◌, ◌≤◌, ◌*◌, take};
-    ghost use Rattle.h5_model.specs.Tree.Places.{cells};
     ghost use Rattle.h5_layout.specs.HeldChunks.{HeldCells};
-    ghost use Rattle.h5_layout.specs.Kept.{AreKept, kept_cells};
+    ghost use Rattle.h5_layout.specs.Kept.{AreKept, array_kept, kept_cells};
 
     ghost Value = { HeldCells };
 
-    ghost view = { λ h. kept_cells (record {
-      image = h.image.now.bytes;
-      fixed = h.fixed;
-      fill = h.fill;
-      chunk = take h.rank h.chunk;
-      kept = take h.rank h.kept;
-    }) h.places.items };
+    ghost view = { λ h. kept_cells (array_kept h.image.now.bytes h.array h.kept) h.places.items };
 
-    ghost invariant = { λ h. (h.rank ≤ 32) × (h.chunk_length ≡ cells (take h.rank h.chunk) * h.fixed.size)
-        × AreKept (record {
-          image = h.image.now.bytes;
-          fixed = h.fixed;
-          fill = h.fill;
-          chunk = take h.rank h.chunk;
-          kept = take h.rank h.kept;
-        }) h.places.items };
+    ghost invariant = { λ h. AreKept (array_kept h.image.now.bytes h.array h.kept) h.places.items };
 }
 
 impl<'a> HeldChunks<'a> {
@@ -93,30 +73,16 @@ impl<'a> HeldChunks<'a> {
             → array.now.layout ≡ InChunks chunk root
             → h ≡ held_cells image.now.bytes array.now chunk sizes.now) }
     {
-        let Layout::Chunked {
-            sizes: chunk_sizes,
-            tree,
-        } = array.layout()
-        else {
-            unreachable!()
-        };
-        let fixed = array.fixed();
-        let rank = chunk_sizes.rank();
-        let mut chunk = [0; MAX_RANK];
-        copy_sizes(chunk_sizes, &mut chunk[..rank]);
+        let chunked = ChunkedArray::of(array);
+        let rank = chunked.sizes().len();
         let mut kept = [0; MAX_RANK];
         copy_smaller(array.dims().sizes(), sizes.sizes(), &mut kept[..rank]);
-        let chunk_length = bytes_of(&chunk[..rank], fixed.size() as u64);
-        let shape = ChunkShape::new(&chunk[..rank], chunk_length);
-        let places = places_below(alloc, image, &shape, *tree, sizes.sizes())?;
+        let shape = chunked.shape();
+        let places = places_below(alloc, image, &shape, chunked.root(), sizes.sizes())?;
         Ok(HeldChunks {
             image,
-            fixed,
-            fill: array.fill(),
-            rank,
-            chunk,
+            array: chunked,
             kept,
-            chunk_length,
             places,
         })
     }
@@ -143,8 +109,7 @@ impl<'a> HeldChunks<'a> {
         ensures ranked { AllByRecursion (λ (part : List ℕ × List ℤ).
             length part.0 ≡ length self.now.chunk) self.now.parts }
     {
-        let rank = self.rank;
-        &self.chunk[..rank]
+        self.array.sizes()
     }
 
     /// The type of the cells.
@@ -152,7 +117,7 @@ impl<'a> HeldChunks<'a> {
         ensures fixed { result ≡ self.now.fixed }
         ensures sound { IsFixed self.now.fixed }
     {
-        self.fixed
+        self.array.fixed()
     }
 
     /// How many bytes a chunk has.
@@ -161,7 +126,7 @@ impl<'a> HeldChunks<'a> {
         ensures few { result ≤ 2 ^ 30 }
         ensures some { 1 ≤ result }
     {
-        self.chunk_length
+        self.array.chunk_length()
     }
 
     /// The key of chunk `k`, as it stands in the tree.
@@ -203,16 +168,14 @@ impl<'a> HeldChunks<'a> {
             → OnOk result (out.new.items ≡ out.old.items ++ cells_bytes self.now.fixed part.1) }
     {
         let place = self.places[k];
-        let bytes = &self.image.bytes()[place.at as usize..(place.at + self.chunk_length) as usize];
+        let length = self.array.chunk_length();
+        let bytes = &self.image.bytes()[place.at as usize..(place.at + length) as usize];
+        let chunk = self.array.sizes();
+        let rank = chunk.len();
         let mut spans = [Span { size: 1, kept: 1 }; MAX_RANK];
-        let spans = &mut spans[..self.rank];
-        write_spans(
-            &self.chunk[..self.rank],
-            &self.kept[..self.rank],
-            place.key,
-            spans,
-        );
-        push_kept(out, self.fixed, self.fill, spans, bytes)
+        let spans = &mut spans[..rank];
+        write_spans(chunk, &self.kept[..rank], place.key, spans);
+        push_kept(out, self.array.fixed(), self.array.fill(), spans, bytes)
     }
 }
 
@@ -237,8 +200,10 @@ fn places_below<'a>(
     }
 }
 
-/// Copies the smaller of two sizes in each dimension.
-pub(crate) fn copy_smaller(old: &[u64], new: &[u64], to: &mut [u64])
+/// Copies the smaller of two sizes in each dimension, in cells, the one that runs slowest first. Takes no memory.
+///
+/// That all three have as many dimensions is the caller's condition.
+pub fn copy_smaller(old: &[u64], new: &[u64], to: &mut [u64])
     requires room { length to.old ≡ length old.now }
     requires rank { length new.now ≡ length old.now }
     ensures { to.new ≡ smaller_sizes old.now new.now }

@@ -9,6 +9,7 @@
 mod address;
 mod array;
 mod bodies;
+mod buffer;
 mod cells;
 mod chunked;
 mod compact;
@@ -34,12 +35,14 @@ mod values;
 
 pub use address::{StoredRun, fill_stored, stored_from, write_stored};
 pub use array::ArrayRef;
+pub use buffer::Buffer;
 pub use compact::compact_place;
 pub use extent::{lacks_maxima, set_sizes};
 pub use h5_chunks::{ChunkList, InsertFault};
 pub use h5_msg::{ChunkSizes, Layout};
 pub use h5_shape::{Dims, MAX_RANK, Slab, SlabFault};
-pub use held::HeldChunks;
+pub use h5_types::{encode, fits};
+pub use held::{HeldChunks, copy_smaller};
 pub use lacking::{Missing, missing_of};
 pub use new_chunks::missing_chunks;
 pub use pieces::{Piece, Runs};

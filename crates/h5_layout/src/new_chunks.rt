@@ -16,9 +16,8 @@ ghost use Rattle.h5_layout.specs.Missing.{HasNextCorner, corners_missing};
 ghost use Rattle.h5_layout.specs.NewChunks.{AreMissing};
 
 use crate::array::ArrayRef;
-use crate::grid::{bytes_of, copy_sizes};
+use crate::chunked::ChunkedArray;
 use h5_chunks::{ChunkList, ChunkShape, chunk_at};
-use h5_msg::Layout;
 use h5_shape::{ChunkParts, MAX_RANK, Slab, Span};
 use h5_space::Image;
 use std::alloc::{AllocError, Global};
@@ -46,20 +45,11 @@ pub fn missing_chunks(
         → array.now.layout ≡ InChunks chunk root
         → AreMissing image.now.bytes array.now chunk slab.now new) }
 {
-    let Layout::Chunked {
-        sizes: chunk_sizes,
-        tree,
-    } = array.layout()
-    else {
-        unreachable!()
-    };
-    let rank = chunk_sizes.rank();
-    let mut chunk = [0; MAX_RANK];
-    copy_sizes(chunk_sizes, &mut chunk[..rank]);
-    let chunk_length = bytes_of(&chunk[..rank], array.fixed().size() as u64);
-    let shape = ChunkShape::new(&chunk[..rank], chunk_length);
-    let parts = slab.chunk_parts(&chunk[..rank]);
-    missing_below(alloc, image, &shape, *tree, parts, rank)
+    let chunked = ChunkedArray::of(array);
+    let chunk = chunked.sizes();
+    let shape = chunked.shape();
+    let parts = slab.chunk_parts(chunk);
+    missing_below(alloc, image, &shape, chunked.root(), parts, chunk.len())
 }
 
 /// Those chunks of so many dimensions at the corners of these parts that are not stored below this root.

@@ -1,7 +1,7 @@
 //! Storage made for the cells of an array, where the array stands (File Format Specification 3.0, sections III.A.1 and
 //! IV.A.2.i).
 
-ghost use Rattle.std.specs.Prelude.{◌≡◌, ◌↔◌, ℕ, ◌+◌, ◌-◌, ◌*◌, ◌^◌, ◌<◌, ◌≤◌, ◌||◌, Err, IfErr, IsFalse, IsTrue, OnErr, OnOk, None, min, nat_le, length as length_of, true};
+ghost use Rattle.std.specs.Prelude.{◌≡◌, ◌↔◌, ℕ, ◌+◌, ◌-◌, ◌*◌, ◌^◌, ◌<◌, ◌≤◌, ◌||◌, Err, IfErr, IsTrue, OnErr, OnOk, None, min, nat_le, length as length_of, true};
 ghost use Rattle.std.specs.FinMap.{empty};
 ghost use Rattle.h5_model.specs.Format.Fixed.{fits};
 ghost use Rattle.h5_model.specs.Format.Layout.{InBlock, InChunks};
@@ -11,9 +11,9 @@ ghost use Rattle.h5_model.specs.Views.Selection.{Slab};
 ghost use Rattle.h5_space.specs.Moves.{Spends};
 ghost use Rattle.h5_space.specs.declared.image.SpaceFault.{SpaceFault as FaultOfSpace};
 ghost use Rattle.h5_chunks.specs.Told.{chunks_told};
+ghost use Rattle.h5_layout.specs.ArrayChunks.{IsInChunksOf};
 ghost use Rattle.h5_layout.specs.ArrayEdits.{IsArrayApart, described_in};
 ghost use Rattle.h5_chunks.specs.Edited.{AreChunksApart, CanBeStored, chunk_node_length};
-ghost use Rattle.h5_layout.specs.Copied.{AreChunksCopied, IsChunked, sizes_copied};
 ghost use Rattle.h5_layout.specs.Data.{chunk_shape};
 ghost use Rattle.h5_layout.specs.Filled.{AreToStore, FillsChunk, HasFilledChunks, cells_of_fill};
 ghost use Rattle.h5_layout.specs.Lacking.{IsMissing};
@@ -23,7 +23,8 @@ ghost use Rattle.h5_layout.specs.Storage.{IsDeepFor, IsFullInTurn, IsStorageMade
 ghost use Rattle.h5_layout.specs.declared.lacking.Missing.TheVariants as missing;
 
 use crate::address::fill_stored;
-use crate::copied::{CellsToFill, CopiedChunks, copied_cells, copied_chunks};
+use crate::chunked::ChunkedArray;
+use crate::copied::{CellsToFill, copied_cells};
 use crate::filled::store_all;
 use crate::header::{set_block, set_root};
 use crate::lacking::Missing;
@@ -61,28 +62,17 @@ fn has_low_root(alloc: Global, image: &Image, messages: &Messages) -> bool
     ensures { result ≡ is_low_root image.now.bytes (described_in image.now.bytes messages.now)
         (described_in image.now.bytes messages.now).layout }
 {
-    if !is_chunked(alloc, image, messages) {
-        return true;
-    }
-    let chunks = copied_chunks(alloc, image, messages);
-    let Some(root) = chunks.root else {
-        return true;
-    };
-    let shape = ChunkShape::new(&chunks.sizes[..chunks.rank], chunks.length);
-    is_low(image, &shape, root)
-}
-
-/// Whether an array is in chunks.
-fn is_chunked(alloc: Global, image: &Image, messages: &Messages) -> bool
-    requires array { IsArrayApart image.now messages.now }
-    ensures yes { IsTrue result → IsChunked (described_in image.now.bytes messages.now).layout }
-    ensures no { IsFalse result → is_low_root image.now.bytes (described_in image.now.bytes messages.now)
-        (described_in image.now.bytes messages.now).layout ≡ true }
-{
-    match known_array(alloc, image, messages).layout() {
-        Layout::Compact(_) => false,
-        Layout::Contiguous(_) => false,
-        Layout::Chunked { .. } => true,
+    let array = known_array(alloc, image, messages);
+    match array.layout() {
+        Layout::Compact(_) => true,
+        Layout::Contiguous(_) => true,
+        Layout::Chunked { .. } => {
+            let chunks = ChunkedArray::of(&array);
+            match chunks.root() {
+                Some(root) => is_low(image, &chunks.shape(), root),
+                None => true,
+            }
+        }
     }
 }
 
@@ -119,14 +109,14 @@ pub fn check_storage(
             check_room(image, cells.count * cells.fixed.size() as u64)
         }
         Missing::Chunks(new) => {
-            let chunks = copied_chunks(alloc, image, messages);
-            let shape = ChunkShape::new(&chunks.sizes[..chunks.rank], chunks.length);
-            if let Some(root) = chunks.root {
+            let chunks = ChunkedArray::new(alloc, image, messages);
+            let shape = chunks.shape();
+            if let Some(root) = chunks.root() {
                 if is_first_full(image, &shape, root, new) {
                     return Err(InsertFault::TreeTooDeep);
                 }
             }
-            check_room(image, room_for(image, &shape, chunks.length, new))
+            check_room(image, room_for(image, &shape, chunks.chunk_length(), new))
         }
     }
 }
@@ -194,7 +184,7 @@ pub fn make_storage(
             make_block(image, messages, &cells)
         }
         Missing::Chunks(new) => {
-            let chunks = copied_chunks(alloc, image, messages);
+            let chunks = ChunkedArray::new(alloc, image, messages);
             make_chunks(image, messages, &chunks, new)
         }
     }
@@ -237,15 +227,15 @@ fn make_block(
 fn make_chunks(
     image: &mut Image,
     messages: &Messages,
-    chunks: &CopiedChunks,
+    chunks: &ChunkedArray,
     new: &ChunkList,
 ) -> Result<(), InsertFault>
     requires array { IsArrayApart image.old messages.now }
-    requires copied { AreChunksCopied (described_in image.old.bytes messages.now) chunks.now }
+    requires chunks { IsInChunksOf (described_in image.old.bytes messages.now) chunks.now }
     requires missing { (slab : Slab) × AreMissing image.old.bytes
-        (described_in image.old.bytes messages.now) (sizes_copied chunks.now) slab new.now }
+        (described_in image.old.bytes messages.now) chunks.now.chunk slab new.now }
     ensures made { OnOk result ((slab : Slab) → AreMissing image.old.bytes
-        (described_in image.old.bytes messages.now) (sizes_copied chunks.now) slab new.now
+        (described_in image.old.bytes messages.now) chunks.now.chunk slab new.now
         → IsStorageMade image.old image.new messages.now slab (missing.Chunks new.now)) }
     ensures spends { OnOk result (length_of image.new.bytes ≤ length_of image.old.bytes
         + storage_bytes image.old.bytes (described_in image.old.bytes messages.now)
@@ -262,11 +252,12 @@ fn make_chunks(
     ensures refused { refuses_first image.old.bytes (described_in image.old.bytes messages.now)
         (missing.Chunks new.now) ≡ true → OnErr result (image.new ≡ image.old) }
 {
-    let shape = ChunkShape::new(&chunks.sizes[..chunks.rank], chunks.length);
-    let bytes = room_for(image, &shape, chunks.length, new);
-    match chunks.root {
-        Some(root) => add_chunks(image, &shape, root, bytes, new, &chunks.cells),
-        None => make_tree(image, messages, &shape, bytes, new, &chunks.cells),
+    let shape = chunks.shape();
+    let bytes = room_for(image, &shape, chunks.chunk_length(), new);
+    let cells = chunks.cells();
+    match chunks.root() {
+        Some(root) => add_chunks(image, &shape, root, bytes, new, &cells),
+        None => make_tree(image, messages, &shape, bytes, new, &cells),
     }
 }
 

@@ -1,44 +1,20 @@
 -- The maxima of an array that is read are not below its sizes, and can be told from none (File Format
 -- Specification 3.0, section IV.A.2.b).
-use Rattle.std.proofs.Common.{◌≡◌, ℕ, zero, suc, ◌+◌, ◌*◌, ◌^◌, ◌<◌, ◌≤◌, List, [], ◌∷◌, map, Some, None, true, false, cond, refl, subst, arith}
+use Rattle.std.proofs.Common.{◌≡◌, ℕ, zero, suc, ◌+◌, ◌*◌, ◌^◌, ◌<◌, ◌≤◌, List, map, Some, None, true, false, cond, refl, subst, arith}
 use Rattle.std.specs.Prelude.{nat_le, ◌==◌}
 use Rattle.std.specs.Option.{IfSome}
 use Rattle.std.specs.List.{AllByRecursion, AllZip, range_with_len}
 use Rattle.std.proofs.lemmas.Bool.Decides.{nat_tests}
 use Rattle.std.proofs.lemmas.Option.{cond_some}
-use Rattle.std.proofs.Math.Nat.{mul-le-mul_left, mul-le-mul_right}
 use Rattle.h5_bytes.specs.Bytes.{number_at, undefined}
 use Rattle.h5_model.specs.Format.Extent.{Extent, extent_of, extent_in, is_dataspace, rank_in, size_in, maximum_in, maximum_from, maximum_fits, has_maxima}
 use Rattle.h5_model.specs.Scripts.Tests.{each_below}
 use Rattle.h5_model.specs.Tree.Places.{extent_cells}
 use Rattle.h5_model.proofs.TestLaws.{each_below_at}
+use Rattle.h5_layout.proofs.ExtentBounds.{sizes_below}
 use Rattle.h5_repack.specs.Bodies.Sound.{IsBound}
 use Rattle.h5_edit.specs.Fits.Laws.{AreBytes}
 use Rattle.h5_edit.proofs.FitLaws.PlainBodies.{long_low}
-
--- ---- sizes
-
-extent_positive : (sizes : List ℕ) → 1 ≤ extent_cells sizes
-extent_positive [] = omega arith
-extent_positive (d ∷ ds) = elim (d == 0) as (λ b. (d == 0) ≡ b → 1 ≤ cond b 1 d * extent_cells ds) [
-  | true ↦ λ e. omega (arith, extent_positive ds)
-  | false ↦ λ e.
-      let some : 1 ≤ d = grind (arith, nat_tests, e) in
-      let more : 1 * extent_cells ds ≤ d * extent_cells ds = mul-le-mul_right (extent_cells ds) some in
-      omega (arith, more, extent_positive ds)
-] refl
-
--- no size is above the product of those other than 0
-sizes_below : (sizes : List ℕ) (most : ℕ) → extent_cells sizes ≤ most → AllByRecursion (λ n. n ≤ most) sizes
-sizes_below [] most few = tt
-sizes_below (d ∷ ds) most few = elim (d == 0) as (λ b. (d == 0) ≡ b → cond b 1 d * extent_cells ds ≤ most → (d ≤ most) × AllByRecursion (λ n. n ≤ most) ds) [
-  | true ↦ λ e low. let none : d ≡ 0 = grind (arith, nat_tests, e) in (omega (arith, none), sizes_below ds most (omega (arith, low)))
-  | false ↦ λ e low.
-      let some : 1 ≤ d = grind (arith, nat_tests, e) in
-      let rest : 1 * extent_cells ds ≤ d * extent_cells ds = mul-le-mul_right (extent_cells ds) some in
-      let own : d * 1 ≤ d * extent_cells ds = mul-le-mul_left d (extent_positive ds) in
-      (omega (arith, own, low), sizes_below ds most (omega (arith, rest, low)))
-] refl few
 
 -- ---- maxima that are read
 

@@ -10,9 +10,9 @@ ghost use Rattle.h5_edit.specs.Refusals.Rules.{spec_rules};
 
 use crate::rules::place::{NewPlace, is_full, new_place};
 use crate::rules::store::{are_maxima, is_chunk_large, is_compact_large, is_store};
+use h5_layout::fits;
 use h5_model::{EditFault, Spec};
 use h5_query::{Dims, Opened};
-use h5_types::fits;
 use std::alloc::Global;
 
 /// Where a new array is to stand.

@@ -9,8 +9,7 @@ ghost use Rattle.h5_query.specs.Selected.{hyper_rules};
 ghost use Rattle.h5_edit.specs.Refusals.Allowed.{AreSelectedStanding, IsOneStored, IsRuledOut, IsTarget};
 ghost use Rattle.h5_edit.specs.Refusals.Rules.{value_rules};
 
-use crate::rules::values::are_of_type;
-use h5_layout::stored_from;
+use h5_layout::{Buffer, stored_from};
 use h5_model::{EditFault, Hyper};
 use h5_query::{ArrayRef, Opened, StandingCells, array_number, described_of, slab_within};
 use h5_shape::one_run;
@@ -35,7 +34,7 @@ pub(crate) fn check_write(
     opened: &Opened,
     path: &[u8],
     hyper: &Hyper,
-    values: &[i128],
+    values: &Buffer<'_>,
 ) -> Result<WriteTarget, EditFault>
     ensures at { let f = opened.now in
         MatchResult result (IsTarget f path.now hyper.now values.now)
@@ -60,7 +59,7 @@ fn standing_cells(
     image: &Image,
     array: &ArrayRef<'_>,
     hyper: &Hyper,
-    values: &[i128],
+    values: &Buffer<'_>,
 ) -> Option<StandingCells>
     requires { AreDataRead image.now.bytes array.now.fixed array.now.layout }
     ensures stand { IfSome result (AreSelectedStanding image.now.bytes array.now hyper.now values.now) }
@@ -72,7 +71,7 @@ fn standing_cells(
     }
     let stored = stored_from(image, array, run.place, run.length)?;
     // The values are looked at last, since they may be many.
-    if stored.cells < run.length || !are_of_type(&array.fixed(), values) {
+    if stored.cells < run.length || !values.are_of_type(&array.fixed()) {
         return None;
     }
     Some(StandingCells {
@@ -83,7 +82,7 @@ fn standing_cells(
 }
 
 /// Whether the lists select cells of the array, and the values are some for these cells, or by the lowest number why not.
-fn check_cells(array: &ArrayRef<'_>, hyper: &Hyper, values: &[i128]) -> Result<(), EditFault>
+fn check_cells(array: &ArrayRef<'_>, hyper: &Hyper, values: &Buffer<'_>) -> Result<(), EditFault>
     ensures { let rules = hyper_rules array.now.sizes hyper.now
         ++ value_rules array.now.fixed hyper.now values.now in
         MatchResult result (λ _. first_holding rules ≡ None) (λ e. first_holding rules ≡ Some e) }
@@ -92,7 +91,7 @@ fn check_cells(array: &ArrayRef<'_>, hyper: &Hyper, values: &[i128]) -> Result<(
     if slab.cells() != values.len() as u64 {
         return Err(EditFault::ValueCount);
     }
-    if !are_of_type(&array.fixed(), values) {
+    if !values.are_of_type(&array.fixed()) {
         return Err(EditFault::ValueRange);
     }
     Ok(())

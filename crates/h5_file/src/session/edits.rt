@@ -12,6 +12,7 @@ use crate::file::File;
 use crate::open_views::OpenViews;
 use crate::session::Session;
 use crate::touched::Touched;
+use h5_edit::Buffer;
 use h5_model::{AttrSpec, Edit, EditFault, Edited, Hyper, Spec};
 
 impl Session {
@@ -20,7 +21,7 @@ impl Session {
     /// these are, over all views; an array without chunks is one chunk. A view whose cells can be lent now keeps none of
     /// them any more.
     ///
-    /// Views take no memory for it, and views of other arrays no time.
+    /// Views take no memory for it, and views of other arrays no time. Where none is open, nothing is looked at for them.
     ///
     /// # Errors
     ///
@@ -29,7 +30,7 @@ impl Session {
         ensures edited { MatchResult result (IsSessionEdited self.old edit.now self.new) (λ e.
             IsRefused self.old.file edit.now e × (self.new ≡ self.old)) }
     {
-        let touched = Touched::of(&self.file, edit);
+        let touched = Touched::of(&self.file, &self.views, edit);
         let edited = self.file.edit(edit)?;
         Ok(follow(&self.file, &mut self.views, edited, touched))
     }
@@ -129,7 +130,7 @@ impl Session {
         ensures edited { MatchResult result (IsSessionEdited self.old (Resize path.now dims.now) self.new)
             (λ e. IsRefused self.old.file (Resize path.now dims.now) e × (self.new ≡ self.old)) }
     {
-        let touched = Touched::lost(&self.file, path, dims);
+        let touched = Touched::lost(&self.file, &self.views, path, dims);
         let edited = self.file.resize(path, dims)?;
         Ok(follow(&self.file, &mut self.views, edited, touched))
     }
@@ -150,8 +151,27 @@ impl Session {
             (IsSessionEdited self.old (Write path.now hyper.now values.now) self.new)
             (λ e. IsRefused self.old.file (Write path.now hyper.now values.now) e × (self.new ≡ self.old)) }
     {
-        let touched = Touched::written(&self.file, hyper);
-        let edited = self.file.write(path, hyper, values)?;
+        self.write_from(path, hyper, &Buffer::numbers(values))
+    }
+
+    /// Writes values from a buffer: numbers, or the bytes of cells of a type in memory, which need not be the array's. It
+    /// makes no copy of them. Else as [`Session::write`].
+    ///
+    /// # Errors
+    ///
+    /// Those of [`File::write`]. A refusal changes nothing.
+    pub fn write_from(
+        &mut self,
+        path: &[u8],
+        hyper: &Hyper,
+        values: &Buffer<'_>,
+    ) -> Result<Edited, EditFault>
+        ensures edited { MatchResult result
+            (IsSessionEdited self.old (Write path.now hyper.now values.now) self.new)
+            (λ e. IsRefused self.old.file (Write path.now hyper.now values.now) e × (self.new ≡ self.old)) }
+    {
+        let touched = Touched::written(&self.file, &self.views, hyper);
+        let edited = self.file.write_from(path, hyper, values)?;
         Ok(follow(&self.file, &mut self.views, edited, touched))
     }
 }

@@ -21,7 +21,9 @@ ghost use Rattle.h5_open.specs.Written.{IsArrayThere};
 use super::end::write_end;
 use super::{Opened, OpenedObject};
 use h5_header::{AddFault, Messages};
-use h5_layout::{MAX_RANK, Outside, known_array, lacks_maxima, outside_of, resize_array};
+use h5_layout::{
+    MAX_RANK, Outside, copy_smaller, known_array, lacks_maxima, outside_of, resize_array,
+};
 use h5_space::{Image, MAXIMUM_IMAGE};
 use std::alloc::{AllocError, Global};
 
@@ -173,24 +175,13 @@ fn look_outside(
     let array = known_array(alloc, image, messages);
     let old = array.dims().sizes();
     let mut room = [0; MAX_RANK];
-    let smaller = smaller_of(old, sizes, &mut room);
-    if trimmed && smaller == old {
+    let smaller = &mut room[..old.len()];
+    copy_smaller(old, sizes, smaller);
+    if trimmed && &*smaller == old {
         return Ok(None);
     }
     let outside = outside_of(alloc, image, messages, smaller)?;
     Ok(Some(outside))
-}
-
-/// The smaller of two sizes in each dimension, written to the front of `room`.
-fn smaller_of<'a>(old: &[u64], new: &[u64], room: &'a mut [u64; MAX_RANK]) -> &'a [u64]
-    requires few { length old.now ≤ 32 }
-    requires rank { length new.now ≡ length old.now }
-    ensures { result.now ≡ smaller_sizes old.now new.now }
-{
-    for d in 0..old.len() {
-        room[d] = old[d].min(new[d]);
-    }
-    &room[..old.len()]
 }
 
 /// Makes room for a message of so many bytes with its block, if there are some, and for what is outside to be given back. Changes nothing

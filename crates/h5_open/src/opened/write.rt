@@ -18,7 +18,7 @@ ghost use Rattle.h5_open.specs.Written.{AreCellsWritten, AreStanding, IsArrayThe
 
 use super::Opened;
 use h5_header::Messages;
-use h5_layout::{Layout, StoredRun, compact_place, known_array, stored_from, write_stored};
+use h5_layout::{Buffer, Layout, StoredRun, compact_place, known_array, stored_from, write_stored};
 use h5_model::Fixed;
 use h5_space::Image;
 use std::alloc::Global;
@@ -41,7 +41,7 @@ impl Opened {
     ///
     /// These are the caller's conditions: the object with the number is an array, it has these cells, they are
     /// stored, and the values are of its type.
-    pub fn write_cells(&mut self, alloc: Global, number: u32, place: u64, values: &[i128])
+    pub fn write_cells(&mut self, alloc: Global, number: u32, place: u64, values: &Buffer<'_>)
         requires run { (d : Dataset) × IsStoredRun self.old number place values.now d }
         ensures changed { self.new ≡ record self.old {
           image = self.new.image;
@@ -62,7 +62,8 @@ impl Opened {
         let _image = &self.image;
         let mut done = 0;
         while done < values.len() {
-            done += self.write_first(alloc, number, place + done as u64, &values[done..]);
+            let (_written, left) = values.split_at(done);
+            done += self.write_first(alloc, number, place + done as u64, &left);
         }
     }
 
@@ -72,7 +73,7 @@ impl Opened {
     ///
     /// These are the caller's conditions: the object with the number is an array, its cells stand as `cells` says,
     /// there is at least one value, and the values are of its type.
-    pub fn write_standing(&mut self, number: u32, cells: &StandingCells, values: &[i128])
+    pub fn write_standing(&mut self, number: u32, cells: &StandingCells, values: &Buffer<'_>)
         requires run { (d : Dataset) × IsStoredRun self.old number cells.now.place values.now d }
         requires some { 0 < length values.now }
         requires standing { AreStanding self.old number cells.now (length values.now) }
@@ -95,7 +96,7 @@ impl Opened {
     }
 
     /// Writes the first of these values, into cells that stand one behind another. Returns how many it wrote.
-    fn write_first(&mut self, alloc: Global, number: u32, place: u64, values: &[i128]) -> usize
+    fn write_first(&mut self, alloc: Global, number: u32, place: u64, values: &Buffer<'_>) -> usize
         requires run { (d : Dataset) × IsStoredRun self.old number place values.now d }
         requires some { 0 < length values.now }
         ensures some { 0 < result }
@@ -112,7 +113,8 @@ impl Opened {
             values.len() as u64,
         );
         let count = run.cells as usize;
-        write_stored(&mut self.image, &fixed, run.at, &values[..count]);
+        let (first, _left) = values.split_at(count);
+        write_stored(&mut self.image, &fixed, run.at, &first);
         count
     }
 }

@@ -1,8 +1,6 @@
 -- An attribute of the plain layout is read back from its message (File Format Specification 3.0, section IV.A.2.m).
-use Rattle.std.proofs.Common.{◌≡◌, ℕ, ◌+◌, ◌-◌, ◌*◌, ◌%◌, ◌^◌, ◌<◌, ◌≤◌, ◌==◌, List, [], ◌∷◌, length, length-append, map, replicate, refl, sym, ap, ◌∙◌, arith, true, false, cond, ℤ, Some}
-use Rattle.std.proofs.lemmas.Bool.Decides.{nat_tests}
+use Rattle.std.proofs.Common.{◌≡◌, ℕ, ◌+◌, ◌-◌, ◌*◌, ◌%◌, ◌^◌, ◌<◌, ◌≤◌, List, [], ◌∷◌, length, length-append, map, replicate, refl, sym, ap, ◌∙◌, arith, true, false, ℤ, Some}
 use Rattle.std.proofs.lemmas.List.{length-replicate}
-use Rattle.std.proofs.Math.Nat.{mul-le-mul_left, mul-le-mul_right}
 use Rattle.std.specs.Prelude.{T}
 use Rattle.std.specs.Ordering.{nat_cmp, eq_by_cmp, is_lt, is_eq}
 use Rattle.std.specs.declared.cmp.Ordering.{Ordering}
@@ -25,32 +23,11 @@ use Rattle.h5_msg.proofs.WordLaws.{words_long}
 use Rattle.h5_msg.proofs.DataspaceLaws.{Small, small_from}
 use Rattle.h5_model.proofs.PlainValues.{length-cells_bytes}
 use Rattle.h5_msg.proofs.AttributeBack.{attribute_back}
+use Rattle.h5_layout.proofs.ExtentBounds.{sizes_below}
 use Rattle.h5_repack.specs.Bodies.Bodies.{attribute_message}
 use Rattle.h5_repack.specs.Bodies.Sound.{IsPlainAttribute}
 
 -- ---- sizes and values
-
-extent_positive : (sizes : List ℕ) → 1 ≤ extent_cells sizes
-extent_positive [] = omega arith
-extent_positive (d ∷ ds) = elim (d == 0) as (λ b. (d == 0) ≡ b → 1 ≤ cond b 1 d * extent_cells ds) [
-  | true ↦ λ e. omega (arith, extent_positive ds)
-  | false ↦ λ e.
-      let some : 1 ≤ d = grind (arith, nat_tests, e) in
-      let more : 1 * extent_cells ds ≤ d * extent_cells ds = mul-le-mul_right (extent_cells ds) some in
-      omega (arith, more, extent_positive ds)
-] refl
-
--- no size is above the product of those other than 0
-sizes_below : (sizes : List ℕ) (most : ℕ) → extent_cells sizes ≤ most → AllByRecursion (λ n. n ≤ most) sizes
-sizes_below [] most few = tt
-sizes_below (d ∷ ds) most few = elim (d == 0) as (λ b. (d == 0) ≡ b → cond b 1 d * extent_cells ds ≤ most → (d ≤ most) × AllByRecursion (λ n. n ≤ most) ds) [
-  | true ↦ λ e low. let none : d ≡ 0 = grind (arith, nat_tests, e) in (omega (arith, none), sizes_below ds most (omega (arith, low)))
-  | false ↦ λ e low.
-      let some : 1 ≤ d = grind (arith, nat_tests, e) in
-      let rest : 1 * extent_cells ds ≤ d * extent_cells ds = mul-le-mul_right (extent_cells ds) some in
-      let own : d * 1 ≤ d * extent_cells ds = mul-le-mul_left d (extent_positive ds) in
-      (omega (arith, own, low), sizes_below ds most (omega (arith, rest, low)))
-] refl few
 
 all_small : (sizes : List ℕ) → AllByRecursion (λ n. n ≤ 2 ^ 40) sizes → AllByRecursion (λ n. n < 2 ^ 64) sizes
 all_small [] all = tt

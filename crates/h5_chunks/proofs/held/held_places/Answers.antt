@@ -6,13 +6,11 @@ use Rattle.h5_model.specs.Format.Chunks.{chunks_at, chunks_in}
 use Rattle.h5_model.specs.Format.Reached.{Shape}
 use Rattle.h5_model.specs.Format.Rows.{Reading}
 use Rattle.h5_model.specs.Tree.Places.{is_inside}
-use Rattle.h5_laws.proofs.Lists.{In, in_all}
-use Rattle.h5_laws.proofs.Subtrees.{index_in}
 use Rattle.h5_btree.specs.Walk.Below.{IsStanding, reading_in}
 use Rattle.h5_btree.specs.Walk.Forms.{OfChunks}
 use Rattle.h5_btree.specs.Walk.Stands.{bottom_at}
 use Rattle.h5_chunks.proofs.ChunkRows.{chunks_more}
-use Rattle.h5_chunks.proofs.HeldLaws.{bottom_node, held_entries, image_long, tree_there}
+use Rattle.h5_chunks.proofs.HeldLaws.{held_entries, image_long, row_node, tree_there}
 use Rattle.h5_chunks.proofs.held.held_places.Goals as goal
 
 pub bottom_nodes-requires-clause-long : goal.bottom_nodes-requires-clause-long
@@ -26,17 +24,9 @@ loop-at-init c = rw c.new-places.ensures.items (refl, tt)
 
 pub push_places-requires-clause-node : goal.push_places-requires-clause-node
 push_places-requires-clause-node c =
-    let image : List ℕ = c.args.image.now.bytes in
-    let shape : Shape = c.args.shape.now in
-    let row : List ℕ = c.deref-at-items.result.now in
-    let k : ℕ = c.loop-at.at-index in
-    let at : ℕ = get_or row k 0 in
-    let rows : row ≡ bottom_at image (OfChunks shape) c.args.root = c.deref-at-items.ensures.value ∙ c.in_ok-row.ensures.bottom in
-    let here : In at row = index_in row k 0 c.loop-at-test.true in
-    let stands : IsStanding image (OfChunks shape) 0 at
-    = in_all (IsStanding image (OfChunks shape) 0) at row
-    (subst (AllByRecursion (IsStanding image (OfChunks shape) 0)) (sym c.deref-at-items.ensures.value) c.in_ok-row.ensures.stand) here in
-    bottom_node image shape c.args.root c.requires.chunks at (subst (In at) rows here) (record { formed = stands.formed; inside = stands.there })
+    row_node c.args.image.now.bytes c.args.shape.now c.args.root c.requires.chunks c.deref-at-items.result.now c.loop-at.at-index c.loop-at-test.true
+    (c.deref-at-items.ensures.value ∙ c.in_ok-row.ensures.bottom)
+    (subst (AllByRecursion (IsStanding c.args.image.now.bytes (OfChunks c.args.shape.now) 0)) (sym c.deref-at-items.ensures.value) c.in_ok-row.ensures.stand)
 
 pub push_places-requires-clause-long : goal.push_places-requires-clause-long
 push_places-requires-clause-long c = image_long c.args.image.now.bytes c.args.shape.now c.args.root c.requires.chunks

@@ -5,14 +5,12 @@ use Rattle.h5_model.specs.Format.Chunks.{chunks_at, chunks_in}
 use Rattle.h5_model.specs.Format.Reached.{Shape}
 use Rattle.h5_model.specs.Format.Rows.{Reading}
 use Rattle.h5_model.specs.Tree.Places.{is_inside}
-use Rattle.h5_laws.proofs.Lists.{In, in_all}
-use Rattle.h5_laws.proofs.Subtrees.{index_in}
 use Rattle.h5_btree.specs.Walk.Below.{IsStanding, reading_in}
 use Rattle.h5_btree.specs.Walk.Forms.{OfChunks}
 use Rattle.h5_btree.specs.Walk.Stands.{bottom_at}
 use Rattle.h5_chunks.specs.Lists.{ChunkOffsets, offsets_of_outer}
 use Rattle.h5_chunks.proofs.ChunkRows.{chunks_more}
-use Rattle.h5_chunks.proofs.HeldLaws.{bottom_node, held_entries, image_long, tree_there}
+use Rattle.h5_chunks.proofs.HeldLaws.{held_entries, image_long, row_node, tree_there}
 use Rattle.h5_chunks.proofs.OutsideLaws.{outer_append}
 use Rattle.h5_chunks.proofs.outside.chunks_outside.Goals as goal
 
@@ -27,17 +25,9 @@ push_outside-requires-clause-long c = image_long c.args.image.now.bytes c.args.s
 
 pub push_outside-requires-clause-node : goal.push_outside-requires-clause-node
 push_outside-requires-clause-node c =
-    let image : List ℕ = c.args.image.now.bytes in
-    let shape : Shape = c.args.shape.now in
-    let row : List ℕ = c.deref-at-items.result.now in
-    let k : ℕ = c.loop-at.at-index in
-    let at : ℕ = get_or row k 0 in
-    let rows : row ≡ bottom_at image (OfChunks shape) c.args.root = c.deref-at-items.ensures.value ∙ c.in_ok-row.ensures.bottom in
-    let here : In at row = index_in row k 0 c.loop-at-test.true in
-    let stands : IsStanding image (OfChunks shape) 0 at
-    = in_all (IsStanding image (OfChunks shape) 0) at row
-    (subst (AllByRecursion (IsStanding image (OfChunks shape) 0)) (sym c.deref-at-items.ensures.value) c.in_ok-row.ensures.stand) here in
-    bottom_node image shape c.args.root c.requires.chunks at (subst (In at) rows here) (record { formed = stands.formed; inside = stands.there })
+    row_node c.args.image.now.bytes c.args.shape.now c.args.root c.requires.chunks c.deref-at-items.result.now c.loop-at.at-index c.loop-at-test.true
+    (c.deref-at-items.ensures.value ∙ c.in_ok-row.ensures.bottom)
+    (subst (AllByRecursion (IsStanding c.args.image.now.bytes (OfChunks c.args.shape.now) 0)) (sym c.deref-at-items.ensures.value) c.in_ok-row.ensures.stand)
 
 pub push_outside-requires-clause-list : goal.push_outside-requires-clause-list
 push_outside-requires-clause-list c = (ap (λ (v : ChunkOffsets). v.rank) c.loop-at.invariant, ap (λ (v : ChunkOffsets). v.bytes) c.loop-at.invariant)

@@ -1,19 +1,23 @@
-use Rattle.std.proofs.Common.{◌≡◌, ℕ, ◌^◌, ◌<◌, List, length, sym, ap, ◌∙◌, subst, arith}
+use Rattle.std.proofs.Common.{◌≡◌, ℕ, ◌^◌, ◌<◌, ◌≤◌, List, length, sym, ap, ◌∙◌, subst, arith}
 use Rattle.std.specs.FinMap.{values}
-use Rattle.std.proofs.lemmas.Bool.Decides.{nat_tests}
 use Rattle.h5_model.specs.Format.Chunks.{offsets_in}
 use Rattle.h5_model.specs.Format.Nodes.{Kind, node_at}
 use Rattle.h5_model.specs.Format.Reached.{Shape, level_at, shape_kind}
+use Rattle.h5_model.specs.Format.Rows.{Node}
 use Rattle.h5_space.specs.Space.{Space}
 use Rattle.h5_btree.specs.Descent.{IsWayTo}
 use Rattle.h5_btree.specs.Insertion.{IsFullWay}
 use Rattle.h5_btree.specs.Removal.{EndsSomewhere}
+use Rattle.h5_btree.specs.Walk.Forms.{OfChunks}
 use Rattle.h5_btree.specs.declared.way.Step.{Step}
+use Rattle.h5_btree.proofs.WalkLaws.Descended.{root_there}
+use Rattle.h5_btree.proofs.WaysDown.{way_long}
 use Rattle.h5_chunks.specs.Edited.{IsFullAt}
 use Rattle.h5_chunks.specs.Told.{chunks_told}
 use Rattle.h5_chunks.specs.Way.{chunk_behind}
 use Rattle.h5_chunks.proofs.BehindLaws.{length-offsets}
-use Rattle.h5_chunks.proofs.FullWays.{full_of, of_full, own_ends}
+use Rattle.h5_chunks.proofs.FullWays.{few_steps, full_of, of_full, own_ends}
+use Rattle.h5_chunks.proofs.HeldLaws.{tree_there}
 use Rattle.h5_chunks.proofs.put.is_full_at.Goals as goal
 use Rattle.h5_chunks.proofs.put.is_full_at.Goals.{After-way_to}
 
@@ -53,37 +57,37 @@ module _ (c : After-way_to) where
         let w = own_ends s shape c.args.root read (λ p. omega (arith, c.requires.chunks.apart p)) short offsets same way (found way to) in
         (c.args.root, (read.stored).level, (read.stored).owned, values (chunks_told s.bytes shape c.args.root), w.0, w.1)
 
+    -- it has 16 steps, where the root is at level 15
+    all : 15 ≤ level_at s.bytes kind c.args.root → length way ≡ 16
+    all high =
+        let few = few_steps s shape c.args.root c.requires.chunks.read (λ p. omega (arith, c.requires.chunks.apart p)) short offsets same way (found way to) in
+        let long = way_long (node_at s.bytes kind) (chunk_behind offsets) (level_at s.bytes kind c.args.root) c.args.root way (found way to) in
+        omega (arith, few, long, high)
+
     is_full : length way ≡ 16 → IsFullWay c.args.image.now.bytes (shape_kind c.args.image.now.bytes c.args.shape.now) way
         → IsFullAt c.args.image.now.bytes c.args.shape.now c.args.root (offsets_in (length c.args.shape.now.sizes) c.args.key.now)
     is_full = full_of s shape c.args.root c.requires.chunks.read (λ p. omega (arith, c.requires.chunks.apart p)) short offsets same way (found way to)
 
     full_is : IsFullAt c.args.image.now.bytes c.args.shape.now c.args.root (offsets_in (length c.args.shape.now.sizes) c.args.key.now)
-        → (length way ≡ 16) × IsFullWay c.args.image.now.bytes (shape_kind c.args.image.now.bytes c.args.shape.now) way
+        → IsFullWay c.args.image.now.bytes (shape_kind c.args.image.now.bytes c.args.shape.now) way
     full_is = of_full s shape c.args.root c.requires.chunks.read (λ p. omega (arith, c.requires.chunks.apart p)) short offsets same way (found way to)
+
+pub tree_node-requires-clause-there : goal.tree_node-requires-clause-there
+tree_node-requires-clause-there c =
+    root_there c.args.image.now.bytes (OfChunks c.args.shape.now) c.args.root (tree_there c.args.image.now.bytes c.args.shape.now c.args.root (c.requires.chunks).read)
 
 pub is_full_way-requires : goal.is_full_way-requires
 is_full_way-requires c =
     let b = (goal.at.is_full_way-requires c).After-way_to in
     record { ends = subst (λ (k : Kind). EndsSomewhere c.args.image.now k c.in-Some.way) (sym c.kind.ensures) (ends b c.in-Some.way c.in-Some.ensures.leads) }
 
-pub returns-then-steps-eq-MOST_STEPS : goal.returns-then-steps-eq-MOST_STEPS
-returns-then-steps-eq-MOST_STEPS c =
-    let b = (goal.at.returns-then-steps-eq-MOST_STEPS c).After-way_to in
+pub returns : goal.returns
+returns c =
+    let b = (goal.at.returns c).After-way_to in
     let way : List Step = c.in-Some.way in
     let image : List ℕ = c.args.image.now.bytes in
-    let long : length way ≡ 16 = sym (ap (λ (steps : List Step). length steps) c.steps.ensures.steps) ∙ c.if-steps-eq-MOST_STEPS.true in (
+    let level : c.level.result ≡ level_at image (shape_kind image c.args.shape.now) c.args.root = c.level.ensures ∙ ap (λ (n : Node). n.level) c.tree_node.ensures in
+    let long : length way ≡ 16 = all b way c.in-Some.ensures.leads (omega (arith, level, c.if-level-lt-HIGHEST.false)) in (
       λ it. is_full b way c.in-Some.ensures.leads long (subst (λ (k : Kind). IsFullWay image k way) c.kind.ensures (c.is_full_way.ensures.0 it)),
-      λ f. c.is_full_way.ensures.1 (subst (λ (k : Kind). IsFullWay image k way) (sym c.kind.ensures) (full_is b way c.in-Some.ensures.leads f).1),
-    )
-
-pub returns-else-steps-eq-MOST_STEPS : goal.returns-else-steps-eq-MOST_STEPS
-returns-else-steps-eq-MOST_STEPS c =
-    let b = (goal.at.returns-else-steps-eq-MOST_STEPS c).After-way_to in (
-      λ it.
-          let is : length c.steps.result.now ≡ 16 = grind (arith, nat_tests, it) in
-          absurd (omega (arith, is, c.if-steps-eq-MOST_STEPS.false)),
-      λ f.
-          let long = (full_is b c.in-Some.way c.in-Some.ensures.leads f).0 in
-          let count = ap (λ (steps : List Step). length steps) c.steps.ensures.steps in
-          absurd (omega (arith, long, count, c.if-steps-eq-MOST_STEPS.false)),
+      λ f. c.is_full_way.ensures.1 (subst (λ (k : Kind). IsFullWay image k way) (sym c.kind.ensures) (full_is b way c.in-Some.ensures.leads f)),
     )

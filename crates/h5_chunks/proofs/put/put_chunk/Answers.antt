@@ -1,4 +1,4 @@
-use Rattle.std.proofs.Common.{◌≡◌, ℕ, ◌^◌, ◌<◌, List, [], ◌∷◌, length, sym, ap, ◌∙◌, subst, arith}
+use Rattle.std.proofs.Common.{◌≡◌, Bool, ℕ, ◌^◌, ◌<◌, List, [], ◌∷◌, length, sym, ap, ◌∙◌, subst, arith}
 use Rattle.std.specs.Prelude.{slice_index_or}
 use Rattle.std.specs.FinMap.{values}
 use Rattle.h5_model.specs.Format.Chunks.{offsets_in}
@@ -8,10 +8,11 @@ use Rattle.h5_model.specs.Format.Rows.{Node}
 use Rattle.h5_space.specs.Space.{Space}
 use Rattle.h5_btree.specs.Descent.{IsWayTo}
 use Rattle.h5_btree.specs.Insertion.{IsChildPut, IsEmptyTree, IsFullWay}
-use Rattle.h5_btree.specs.Removal.{EndsSomewhere}
+use Rattle.h5_btree.specs.Removal.{EndsInTree, EndsSomewhere}
 use Rattle.h5_btree.specs.Rewritten.{IsRewritten}
 use Rattle.h5_btree.specs.declared.way.Step.{Step}
-use Rattle.h5_chunks.specs.Put.{IsKeyBehind, IsPutBeside, IsWayWidened}
+use Rattle.h5_chunks.specs.Bushy.{IsBushy}
+use Rattle.h5_chunks.specs.Put.{HasChunkPut, IsKeyBehind, IsPutBeside, IsWayWidened}
 use Rattle.h5_chunks.specs.Shapes.{AreChunkSizes}
 use Rattle.h5_chunks.specs.Told.{chunks_told}
 use Rattle.h5_chunks.specs.Way.{chunk_behind}
@@ -90,6 +91,26 @@ module _ (c : After-way_to) where
       low_u = low_then s shape c.args.root c.args.chunk c.requires.beside short sizes_so c.requires.storable key c.requires.keyed way (found way to)
           c.write_key_behind.new.out behind_key u wide c.requires.roomy
 
+      module _ (behind : Bool) (other : List ℕ) (also : other ≡ c.of_key-offsets.result)
+          (test : (step : Step) (above : List Step) → way ≡ step ∷ above
+          → behind ≡ chunk_behind other (slice_index_or (node_at c.args.image.now.bytes (shape_kind c.args.image.now.bytes c.args.shape.now) step.node).keys step.place []))
+          (t : Space) (put : IsPutBeside u t (shape_kind c.args.image.now.bytes c.args.shape.now) way behind c.args.key.now c.args.chunk) where
+        abbrev w : (k : ℕ) × EndsInTree s kind c.args.root (c.requires.beside.read.stored).level way (c.requires.beside.read.stored).owned
+            (values (chunks_told s.bytes shape c.args.root)) k
+        w = way_ends s shape c.args.root c.args.chunk c.requires.beside short sizes_so c.requires.storable key c.requires.keyed way (found way to)
+
+        tested : behind ≡ chunk_behind offsets (slice_index_or (node_at s.bytes kind (w.1.step).node).keys (w.1.step).place [])
+        tested = subst (λ (os : List ℕ). behind ≡ chunk_behind os (slice_index_or (node_at s.bytes kind (w.1.step).node).keys (w.1.step).place [])) (offsets_are other also)
+            (test w.1.step w.1.above w.1.way_is)
+
+        chunk_in : HasChunkPut c.args.image.now t c.args.shape.now c.args.root (offsets_in (length c.args.shape.now.sizes) c.args.key.now) c.args.chunk
+        chunk_in = put_in s shape c.args.root c.args.chunk c.requires.beside short sizes_so c.requires.storable key c.requires.keyed way (found way to)
+            c.write_key_behind.new.out behind_key u wide c.requires.absent behind tested t put
+
+        stays_bushy : (low : ℕ) → IsBushy c.args.image.now.bytes c.args.shape.now c.args.root low → IsBushy t.bytes c.args.shape.now c.args.root low
+        stays_bushy = bushy_in s shape c.args.root c.args.chunk c.requires.beside short sizes_so c.requires.storable key c.requires.keyed way (found way to)
+            c.write_key_behind.new.out behind_key u wide c.requires.absent behind tested t put
+
 pub is_behind_end-behind-requires-clause-ends : goal.is_behind_end-behind-requires-clause-ends
 is_behind_end-behind-requires-clause-ends c = ends (goal.at.is_behind_end-behind-requires-clause-ends c).After-way_to c.in-Some.way c.in-Some.ensures.leads
 
@@ -110,41 +131,19 @@ put_beside-requires-clause-low c =
 
 pub returns-in-Some-clause-put : goal.returns-in-Some-clause-put
 returns-in-Some-clause-put c =
-    let b = (goal.at.returns-in-Some-clause-put c).After-way_to in
-    let s : Space = c.args.image.now in
-    let shape : Shape = c.args.shape.now in
-    let way : List Step = c.in-Some.way in
-    let to = found b way c.in-Some.ensures.leads in
-    let beside = c.requires.beside in
-    let e = (way_ends s shape c.args.root c.args.chunk beside (short b) (sizes_so b) c.requires.storable c.args.key.now c.requires.keyed way to).1 in
-    let test = subst (λ (os : List ℕ). c.is_behind_end-behind.result
-    ≡ chunk_behind os (slice_index_or (node_at s.bytes (shape_kind s.bytes shape) e.step.node).keys e.step.place []))
-    (offsets_are b c.as_slice-in-Some.result.now c.as_slice-in-Some.ensures.offsets) (c.is_behind_end-behind.ensures e.step e.above e.way_is) in
-    let put = subst (λ (k : Kind). IsPutBeside c.let_in.new.image c.put_beside.new.image k way c.is_behind_end-behind.result c.args.key.now c.args.chunk) c.kind.ensures
-    c.put_beside.ensures.put in
-    put_in s shape c.args.root c.args.chunk beside (short b) (sizes_so b) c.requires.storable c.args.key.now c.requires.keyed way to
-    c.write_key_behind.new.out (behind_key b) c.let_in.new.image
-    (wide b way c.in-Some.ensures.leads c.let_in.new.image c.as_slice-in-Some-2.result.now c.as_slice-in-Some-2.ensures.offsets c.let_in.ensures)
-    c.requires.absent c.is_behind_end-behind.result test c.put_beside.new.image put
+    chunk_in (goal.at.returns-in-Some-clause-put c).After-way_to c.in-Some.way c.in-Some.ensures.leads c.let_in.new.image c.as_slice-in-Some-2.result.now
+    c.as_slice-in-Some-2.ensures.offsets c.let_in.ensures c.is_behind_end-behind.result c.as_slice-in-Some.result.now c.as_slice-in-Some.ensures.offsets
+    c.is_behind_end-behind.ensures c.put_beside.new.image
+    (subst (λ (k : Kind). IsPutBeside c.let_in.new.image c.put_beside.new.image k c.in-Some.way c.is_behind_end-behind.result c.args.key.now c.args.chunk) c.kind.ensures
+    c.put_beside.ensures.put)
 
 pub returns-in-Some-clause-bushy : goal.returns-in-Some-clause-bushy
 returns-in-Some-clause-bushy c =
-    let b = (goal.at.returns-in-Some-clause-bushy c).After-way_to in
-    let s : Space = c.args.image.now in
-    let shape : Shape = c.args.shape.now in
-    let way : List Step = c.in-Some.way in
-    let to = found b way c.in-Some.ensures.leads in
-    let beside = c.requires.beside in
-    let e = (way_ends s shape c.args.root c.args.chunk beside (short b) (sizes_so b) c.requires.storable c.args.key.now c.requires.keyed way to).1 in
-    let test = subst (λ (os : List ℕ). c.is_behind_end-behind.result
-    ≡ chunk_behind os (slice_index_or (node_at s.bytes (shape_kind s.bytes shape) e.step.node).keys e.step.place []))
-    (offsets_are b c.as_slice-in-Some.result.now c.as_slice-in-Some.ensures.offsets) (c.is_behind_end-behind.ensures e.step e.above e.way_is) in
-    let put = subst (λ (k : Kind). IsPutBeside c.let_in.new.image c.put_beside.new.image k way c.is_behind_end-behind.result c.args.key.now c.args.chunk) c.kind.ensures
-    c.put_beside.ensures.put in
-    bushy_in s shape c.args.root c.args.chunk beside (short b) (sizes_so b) c.requires.storable c.args.key.now c.requires.keyed way to
-    c.write_key_behind.new.out (behind_key b) c.let_in.new.image
-    (wide b way c.in-Some.ensures.leads c.let_in.new.image c.as_slice-in-Some-2.result.now c.as_slice-in-Some-2.ensures.offsets c.let_in.ensures)
-    c.requires.absent c.is_behind_end-behind.result test c.put_beside.new.image put
+    stays_bushy (goal.at.returns-in-Some-clause-bushy c).After-way_to c.in-Some.way c.in-Some.ensures.leads c.let_in.new.image c.as_slice-in-Some-2.result.now
+    c.as_slice-in-Some-2.ensures.offsets c.let_in.ensures c.is_behind_end-behind.result c.as_slice-in-Some.result.now c.as_slice-in-Some.ensures.offsets
+    c.is_behind_end-behind.ensures c.put_beside.new.image
+    (subst (λ (k : Kind). IsPutBeside c.let_in.new.image c.put_beside.new.image k c.in-Some.way c.is_behind_end-behind.result c.args.key.now c.args.chunk) c.kind.ensures
+    c.put_beside.ensures.put)
 
 -- ---- where there is none
 

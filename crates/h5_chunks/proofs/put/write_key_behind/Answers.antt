@@ -2,8 +2,7 @@ use Rattle.std.proofs.Common.{◌≡◌, ℕ, ◌+◌, ◌*◌, ◌<◌, ◌≤�
 use Rattle.h5_bytes.specs.Bytes.{little_bytes, number_at}
 use Rattle.h5_bytes.proofs.FieldLaws.{number_at-with_field, number_at-with_part_other}
 use Rattle.h5_bytes.proofs.PartLaws.{length-with_part}
-use Rattle.h5_chunks.proofs.BehindLaws.{short_at}
-use Rattle.h5_chunks.proofs.OffsetLaws.{aligned_at}
+use Rattle.h5_chunks.proofs.BehindLaws.{behind_fits}
 use Rattle.h5_chunks.proofs.put.write_key_behind.Goals as goal
 
 pub loop-d-init : goal.loop-d-init
@@ -18,10 +17,7 @@ loop-d-init c =
 
 pub overflow_add-offset : goal.overflow_add-offset
 overflow_add-offset c =
-    let sizes : List ℕ = c.args.sizes.now in
-    let d : ℕ = c.loop-d.d in
-    let low : d < length sizes = omega arith in
-    omega (arith, (aligned_at sizes c.args.key.now d c.requires.aligned low).small, short_at sizes d c.requires.short, c.u64_at.ensures)
+    omega (arith, behind_fits c.args.sizes.now c.args.key.now c.loop-d.d c.requires.aligned c.requires.short (omega arith), c.u64_at.ensures)
 
 pub loop-d-preserved : goal.loop-d-preserved
 loop-d-preserved c =
@@ -33,7 +29,7 @@ loop-d-preserved c =
     let v : ℕ = c.u64_at.result + get_or sizes d 0 in
     let at : ℕ = 8 + 8 * d in
     let room : at + 8 ≤ length out = omega (arith, c.loop-d.invariant.long, c.requires.long, low) in
-    let small : v < 256 ^ 8 = omega (arith, (aligned_at sizes key d c.requires.aligned low).small, short_at sizes d c.requires.short, c.u64_at.ensures) in
+    let small : v < 256 ^ 8 = omega (arith, behind_fits sizes key d c.requires.aligned c.requires.short low, c.u64_at.ensures) in
     record {
       long = ap length c.put_u64-in-loop-d.ensures ∙ length-with_part at (little_bytes 8 v) out room ∙ c.loop-d.invariant.long;
       empty = ap (λ (b : List ℕ). number_at b 0 8) c.put_u64-in-loop-d.ensures ∙ number_at-with_part_other at (little_bytes 8 v) out 0 8 room (inl (omega arith))

@@ -1,28 +1,22 @@
 use Rattle.std.proofs.Common.{◌≡◌, ℕ, [], List, length, ap, ◌∙◌, subst}
 use Rattle.std.specs.Prelude.{IfNone, IfSome}
 use Rattle.std.specs.FinMap.{values}
-use Rattle.h5_bytes.specs.Blocks.{Inside}
-use Rattle.h5_model.specs.Format.Nodes.{HasTree, chunk_kind, node_at, tree_blocks}
+use Rattle.h5_model.specs.Format.Nodes.{chunk_kind, node_at}
 use Rattle.h5_model.specs.Format.Reached.{Shape}
 use Rattle.h5_btree.specs.Descent.{IsWayTo}
 use Rattle.h5_chunks.specs.Told.{chunks_told}
 use Rattle.h5_chunks.specs.Way.{chunk_behind}
-use Rattle.h5_chunks.proofs.ChunkFound.{if_none, nodes_inside, none_stored, stored_there}
+use Rattle.h5_chunks.proofs.ChunkFound.{if_none, none_stored, tree_sought}
 use Rattle.h5_chunks.proofs.search.way_to.Goals as goal
 use Rattle.h5_chunks.proofs.search.way_to.Goals.{After-unwrap}
 
 pub unwrap-requires : goal.unwrap-requires
 unwrap-requires c =
-    let image : List ℕ = c.args.image.now.bytes in
     let shape : Shape = c.args.shape.now in
-    let root : ℕ = c.args.root in
     let stored = (c.requires.chunks).stored in
     let ranks : length c.new-sought.result ≡ length shape.sizes = ap (λ (xs : List ℕ). length xs) c.new-sought.ensures.offsets ∙ c.requires.rank in
-    let tree : HasTree c.bytes.result.now (chunk_kind 32 (length c.new-sought.result)) root stored.level stored.owned (values (chunks_told image shape root))
-    = rw (c.bytes.ensures, ranks) (stored_there image shape root c.requires.chunks) in
-    let inside : Inside (length c.bytes.result.now) (tree_blocks (chunk_kind 32 (length c.new-sought.result)) stored.owned)
-    = rw (c.bytes.ensures, ranks) (nodes_inside image shape root c.requires.chunks) in
-    c.find_way.ensures.only stored.level stored.owned (values (chunks_told image shape root)) tree inside
+    let there = tree_sought c.args.image.now.bytes shape c.args.root c.requires.chunks c.bytes.result.now (length c.new-sought.result) c.bytes.ensures ranks in
+    c.find_way.ensures.only stored.level stored.owned (values (chunks_told c.args.image.now.bytes shape c.args.root)) there.0 there.1
 
 pub returns-clause-leads : goal.returns-clause-leads
 returns-clause-leads c =

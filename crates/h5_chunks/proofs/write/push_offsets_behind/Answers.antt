@@ -5,16 +5,12 @@ use Rattle.h5_bytes.specs.Numbers.{word}
 use Rattle.h5_model.specs.Format.Bodies.{words}
 use Rattle.h5_model.specs.Format.Chunks.{offsets_in}
 use Rattle.h5_chunks.specs.Keys.{index_from}
-use Rattle.h5_chunks.proofs.BehindLaws.{behind_more, length-index_from, length-offsets, short_at}
-use Rattle.h5_chunks.proofs.OffsetLaws.{aligned_at}
+use Rattle.h5_chunks.proofs.BehindLaws.{behind_fits, behind_more, length-index_from, length-offsets}
 use Rattle.h5_chunks.proofs.write.push_offsets_behind.Goals as goal
 
 pub overflow_add-u64_at : goal.overflow_add-u64_at
 overflow_add-u64_at c =
-    let sizes : List ℕ = c.args.sizes.now in
-    let d : ℕ = c.loop-d.d in
-    let low : d < length sizes = omega arith in
-    omega (arith, (aligned_at sizes c.args.key.now d c.requires.aligned low).small, short_at sizes d c.requires.short, c.u64_at.ensures)
+    omega (arith, behind_fits c.args.sizes.now c.args.key.now c.loop-d.d c.requires.aligned c.requires.short (omega arith), c.u64_at.ensures)
 
 pub loop-d-preserved : goal.loop-d-preserved
 loop-d-preserved c =

@@ -8,11 +8,11 @@ loop-run-init c = record {
   are = c.requires.1;
   from = 0;
   first = none_first c.args.opened.now c.args.number c.args.runs c.args.values.now c.requires.0 c.requires.1 _ (sym c.into_iter-run-iterator.ensures.into_iter_gives);
-  rest = refl;
+  rest = c.lend-left.ensures;
 }
 
-pub split_at-requires : goal.split_at-requires
-split_at-requires c =
+pub split_at-first-requires : goal.split_at-first-requires
+split_at-first-requires c =
     let so = c.loop-run.invariant in
     let few = room c.args.opened.now c.args.number c.args.runs c.args.values.now so.d so.are so.from c.loop-run.run-iterator _ c.in-Some.run' c.loop-run.opened so.first c.in-Some.ensures.steps in
     let left = ap length so.rest ∙ length_rest c.args.values.now so.from in
@@ -23,7 +23,7 @@ write_cells-requires c =
     let so = c.loop-run.invariant in
     record {
       run = run_stored c.args.opened.now c.args.number c.args.runs c.args.values.now so.d so.are so.from c.loop-run.run-iterator _ c.in-Some.run' c.loop-run.opened so.first
-          c.in-Some.ensures.steps _ (c.split_at.ensures.front ∙ ap (take c.in-Some.run'.length) so.rest);
+          c.in-Some.ensures.steps _ (c.split_at-first.ensures.front ∙ ap (take c.in-Some.run'.length) so.rest);
     }
 
 pub loop-run-preserved : goal.loop-run-preserved
@@ -35,8 +35,8 @@ loop-run-preserved c =
       are = so.are;
       from = so.from + c.in-Some.run'.length;
       first = one_more c.args.opened.now c.args.number c.args.runs c.args.values.now so.d so.are so.from c.loop-run.run-iterator _ c.in-Some.run' c.loop-run.opened so.first c.in-Some.ensures.steps
-          _ (c.split_at.ensures.front ∙ ap (take c.in-Some.run'.length) so.rest) c.write_cells.new.self wrote.changed wrote.leaf wrote.internal wrote.sound wrote.whole wrote.in_place wrote.stored;
-      rest = c.split_at.ensures.back ∙ ap (drop c.in-Some.run'.length) so.rest ∙ sym (drop_twice c.args.values.now so.from c.in-Some.run'.length);
+          _ (c.split_at-first.ensures.front ∙ ap (take c.in-Some.run'.length) so.rest) c.write_cells.new.self wrote.changed wrote.leaf wrote.internal wrote.sound wrote.whole wrote.in_place wrote.stored;
+      rest = c.split_at-first.ensures.back ∙ ap (drop c.in-Some.run'.length) so.rest ∙ sym (drop_twice c.args.values.now so.from c.in-Some.run'.length);
     }
 
 pub returns : goal.returns

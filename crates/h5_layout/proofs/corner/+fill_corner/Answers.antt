@@ -1,27 +1,20 @@
-use Rattle.std.proofs.Common.{rules, ◌≡◌, ℕ, ◌-◌, ◌*◌, ◌+◌, ◌/◌, ◌≤◌, ◌^◌, ℤ, List, [], length, get_or, drop, replicate, to_z, of_z, refl, sym, ap, ◌∙◌, subst, arith}
+use Rattle.std.proofs.Common.{rules, ◌≡◌, ℕ, ◌-◌, ◌*◌, ◌+◌, ◌/◌, ◌≤◌, ◌^◌, ℤ, List, length, get_or, drop, replicate, to_z, of_z, refl, sym, ap, ◌∙◌, subst, arith}
 use mir.Syntax.{w128}
 use borrow.Rule.Slice.PartMut.{put_mid}
-use Rattle.std.proofs.lemmas.List.{nil_from_length}
 use Rattle.h5_model.specs.Format.Fixed.{Fixed, IsFixed}
 use Rattle.h5_model.specs.Format.Plain.{cells_bytes}
 use Rattle.h5_msg.proofs.ValueBytes.{AreBytes, AreBytes-drop, AreBytes-take}
 use Rattle.h5_layout.specs.Kept.{corner_values}
 use Rattle.h5_layout.specs.Spans.{span_sizes, span_slices}
 use Rattle.h5_layout.specs.declared.corner.Span.{Span}
-use Rattle.h5_layout.proofs.CornerLaws.{corner_whole}
+use Rattle.h5_layout.proofs.CornerLaws.{corner_bare}
 use Rattle.h5_layout.proofs.FilledCorner.{all_filled, row_filled, slice_filled, slice_still, tail_room}
 use Rattle.h5_layout.proofs.PushedCorner.{inner_kept, length-slice, no_span, slice_small}
 use Rattle.h5_layout.proofs.corner.+fill_corner.Goals as goal
 
 pub returns-in_default : goal.returns-in_default
 returns-in_default t c =
-    let f : Fixed = c.args.fixed.now in
-    let spans : List Span = c.args.spans.now in
-    let bytes : List ℕ = c.args.bytes.now in
-    let none : spans ≡ [] = nil_from_length spans (omega (arith, c.in_default.len_below)) in
-    let same : span_slices spans ≡ span_sizes spans = ap span_slices none ∙ sym (ap span_sizes none) in
-    sym (ap (λ (ss : List ℕ). cells_bytes f (corner_values f c.args.fill (span_sizes spans) ss bytes)) same
-    ∙ corner_whole f c.args.fill bytes (span_sizes spans) c.size-cell.ensures.one_of c.requires.bytes c.requires.long)
+    sym (corner_bare c.args.fixed.now c.args.fill c.args.bytes.now c.args.spans.now (omega (arith, c.in_default.len_below)) c.size-cell.ensures.one_of c.requires.bytes c.requires.long)
 
 pub fill_cells-requires-clause-room : goal.fill_cells-requires-clause-room
 fill_cells-requires-clause-room t c =

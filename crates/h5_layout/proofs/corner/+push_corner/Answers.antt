@@ -1,12 +1,9 @@
-use Rattle.std.proofs.Common.{rules, ◌≡◌, ℕ, ◌≤◌, ◌++◌, List, [], length, get_or, refl, sym, ap, ◌∙◌, append_assoc, subst, arith}
-use Rattle.std.proofs.lemmas.List.{nil_from_length}
+use Rattle.std.proofs.Common.{rules, ◌≡◌, ℕ, ◌≤◌, ◌++◌, List, length, get_or, refl, sym, ap, ◌∙◌, append_assoc, subst, arith}
 use Rattle.std.specs.Prelude.{OnOk}
 use Rattle.h5_model.specs.Format.Fixed.{IsFixed}
-use Rattle.h5_model.specs.Format.Plain.{cells_bytes}
-use Rattle.h5_layout.specs.Kept.{corner_values}
-use Rattle.h5_layout.specs.Spans.{CellFill, span_sizes, span_slices}
+use Rattle.h5_layout.specs.Spans.{CellFill}
 use Rattle.h5_layout.specs.declared.corner.Span.{Span}
-use Rattle.h5_layout.proofs.CornerLaws.{corner_whole}
+use Rattle.h5_layout.proofs.CornerLaws.{corner_bare}
 use Rattle.h5_layout.proofs.PushedCorner.{inner_kept, length-slice, no_span, pushed_all, pushed_row, pushed_slice, slice_small}
 use Rattle.h5_layout.proofs.corner.+push_corner.Goals as goal
 
@@ -18,13 +15,7 @@ joined old front rest so is =
 pub returns-in_default : goal.returns-in_default
 returns-in_default t c =
     let f : CellFill = c.args.fill.now in
-    let spans : List Span = c.args.spans.now in
-    let bytes : List ℕ = c.args.bytes.now in
-    let none : spans ≡ [] = nil_from_length spans (omega (arith, c.in_default.len_below)) in
-    let same : span_slices spans ≡ span_sizes spans = ap span_slices none ∙ sym (ap span_sizes none) in
-    let whole : cells_bytes f.fixed (corner_values f.fixed f.fill (span_sizes spans) (span_slices spans) bytes) ≡ bytes
-    = ap (λ (ss : List ℕ). cells_bytes f.fixed (corner_values f.fixed f.fill (span_sizes spans) ss bytes)) same
-    ∙ corner_whole f.fixed f.fill bytes (span_sizes spans) c.size-cell.ensures.sound (λ i. (c.type_inv.bytes i).fits) c.requires.long in
+    let whole = corner_bare f.fixed f.fill c.args.bytes.now c.args.spans.now (omega (arith, c.in_default.len_below)) c.size-cell.ensures.sound (λ i. (c.type_inv.bytes i).fits) c.requires.long in
     subst (λ (xs : List ℕ). OnOk c.push_bytes.result (c.push_bytes.new.out.items ≡ c.args.out.now.items ++ xs)) (sym whole) c.push_bytes.ensures
 
 pub returns-then-are_whole : goal.returns-then-are_whole

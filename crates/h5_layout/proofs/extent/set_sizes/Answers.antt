@@ -1,4 +1,4 @@
-use Rattle.std.proofs.Common.{Option, List, ap, ◌∙◌, subst, arith, ℕ}
+use Rattle.std.proofs.Common.{◌≡◌, true, Option, List, ap, ◌∙◌, subst, arith, ℕ}
 use Rattle.h5_model.specs.Edits.Refusal.{are_maxima}
 use Rattle.h5_header.specs.Listed.{messages_in}
 use Rattle.h5_layout.specs.ArrayEdits.{described_in}
@@ -6,6 +6,7 @@ use Rattle.h5_layout.specs.ExtentNow.{HasExtentNow}
 use Rattle.h5_layout.proofs.ExtentBounds.{few_sizes, sizes_bounded}
 use Rattle.h5_layout.proofs.ExtentMoved.{sized}
 use Rattle.h5_layout.proofs.extent.set_sizes.Goals as goal
+use Rattle.h5_layout.proofs.extent.set_sizes.Goals.{After-read_maxima-maxima}
 
 pub add_extent-requires-clause-rank : goal.add_extent-requires-clause-rank
 add_extent-requires-clause-rank c =
@@ -13,19 +14,19 @@ add_extent-requires-clause-rank c =
     let m = c.args.messages.now in
     omega (arith, c.requires.sizes.ranked, few_sizes (messages_in image m.list) (described_in image m) c.requires.array.array)
 
-pub add_extent-requires-clause-bounds : goal.add_extent-requires-clause-bounds
-add_extent-requires-clause-bounds c =
+-- no size is above its maximum
+bounds : (c : After-read_maxima-maxima) → are_maxima c.args.sizes.now c.read_maxima-maxima.result.now ≡ true
+bounds c =
     let image = c.args.image.now.bytes in
     let m = c.args.messages.now in
     ap (are_maxima c.args.sizes.now) c.read_maxima-maxima.ensures
     ∙ sizes_bounded (messages_in image m.list) (described_in image m) c.requires.array.array c.args.sizes.now c.requires.sizes
 
+pub add_extent-requires-clause-bounds : goal.add_extent-requires-clause-bounds
+add_extent-requires-clause-bounds c = bounds (goal.at.add_extent-requires-clause-bounds c).After-read_maxima-maxima
+
 pub write_extent-requires-clause-bounds : goal.write_extent-requires-clause-bounds
-write_extent-requires-clause-bounds c =
-    let image = c.args.image.now.bytes in
-    let m = c.args.messages.now in
-    ap (are_maxima c.args.sizes.now) c.read_maxima-maxima.ensures
-    ∙ sizes_bounded (messages_in image m.list) (described_in image m) c.requires.array.array c.args.sizes.now c.requires.sizes
+write_extent-requires-clause-bounds c = bounds (goal.at.write_extent-requires-clause-bounds c).After-read_maxima-maxima
 
 pub returns-then-lacks_maxima-clause-sized : goal.returns-then-lacks_maxima-clause-sized
 returns-then-lacks_maxima-clause-sized c =

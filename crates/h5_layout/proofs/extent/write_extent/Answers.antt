@@ -1,11 +1,15 @@
 use Rattle.std.proofs.Common.{◌≡◌, ◌==◌, Some, length, refl, sym, ap, ◌∙◌, arith}
 use Rattle.std.specs.Option.{option_copied}
 use Rattle.std.specs.List.{find}
+use Rattle.h5_space.specs.Lending.{with_bytes_at}
+use Rattle.h5_space.specs.Moves.{Spends}
+use Rattle.h5_space.specs.Space.{Space}
 use Rattle.h5_header.specs.Listed.{messages_in}
 use Rattle.h5_header.specs.declared.message.Message.{Message as Placed}
 use Rattle.h5_layout.specs.ArrayEdits.{described_in}
+use Rattle.h5_layout.specs.ExtentNow.{HasExtentNow}
 use Rattle.h5_layout.proofs.ExtentBounds.{few_sizes}
-use Rattle.h5_layout.proofs.ExtentWritten.{extent_found, extent_inside, extent_lent, extent_room, extent_spends, extent_written}
+use Rattle.h5_layout.proofs.ExtentWritten.{extent_found, extent_inside, extent_lent, extent_now, extent_room}
 use Rattle.h5_layout.proofs.extent.write_extent.Goals as goal
 use Rattle.h5_layout.proofs.extent.write_extent.Goals.{After-unwrap-message, After-write_bounded_dataspace}
 
@@ -38,19 +42,18 @@ write_bounded_dataspace-requires-clause-room c =
       extent_room c.args.image.now c.args.messages.now c.requires.array c.unwrap-message.result.now (found w) c.args.sizes.now c.requires.ranked c.requires.has,
     )
 
-long : (c : After-write_bounded_dataspace) → length c.write_bounded_dataspace.new.bytes ≡ c.unwrap-message.result.now.size
-long c = omega (arith, c.write_bounded_dataspace.auto.bytes, c.part_at_mut-body.ensures.size, c.from.ensures)
+-- what is written
+wrote : (c : After-write_bounded_dataspace) (new : Space) → new ≡ with_bytes_at c.args.image.now c.unwrap-message.result.now.at c.write_bounded_dataspace.new.bytes
+    → HasExtentNow c.args.image.now new c.args.messages.now c.args.messages.now (record { sizes = c.args.sizes.now; maxima = c.args.maxima.now }) × Spends c.args.image.now new 0 0
+wrote c =
+    let long : length c.write_bounded_dataspace.new.bytes ≡ c.unwrap-message.result.now.size
+    = omega (arith, c.write_bounded_dataspace.auto.bytes, c.part_at_mut-body.ensures.size, c.from.ensures) in
+    let here = sym c.find_message.ensures ∙ ap option_copied c.unwrap-message.ensures in
+    extent_now c.args.image.now c.args.messages.now c.requires.array c.unwrap-message.result.now here c.write_bounded_dataspace.new.bytes long
+    (record { sizes = c.args.sizes.now; maxima = c.args.maxima.now }) c.write_bounded_dataspace.ensures.reads
 
 pub returns-clause-extent : goal.returns-clause-extent
-returns-clause-extent c =
-    let w = (goal.at.returns-clause-extent c).After-unwrap-message in
-    let v = (goal.at.returns-clause-extent c).After-write_bounded_dataspace in
-    extent_written c.args.image.now c.args.messages.now c.requires.array c.unwrap-message.result.now (found w) c.write_bounded_dataspace.new.bytes (long v) _ refl
-    (record { sizes = c.args.sizes.now; maxima = c.args.maxima.now }) c.write_bounded_dataspace.ensures.reads
+returns-clause-extent c = (wrote (goal.at.returns-clause-extent c).After-write_bounded_dataspace _ refl).0
 
 pub returns-clause-spends : goal.returns-clause-spends
-returns-clause-spends c =
-    let w = (goal.at.returns-clause-spends c).After-unwrap-message in
-    let v = (goal.at.returns-clause-spends c).After-write_bounded_dataspace in
-    extent_spends c.args.image.now c.args.messages.now c.requires.array c.unwrap-message.result.now (found w) c.write_bounded_dataspace.new.bytes (long v) _ refl
-    (record { sizes = c.args.sizes.now; maxima = c.args.maxima.now }) c.write_bounded_dataspace.ensures.reads
+returns-clause-spends c = (wrote (goal.at.returns-clause-spends c).After-write_bounded_dataspace _ refl).1

@@ -1,5 +1,7 @@
-use Rattle.std.proofs.Common.{◌+◌, ◌*◌, ◌^◌, ◌≤◌, length, ap, ◌∙◌, subst, arith}
+use Rattle.std.proofs.Common.{◌≡◌, [], ◌+◌, ◌*◌, ◌^◌, ◌≤◌, length, ap, ◌∙◌, subst, arith}
+use Rattle.std.specs.Prelude.{slice_index_or}
 use Rattle.std.specs.FinMap.{get}
+use Rattle.h5_model.specs.Format.Chunks.{offsets_in}
 use Rattle.h5_space.proofs.MovesLaws.{spends_none, spends_then, spends_within}
 use Rattle.h5_chunks.specs.Told.{chunks_told}
 use Rattle.h5_chunks.specs.Edited.{IsFullAt, store_room}
@@ -8,6 +10,7 @@ use Rattle.h5_chunks.proofs.BushyFull.{never_full}
 use Rattle.h5_layout.proofs.FilledLaws.{filled_none}
 use Rattle.h5_layout.proofs.TurnLaws.{turn_absent, turn_full, turn_next, turn_offsets, turn_room}
 use Rattle.h5_layout.proofs.filled.store_all.Goals as goal
+use Rattle.h5_layout.proofs.filled.store_all.Goals.{After-key-key}
 
 pub loop-k-init : goal.loop-k-init
 loop-k-init c =
@@ -21,14 +24,20 @@ loop-k-init c =
 pub is_full_at-requires-clause-chunks : goal.is_full_at-requires-clause-chunks
 is_full_at-requires-clause-chunks c = c.loop-k.invariant.filled.stand
 
+-- the offsets of its key
+own_offsets : (c : After-key-key) → offsets_in (length c.args.shape.now.sizes) c.key-key.result.now ≡ slice_index_or c.args.new.now.offsets c.loop-k.k []
+own_offsets c =
+    let cells = c.args.cells.now in
+    turn_offsets c.args.image.now c.loop-k.image c.args.shape.now c.args.root (cells_of_fill cells.fixed cells.fill cells.count) c.args.new.now c.loop-k.k (omega arith) c.requires.new
+    c.loop-k.invariant.filled c.key-key.result.now c.key-key.ensures.key c.key-key.ensures.offsets
+
 pub returns-then-is_full_at-clause-turn : goal.returns-then-is_full_at-clause-turn
 returns-then-is_full_at-clause-turn c =
     let s = c.args.shape.now in
     let cells = c.args.cells.now in
     let bytes = cells_of_fill cells.fixed cells.fill cells.count in
     let now = c.loop-k.image in
-    let offsets = turn_offsets c.args.image.now now s c.args.root bytes c.args.new.now c.loop-k.k (omega arith) c.requires.new c.loop-k.invariant.filled c.key-key.result.now c.key-key.ensures.key
-    c.key-key.ensures.offsets in
+    let offsets = own_offsets (goal.at.returns-then-is_full_at-clause-turn c).After-key-key in
     let full = subst (IsFullAt now.bytes s c.args.root) offsets (c.is_full_at.ensures.0 c.if-is_full_at.true) in
     (c.loop-k.k, turn_full c.args.image.now now s c.args.root bytes c.args.new.now c.loop-k.k (omega arith) c.requires.new c.loop-k.invariant.filled c.loop-k.invariant.first full)
 
@@ -48,8 +57,7 @@ store_filled-requires-clause-absent c =
     let cells = c.args.cells.now in
     let bytes = cells_of_fill cells.fixed cells.fill cells.count in
     let now = c.loop-k.image in
-    let offsets = turn_offsets c.args.image.now now s c.args.root bytes c.args.new.now c.loop-k.k (omega arith) c.requires.new c.loop-k.invariant.filled c.key-key.result.now c.key-key.ensures.key
-    c.key-key.ensures.offsets in
+    let offsets = own_offsets (goal.at.store_filled-requires-clause-absent c).After-key-key in
     ap (get (chunks_told now.bytes s c.args.root)) offsets
     ∙ turn_absent c.args.image.now now s c.args.root bytes c.args.new.now c.loop-k.k (omega arith) c.requires.new c.loop-k.invariant.filled
 

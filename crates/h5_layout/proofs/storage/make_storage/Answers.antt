@@ -20,4 +20,4 @@ returns-in-Chunks-clause-made c =
     then_ok c.make_chunks.result c.make_chunks.ensures.made (λ made slab is.
     let these = subst (λ (x : Missing). IsMissingIn image a slab x a.layout) c.in-Chunks.is is in
     subst (IsStorageMade c.args.image.now c.make_chunks.new.image c.args.messages.now slab) (sym c.in-Chunks.is)
-    (made slab (subst (IsMissingIn image a slab (missing.Chunks c.in-Chunks.new)) c.copied_chunks-chunks.ensures.layout these)))
+    (made slab (subst (IsMissingIn image a slab (missing.Chunks c.in-Chunks.new)) c.new-chunks.ensures.chunks.layout these)))

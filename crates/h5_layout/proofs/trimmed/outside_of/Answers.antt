@@ -3,8 +3,14 @@ use Rattle.h5_model.specs.Format.Reached.{Shape}
 use Rattle.h5_layout.specs.ArrayChunks.{ArrayChunks}
 use Rattle.h5_layout.specs.ArrayEdits.{described_in}
 use Rattle.h5_chunks.specs.Lists.{ChunkOffsets}
-use Rattle.h5_layout.proofs.OutsideChunks.{none_across, none_lost}
+use Rattle.h5_layout.specs.Described.{Described}
+use Rattle.h5_layout.proofs.OutsideChunks.{chunked_is, none_across, none_lost}
 use Rattle.h5_layout.proofs.trimmed.outside_of.Goals as goal
+
+pub new-array-requires-clause-chunked : goal.new-array-requires-clause-chunked
+new-array-requires-clause-chunked c =
+    let a : Described = described_in c.args.image.now.bytes c.args.messages.now in
+    chunked_is a.sizes a.layout c.requires.chunked
 
 -- no chunk of a shape
 abbrev no_chunk : Shape → ChunkOffsets

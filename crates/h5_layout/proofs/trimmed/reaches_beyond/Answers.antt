@@ -1,38 +1,33 @@
-use Rattle.std.proofs.Common.{◌≡◌, ℕ, ◌+◌, ◌-◌, ◌*◌, ◌<◌, ◌≤◌, List, length, get_or, sym, ◌∙◌, below_more, arith}
+use Rattle.std.proofs.Common.{◌≡◌, ℕ, ◌+◌, ◌-◌, ◌*◌, ◌<◌, List, length, get_or, sym, ◌∙◌, below_more, arith}
 use Rattle.std.proofs.lemmas.List.FromFn.{get_or-map-range_with_len}
 use Rattle.h5_bytes.specs.Bytes.{number_at}
 use Rattle.h5_model.specs.Format.Chunks.{offsets_in}
 use Rattle.h5_layout.proofs.EdgeCells.{reaches_at, reaches_nowhere}
 use Rattle.h5_layout.proofs.KeptLaws.{length-offsets_in}
 use Rattle.h5_layout.proofs.trimmed.reaches_beyond.Goals as goal
+use Rattle.h5_layout.proofs.trimmed.reaches_beyond.Goals.{After-u64_at}
 
 -- the offset in a dimension
 offset_at : (key : List ℕ) (n d : ℕ) → d < n → get_or (offsets_in n key) d 0 ≡ number_at key (8 + 8 * d) 8
 offset_at key n d low = get_or-map-range_with_len (λ i. number_at key (8 + 8 * i) 8) 0 n d d 0 low (omega arith)
 
+here : (c : After-u64_at) → get_or (offsets_in (length c.args.chunk.now) c.args.key.now) c.loop-d.d 0 ≡ c.u64_at.result
+here c = offset_at c.args.key.now (length c.args.chunk.now) c.loop-d.d c.loop-d-test.true ∙ sym c.u64_at.ensures
+
 pub returns-then-saturating_sub-chunk : goal.returns-then-saturating_sub-chunk
 returns-then-saturating_sub-chunk c =
     let chunk : List ℕ = c.args.chunk.now in
     let sizes : List ℕ = c.args.sizes.now in
-    let key : List ℕ = c.args.key.now in
-    let n : ℕ = length chunk in
+    let offsets : List ℕ = offsets_in (length chunk) c.args.key.now in
     let d : ℕ = c.loop-d.d in
-    let low : d < n = c.loop-d-test.true in
-    let here : get_or (offsets_in n key) d 0 ≡ c.u64_at.result = offset_at key n d low ∙ sym c.u64_at.ensures in
-    let less : get_or sizes d 0 - get_or (offsets_in n key) d 0 < get_or chunk d 0 = omega (arith, here, c.saturating_sub.ensures, c.if-saturating_sub-chunk.true) in
-    sym (reaches_at sizes chunk (offsets_in n key) d c.requires.rank (length-offsets_in n key) low less)
+    let at = here (goal.at.returns-then-saturating_sub-chunk c).After-u64_at in
+    let less : get_or sizes d 0 - get_or offsets d 0 < get_or chunk d 0 = omega (arith, at, c.saturating_sub.ensures, c.if-saturating_sub-chunk.true) in
+    sym (reaches_at sizes chunk offsets d c.requires.rank (length-offsets_in (length chunk) c.args.key.now) c.loop-d-test.true less)
 
 pub loop-d-preserved : goal.loop-d-preserved
 loop-d-preserved c =
-    let chunk : List ℕ = c.args.chunk.now in
-    let sizes : List ℕ = c.args.sizes.now in
-    let key : List ℕ = c.args.key.now in
-    let n : ℕ = length chunk in
-    let d : ℕ = c.loop-d.d in
-    let low : d < n = c.loop-d-test.true in
-    let here : get_or (offsets_in n key) d 0 ≡ c.u64_at.result = offset_at key n d low ∙ sym c.u64_at.ensures in
-    let within : get_or chunk d 0 ≤ get_or sizes d 0 - get_or (offsets_in n key) d 0 = omega (arith, here, c.saturating_sub.ensures, c.if-saturating_sub-chunk.false) in
-    below_more _ _ c.loop-d.invariant within
+    let at = here (goal.at.loop-d-preserved c).After-u64_at in
+    below_more _ _ c.loop-d.invariant (omega (arith, at, c.saturating_sub.ensures, c.if-saturating_sub-chunk.false))
 
 pub returns : goal.returns
 returns c =

@@ -15,10 +15,17 @@ use Rattle.h5_chunks.specs.Lists.{offsets_outside}
 use Rattle.h5_layout.specs.Data.{chunk_shape}
 use Rattle.h5_chunks.specs.Lists.{ChunkOffsets}
 use Rattle.h5_layout.specs.Trimmed.{offsets_across}
+use Rattle.h5_layout.specs.Described.{Described}
+use Rattle.h5_layout.proofs.OutsideChunks.{chunked_is}
 use Rattle.h5_layout.proofs.TrimmedArray.{chunks_apart, edge_there, rootless_trimmed, stored_by, trimmed_to}
 use Rattle.h5_layout.proofs.TrimmedChunks.{AreTrimmedSo, none_trimmed, one_trimmed}
 use Rattle.h5_layout.proofs.trimmed.trim.Goals as goal
 use Rattle.h5_layout.proofs.trimmed.trim.Goals.{In-Some}
+
+pub new-array-requires-clause-chunked : goal.new-array-requires-clause-chunked
+new-array-requires-clause-chunked c =
+    let a : Described = described_in c.args.image.now.bytes c.args.messages.now in
+    chunked_is a.sizes a.layout c.requires.chunked
 
 -- no root
 pub returns-in_default-clause-trimmed : goal.returns-in_default-clause-trimmed

@@ -1,4 +1,4 @@
-use Rattle.std.proofs.Common.{◌≡◌, ◌+◌, ◌-◌, ◌*◌, ◌<◌, ◌++◌, ℕ, ℤ, List, Some, length, slice_get, take, sym, ap, ◌∙◌, subst, arith}
+use Rattle.std.proofs.Common.{◌≡◌, ◌+◌, ◌-◌, ◌*◌, ◌<◌, ◌++◌, ℕ, ℤ, List, Some, length, slice_get, sym, ap, ◌∙◌, subst, arith}
 use Rattle.std.specs.Prelude.{OnOk}
 use Rattle.std.specs.List.{AllZip}
 use Rattle.h5_model.specs.Format.Chunks.{IsOffset, offsets_in}
@@ -6,14 +6,14 @@ use Rattle.h5_chunks.specs.Held.{IsChunkPlace}
 use Rattle.h5_chunks.specs.Keys.{chunk_key, index_from}
 use Rattle.h5_layout.specs.Data.{chunk_shape}
 use Rattle.h5_layout.specs.HeldChunks.{HeldCells}
-use Rattle.h5_layout.specs.Kept.{KeptChunks}
+use Rattle.h5_layout.specs.Kept.{KeptChunks, array_kept}
 use Rattle.h5_layout.specs.declared.held.HeldChunks.TheInside.{Inside}
 use Rattle.h5_layout.proofs.KeptLaws.{length-parts, offsets_there, whole}
 use Rattle.h5_layout.proofs.held.HeldChunks.push_last_key.Goals as goal
 use Rattle.h5_layout.proofs.held.HeldChunks.push_last_key.Goals.{After-chunk}
 
 abbrev kept : Inside → KeptChunks
-kept f = record { image = f.image.now.bytes; fixed = f.fixed; fill = f.fill; chunk = take f.rank f.chunk; kept = take f.rank f.kept }
+kept f = array_kept f.image.now.bytes f.array f.kept
 
 module _ (c : After-chunk) where
   abbrev last : ℕ
@@ -28,11 +28,11 @@ module _ (c : After-chunk) where
   low : last < length c.args.self.now.parts
   low = omega (arith, many, c.requires)
 
-  chunk_is : take c.self.inside.rank c.self.inside.chunk ≡ c.chunk.result.now
+  chunk_is : c.self.inside.array.chunk ≡ c.chunk.result.now
   chunk_is = ap (λ (h : HeldCells). h.chunk) c.self.view_is ∙ sym c.chunk.ensures.sizes
 
-  own : IsChunkPlace c.self.inside.image.now.bytes (chunk_shape c.self.inside.fixed (take c.self.inside.rank c.self.inside.chunk)) c.index.result.now
-  own = whole (kept c.self.inside) c.self.inside.places.items c.args.self.now c.self.view_is last c.index.result.now low c.index.ensures c.self.invariant.2
+  own : IsChunkPlace c.self.inside.image.now.bytes (chunk_shape c.self.inside.array.fixed c.self.inside.array.chunk) c.index.result.now
+  own = whole (kept c.self.inside) c.self.inside.places.items c.args.self.now c.self.view_is last c.index.result.now low c.index.ensures c.self.invariant
 
   offsets : (part : List ℕ × List ℤ) → slice_get c.args.self.now.parts (length c.args.self.now.parts - 1) ≡ Some part
       → offsets_in (length c.chunk.result.now) c.index.result.now.key.now ≡ part.0

@@ -1,4 +1,4 @@
-use Rattle.std.proofs.Common.{◌≡◌, ◌+◌, ◌-◌, ◌≤◌, ◌^◌, ℕ, ℤ, List, Option, length, take, drop, ap, subst, arith}
+use Rattle.std.proofs.Common.{◌≡◌, ◌+◌, ◌-◌, ◌≤◌, ◌^◌, ℕ, ℤ, List, Option, length, take, drop, ap, sym, ◌∙◌, subst, arith}
 use Rattle.std.specs.BTreeMap.{BTreeMap}
 use Rattle.std.proofs.lemmas.List.{length-drop, take_all}
 use Rattle.h5_model.specs.Tree.Objects.{Dataset}
@@ -38,12 +38,20 @@ overflow_add-place c =
     c.args.number c.args.place c.args.values.now c.requires.run in
     omega (arith, low, c.loop-done-test.true)
 
+-- the values that are left
+left_over : (values part : List ℤ) (done : ℕ) → part ≡ drop done values → part ≡ take (length values - done) (drop done values)
+left_over values part done back = back ∙ sym (take_all (length values - done) (drop done values) (omega (arith, length-drop done values)))
+
 pub write_first-done-requires-clause-run : goal.write_first-done-requires-clause-run
 write_first-done-requires-clause-run c =
-    let vs = take c.loop-done.done c.args.values.now in
-    let i = c.loop-done.invariant in (
-      with_run c.args.place vs c.requires.run.0,
-      others_behind c.args.self.now c.loop-done.self c.args.number c.args.place c.args.values.now c.loop-done.done i.within i.written c.requires.run.0 c.requires.run.1,
+    let values = c.args.values.now in
+    let done = c.loop-done.done in
+    let i = c.loop-done.invariant in
+    let d = with_run c.args.place (take done values) c.requires.run.0 in (
+      d,
+      subst (λ (vs : List ℤ). IsStoredRun c.loop-done.self c.args.number (c.args.place + done) vs d)
+          (sym (left_over values c.split_at-written.result.1 done c.split_at-written.ensures.back))
+          (others_behind c.args.self.now c.loop-done.self c.args.number c.args.place values done i.within i.written c.requires.run.0 c.requires.run.1),
     )
 
 pub loop-done-preserved : goal.loop-done-preserved
@@ -51,22 +59,23 @@ loop-done-preserved c =
     let i = c.loop-done.invariant in
     let values = c.args.values.now in
     let done = c.loop-done.done in
-    let left : List ℤ = drop done values in
-    let long = length-drop done values in
-    let all : take (length values - done) left ≡ left = take_all (length values - done) left (omega (arith, long)) in
-    let counted = ap length all in
+    let first = c.write_first-done in
+    let back = c.split_at-written.ensures.back in
+    let few : first.result ≤ length values - done = omega (arith, first.ensures.few, ap length back, length-drop done values) in
     record {
-      within = omega (arith, c.write_first-done.ensures.few, counted, long, i.within);
+      within = omega (arith, few, i.within);
       written = more_written c.args.self.now c.loop-done.self c.args.number c.args.place values done i.within i.written
-          (first_sound c.self.inside.image c.self.inside.index.objects.items c.self.inside.index.numbers c.self.invariant c.args.self.now c.self.view_is) c.write_first-done.result c.write_first-done.new.self c.write_first-done.ensures.written;
-      sound = c.write_first-done.ensures.sound;
+          (first_sound c.self.inside.image c.self.inside.index.objects.items c.self.inside.index.numbers c.self.invariant c.args.self.now c.self.view_is) first.result first.new.self
+          (subst (λ (vs : List ℤ). AreCellsWritten c.loop-done.self c.args.number (c.args.place + done) (take first.result vs) first.new.self)
+          (left_over values c.split_at-written.result.1 done back) first.ensures.written);
+      sound = first.ensures.sound;
     }
 
 -- all of them are written
 written : (c : goal.After-loop-done) → AreCellsWritten c.args.self.now c.args.number c.args.place c.args.values.now c.loop-done.self
 written c =
     let i = c.loop-done.invariant in
-    let all : take c.loop-done.done c.args.values.now ≡ c.args.values.now = take_all c.loop-done.done c.args.values.now c.loop-done-test.false in
+    let all : take c.loop-done.done c.args.values.now ≡ c.args.values.now = take_all c.loop-done.done c.args.values.now (omega (arith, c.loop-done-test.false, c.len.ensures)) in
     subst (λ (vs : List ℤ). AreCellsWritten c.args.self.now c.args.number c.args.place vs c.loop-done.self) all i.written
 
 pub returns-clause-changed : goal.returns-clause-changed

@@ -1,8 +1,11 @@
-use Rattle.std.proofs.Common.{rules, ◌≡◌, ◌∙◌, ◌+◌, ◌*◌, ◌≤◌, true, Some, length, take, sym, ap, subst, arith}
+use Rattle.std.proofs.Common.{rules, ◌≡◌, ◌∙◌, ◌+◌, ◌*◌, ◌≤◌, ℕ, ℤ, List, true, Some, length, take, sym, ap, subst, arith}
 use Rattle.std.specs.List.{list_all}
 use Rattle.std.proofs.lemmas.Option.{slice_get_within}
 use Rattle.h5_model.specs.Format.Fixed.{Fixed, IsFixed, fits}
 use Rattle.h5_model.specs.Format.Plain.{cells_bytes}
+use Rattle.h5_model.specs.Tree.Places.{cells}
+use Rattle.h5_header.specs.Listed.{messages_in}
+use Rattle.h5_layout.specs.Told.{array_told}
 use Rattle.h5_space.specs.Lending.{with_bytes_at}
 use Rattle.h5_open.specs.Opened.State.{FileState, opened_state}
 use Rattle.h5_open.specs.Opened.Kept.{IsOpened}
@@ -41,8 +44,9 @@ standing_from-fixed-requires c =
       within = header_within image slots index.numbers c.self.invariant c.args.number object at;
       list = content.0;
       read = content.1;
-      some = c.requires.some;
-      below = room image slots index.numbers c.self.invariant c.args.number object at run.0 c.args.place c.args.values.now run.1;
+      some = omega (arith, c.requires.some, c.len.ensures);
+      below = subst (λ (n : ℕ). c.args.place + n ≤ cells (array_told (messages_in image.bytes object.messages.list)).sizes) (sym c.len.ensures)
+          (room image slots index.numbers c.self.invariant c.args.number object at run.0 c.args.place c.args.values.now run.1);
       stored = first_stored image slots index.numbers c.self.invariant c.args.number object at run.0 c.args.place c.args.values.now run.1 c.requires.some;
     }
 
@@ -61,11 +65,14 @@ write_stored-requires c =
     let n = found.result.1.cells in
     let known : IsFixed found.result.0 = search rules in
     let is_fixed = subst IsFixed found.ensures.fixed known in
+    let few : n ≤ length values = omega (arith, found.ensures.few, c.len.ensures) in
     record {
-      inside = subst (λ (t : Fixed). found.result.1.at + length (take n values) * t.size ≤ length image.bytes) same
-          (any_inside image slots index.numbers c.self.invariant c.args.number object at run.0 c.args.place values run.1 n found.result.1.at found.ensures.some found.ensures.few found.ensures.stand is_fixed);
-      of_type = subst (λ (t : Fixed). list_all (fits t) (take n values) ≡ true) same
-          (any_of_type image slots index.numbers c.self.invariant c.args.number object at run.0 c.args.place values run.1 n found.result.1.at found.ensures.some found.ensures.few found.ensures.stand is_fixed);
+      inside = subst (λ (vs : List ℤ). found.result.1.at + length vs * found.result.0.size ≤ length image.bytes) (sym c.split_at-first.ensures.front)
+          (subst (λ (t : Fixed). found.result.1.at + length (take n values) * t.size ≤ length image.bytes) same
+          (any_inside image slots index.numbers c.self.invariant c.args.number object at run.0 c.args.place values run.1 n found.result.1.at found.ensures.some few found.ensures.stand is_fixed));
+      of_type = subst (λ (vs : List ℤ). list_all (fits found.result.0) vs ≡ true) (sym c.split_at-first.ensures.front)
+          (subst (λ (t : Fixed). list_all (fits t) (take n values) ≡ true) same
+          (any_of_type image slots index.numbers c.self.invariant c.args.number object at run.0 c.args.place values run.1 n found.result.1.at found.ensures.some few found.ensures.stand is_fixed));
     }
 
 -- what was written
@@ -85,9 +92,11 @@ written c =
     let n = found.result.1.cells in
     let known : IsFixed found.result.0 = search rules in
     let is_fixed = subst IsFixed found.ensures.fixed known in
+    let few : n ≤ length values = omega (arith, found.ensures.few, c.len.ensures) in
     any_written image slots index.numbers c.self.invariant c.args.number object at run.0 c.args.place values run.1 n found.result.1.at
-    found.ensures.some found.ensures.few found.ensures.stand is_fixed c.write_stored.new.image
-    (c.write_stored.ensures ∙ ap (λ (t : Fixed). with_bytes_at image found.result.1.at (cells_bytes t (take n values))) found.ensures.fixed)
+    found.ensures.some few found.ensures.stand is_fixed c.write_stored.new.image
+    (c.write_stored.ensures ∙ ap (λ (vs : List ℤ). with_bytes_at image found.result.1.at (cells_bytes found.result.0 vs)) c.split_at-first.ensures.front
+    ∙ ap (λ (t : Fixed). with_bytes_at image found.result.1.at (cells_bytes t (take n values))) found.ensures.fixed)
 
 pub invariant_of-self : goal.invariant_of-self
 invariant_of-self c = (written c).0

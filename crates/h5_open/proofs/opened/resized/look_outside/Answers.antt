@@ -12,7 +12,7 @@ outside_of-requires-clause-rank c =
     let same : old ≡ (described_in c.args.image.now.bytes c.args.messages.now).sizes
     = c.sizes-old.ensures.numbers ∙ c.dims.ensures.sizes ∙ ap (λ (a : Described). a.sizes) c.known_array-array.ensures in
     let rank : length c.args.sizes.now ≡ length old = c.requires.sizes.ranked ∙ ap length (sym same) in
-    ap length c.smaller_of-smaller.ensures ∙ length-smaller old c.args.sizes.now rank ∙ ap length same
+    ap length c.copy_smaller.ensures ∙ length-smaller old c.args.sizes.now rank ∙ ap length same
 
 pub returns : goal.returns
 returns c =
@@ -22,4 +22,4 @@ returns c =
     let same : c.sizes-old.result.now ≡ a.sizes
     = c.sizes-old.ensures.numbers ∙ c.dims.ensures.sizes ∙ ap (λ (x : Described). x.sizes) c.known_array-array.ensures in
     subst (λ (ns : List ℕ). AreOutside image a ns c.in_ok-outside.outside)
-    (c.smaller_of-smaller.ensures ∙ ap (λ (old : List ℕ). smaller_sizes old sizes) same) (c.in_ok-outside.ensures.lost, c.in_ok-outside.ensures.edge)
+    (c.copy_smaller.ensures ∙ ap (λ (old : List ℕ). smaller_sizes old sizes) same) (c.in_ok-outside.ensures.lost, c.in_ok-outside.ensures.edge)

@@ -1,0 +1,75 @@
+//! Selected cells of an array, written straight from C's buffer (HDF5 dataset reference, H5Dwrite: the type in memory and
+//! the buffer).
+
+ghost use Rattle.std.specs.Prelude.{◌≡◌, true};
+ghost use Rattle.h5_model.specs.declared.edits.Edit.TheVariants.{Write};
+ghost use Rattle.h5_model.specs.Format.Fixed.{fixed_from};
+ghost use Rattle.h5_c.specs.Calls.{HasEdited, IsKeptOpen, IsRefusedEarly};
+ghost use Rattle.h5_c.specs.Given.{IsMadeWith, hyper_of, is_whole, number_of, selecting, writing};
+
+use crate::given::{CType, Lists, buffer_of};
+use crate::held::Held;
+use crate::slot::Slot;
+use crate::status::{DONE, NO_MEMORY, WRONG_STATE};
+use h5_file::Buffer;
+use std::alloc::Global;
+
+impl Held {
+    /// Writes values into selected cells.
+    fn write(&mut self, alloc: Global, path: &[u8], lists: &Lists<'_>, values: &Buffer<'_>) -> u32
+        ensures { HasEdited self.old (Write path.now (hyper_of lists.now) values.now) self.new result }
+    {
+        let Ok(hyper) = lists.hyper(alloc) else {
+            return NO_MEMORY;
+        };
+        match self.session.write_from(path, &hyper, values) {
+            Ok(_edited) => DONE,
+            Err(fault) => fault.number(),
+        }
+    }
+}
+
+/// Writes values into the selected cells of the array at the path, in row-major order: they are given as bytes of a
+/// type of their own, which need not be the array's, and are read where they stand.
+///
+/// # Errors
+///
+/// As [`crate::h5i_set_attribute`].
+#[unsafe(no_mangle)]
+pub extern "C" fn h5i_write(
+    alloc: Global,
+    slot: &mut Slot,
+    path: &[u8],
+    start: &[u64],
+    stride: &[u64],
+    count: &[u64],
+    block: &[u64],
+    of: CType,
+    values: &[u8],
+) -> u32
+    ensures kept { IsKeptOpen slot.old.is_open slot.new.is_open result }
+    ensures edited { slot.old.is_open ≡ true
+        → IsMadeWith (fixed_from of.size of.signed of.big) (is_whole values.now)
+        (λ t. HasEdited slot.old.held
+        (writing path.now (selecting start.now stride.now count.now block.now) t values.now)
+        slot.new.held result)
+        (λ u. IsRefusedEarly slot.old.held slot.new.held (number_of u) result) }
+{
+    if !slot.is_open() {
+        return WRONG_STATE;
+    }
+    let buffer = match buffer_of(of, values) {
+        Ok(buffer) => buffer,
+        Err(reason) => return reason.status(),
+    };
+    let lists = Lists {
+        start,
+        stride,
+        count,
+        block,
+    };
+    let mut held = slot.take(alloc);
+    let status = held.write(alloc, path, &lists, &buffer);
+    slot.put(held);
+    status
+}
