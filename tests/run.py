@@ -16,8 +16,8 @@ HERE = os.path.dirname(os.path.abspath(__file__))
 FOLDERS = ("end_to_end", "repository")
 # The modules that run longest, the longest first. They begin before the others, so that none is left over at the end.
 LONGEST = tuple(f"end_to_end.test_{name}" for name in (
-    "misuse", "calls", "groups_in_place", "links_in_place", "chunks_in_place", "slabs", "write_scripts", "view_scripts", "group_scripts",
-    "array_scripts", "repack", "odd_layouts", "changed_layouts", "walk", "random_scripts", "changed_plain_images", "array_forms", "corpus",
+    "fuzz_minute", "hostile_images", "refused_memory", "misuse", "calls", "groups_in_place", "links_in_place", "chunks_in_place", "whole_groups",
+    "slabs", "write_scripts", "view_scripts", "group_scripts", "array_scripts", "repack", "odd_layouts", "changed_layouts", "walk", "random_scripts", "changed_plain_images", "array_forms", "corpus",
     "attributes", "groups"))
 COUNTS = re.compile(r"(\d+) passed, (\d+) failed")
 # Stands before the name of the module that a process runs by itself.

@@ -45,24 +45,27 @@ static void take_theirs(hid_t file, uint32_t number) { H5(H5Ldelete(file, path_o
 static void take_ours(h5i_session *session, uint32_t number) { OURS(h5i_unlink(session, TEXT(path_of(number)))); }
 
 /* An array of ten cells, stored at once. */
-static void array_theirs(hid_t file, uint32_t number) {
+static void array_at_theirs(hid_t file, const char *path) {
     static hid_t space, how;
     if (space == 0) {
         hsize_t dims[1] = {10};
         space = H5Screate_simple(1, dims, NULL), how = H5Pcreate(H5P_DATASET_CREATE);
         H5(H5Pset_alloc_time(how, H5D_ALLOC_TIME_EARLY));
     }
-    hid_t array = H5Dcreate2(file, path_of(number), H5T_STD_I32LE, space, H5P_DEFAULT, how, H5P_DEFAULT);
+    hid_t array = H5Dcreate2(file, path, H5T_STD_I32LE, space, H5P_DEFAULT, how, H5P_DEFAULT);
     H5(array), H5(H5Dclose(array));
 }
 
-static void array_ours(h5i_session *session, uint32_t number) {
+static void array_at_ours(h5i_session *session, const char *path) {
     const h5i_type i32 = {4, true, false};
     static const uint32_t no_chunks[1];
     const uint64_t dims[] = {10};
     const int32_t fill = 0;
-    OURS(h5i_create_array(session, TEXT(path_of(number)), i32, LIST(dims), LIST(dims), LIBH5I_CONTIGUOUS, no_chunks, 0, (const uint8_t *)&fill, 4));
+    OURS(h5i_create_array(session, TEXT(path), i32, LIST(dims), LIST(dims), LIBH5I_CONTIGUOUS, no_chunks, 0, (const uint8_t *)&fill, 4));
 }
+
+static void array_theirs(hid_t file, uint32_t number) { array_at_theirs(file, path_of(number)); }
+static void array_ours(h5i_session *session, uint32_t number) { array_at_ours(session, path_of(number)); }
 
 static void is_there_theirs(hid_t file, uint32_t number) { TRUE(H5Lexists(file, path_of(number), H5P_DEFAULT) > 0); }
 static void is_there_ours(h5i_session *session, uint32_t number) {
@@ -165,6 +168,98 @@ static run_of arrays_made_ours(uint32_t count) { return making_ours(array_ours, 
 static run_of arrays_taken_theirs(uint32_t count) { return taking_theirs(array_theirs, count); }
 static run_of arrays_taken_ours(uint32_t count) { return taking_ours(array_ours, count); }
 
+/* ---- a group that goes with all that it holds */
+
+enum { DEEPEST = 64 };
+
+/* The path of a group at a depth, in which each has the name 'g'. */
+static const char *group_at(int depth) {
+    static char path[2 * DEEPEST + 1];
+    for (int k = 0; k < depth; k++)
+        path[2 * k] = '/', path[2 * k + 1] = 'g';
+    path[2 * depth] = 0;
+    return path;
+}
+
+/* The path of an array in the group '/g'. */
+static const char *in_group(uint32_t number) {
+    static char path[12] = "/g";
+    memcpy(path + 2, path_of(number), 10);
+    return path;
+}
+
+/* A group of so many arrays of ten cells. */
+static void wide_theirs(hid_t file, uint32_t count) {
+    hid_t group = H5Gcreate2(file, "/g", H5P_DEFAULT, H5P_DEFAULT, H5P_DEFAULT);
+    H5(group), H5(H5Gclose(group));
+    for (uint32_t k = 0; k < count; k++)
+        array_at_theirs(file, in_group(k));
+}
+
+static void wide_ours(h5i_session *session, uint32_t count) {
+    OURS(h5i_create_group(session, TEXT("/g")));
+    for (uint32_t k = 0; k < count; k++)
+        array_at_ours(session, in_group(k));
+}
+
+/* A chain of groups, each in the one before it. */
+static void chain_theirs(hid_t file, uint32_t count) {
+    (void)count;
+    for (int depth = 1; depth <= DEEPEST; depth++) {
+        hid_t group = H5Gcreate2(file, group_at(depth), H5P_DEFAULT, H5P_DEFAULT, H5P_DEFAULT);
+        H5(group), H5(H5Gclose(group));
+    }
+}
+
+static void chain_ours(h5i_session *session, uint32_t count) {
+    (void)count;
+    for (int depth = 1; depth <= DEEPEST; depth++)
+        OURS(h5i_create_group(session, TEXT(group_at(depth))));
+}
+
+/* Makes a group and takes it away whole, so often: what the takings alone took, and how much longer the file was then than behind the first. */
+static run_of whole_theirs(step_theirs make, uint32_t count, int often) {
+    hid_t file = file_theirs(1);
+    run_of run = {0};
+    long long before = 0;
+    for (int k = 0; k < often; k++) {
+        make(file, count);
+        H5(H5Fflush(file, H5F_SCOPE_GLOBAL));
+        double from = now();
+        H5(H5Ldelete(file, "/g", H5P_DEFAULT));
+        H5(H5Fflush(file, H5F_SCOPE_GLOBAL));
+        run.seconds += now() - from;
+        before = k == 0 ? bytes_theirs(file) : before;
+    }
+    TRUE(H5Lexists(file, "/g", H5P_DEFAULT) == 0);
+    run.grown = bytes_theirs(file) - before;
+    H5(H5Fclose(file));
+    return run;
+}
+
+static run_of whole_ours(step_ours make, uint32_t count, int often) {
+    h5i_session session = session_ours(1);
+    run_of run = {0};
+    long long before = 0;
+    for (int k = 0; k < often; k++) {
+        make(&session, count);
+        double from = now();
+        OURS(h5i_unlink(&session, TEXT("/g")));
+        run.seconds += now() - from;
+        before = k == 0 ? bytes_ours(&session) : before;
+    }
+    h5i_about about;
+    TRUE(h5i_stat(&session, TEXT("/g"), &about) == LIBH5I_NOT_FOUND);
+    run.grown = bytes_ours(&session) - before;
+    h5i_close(&session);
+    return run;
+}
+
+static run_of wide_gone_theirs(uint32_t count) { return whole_theirs(wide_theirs, count, 2); }
+static run_of wide_gone_ours(uint32_t count) { return whole_ours(wide_ours, count, 2); }
+static run_of chain_gone_theirs(uint32_t often) { return whole_theirs(chain_theirs, 0, (int)often); }
+static run_of chain_gone_ours(uint32_t often) { return whole_ours(chain_ours, 0, (int)often); }
+
 /* ---- a million insertions and removals of names, while a group keeps its size */
 
 static run_of rounds_theirs(uint32_t size) {
@@ -246,6 +341,9 @@ static const struct {
     {"every second of 100000 hard links taken away", taken_theirs, taken_ours, 100000, true},
     {"10000 arrays made", arrays_made_theirs, arrays_made_ours, 10000, true},
     {"every second of 10000 arrays taken away", arrays_taken_theirs, arrays_taken_ours, 10000, true},
+    {"twice a group of 10000 arrays taken away", wide_gone_theirs, wide_gone_ours, 10000, true},
+    {"twice a group of 100000 arrays taken away", wide_gone_theirs, wide_gone_ours, 100000, true},
+    {"1000 times a chain of 64 groups taken away", chain_gone_theirs, chain_gone_ours, 1000, true},
     {"1000000 soft links made and taken away, in a group of 100", rounds_theirs, rounds_ours, 100, false},
     {"the same in a group of 1000", rounds_theirs, rounds_ours, 1000, false},
     {"the same in a group of 10000", rounds_theirs, rounds_ours, 10000, true},

@@ -44,7 +44,7 @@ typedef uint32_t h5i_status;
 
 enum {
     LIBH5I_DONE = 0,
-    /* Refusals of edits, paths and selections. */
+    /* Refusals of edits, paths and selections. None has number 11. */
     LIBH5I_BAD_PATH = 1,             /* A path does not begin with '/', or has an empty name; or a soft link's text is empty or has a zero byte. */
     LIBH5I_PATH_TOO_DEEP = 2,        /* A path has more than 64 names. */
     LIBH5I_IS_ROOT = 3,              /* A link is to be made at, or taken from, '/'. */
@@ -55,7 +55,6 @@ enum {
     LIBH5I_NAME_TOO_LONG = 8,        /* A new name or text has more than 1023 bytes. */
     LIBH5I_NOT_A_DATASET = 9,        /* A group or a soft link stands where an array is needed. */
     LIBH5I_GROUP_LINK = 10,          /* A hard link's target is a group. */
-    LIBH5I_GROUP_NOT_EMPTY = 11,     /* The group to unlink has links. */
     LIBH5I_BAD_SPEC = 12,            /* Sizes, maxima, chunk sizes or an attribute's name are not of their form. */
     LIBH5I_RANK_MISMATCH = 13,       /* A list has not one number for each dimension. */
     LIBH5I_STRIDE_ZERO = 14,         /* A stride is 0. */
@@ -198,7 +197,8 @@ h5i_status h5i_hard_link(h5i_session *session, LIBH5I_BYTES(target), LIBH5I_BYTE
 /* Makes a soft link with this text. It is never followed. */
 h5i_status h5i_soft_link(h5i_session *session, LIBH5I_BYTES(text), LIBH5I_BYTES(path));
 
-/* Takes the link at the path away; the object goes with its last hard link. */
+/* Takes the link at the path away. A group goes with all that it holds, at any depth; an array goes with its last hard link, and its views
+ * answer LIBH5I_GONE then. One that has a name elsewhere stays. */
 h5i_status h5i_unlink(h5i_session *session, LIBH5I_BYTES(path));
 
 /* Sets an attribute of the object at the path, in place of one with the same name. `values` has one value of the type for each cell. */

@@ -64,13 +64,19 @@ static h5i_status call(h5i_session *s, int number) {
     case 12: return h5i_stat(s, TEXT("/g/d"), &about);
     case 13: return h5i_show(s, view, room, 12);
     case 14: return h5i_remove_attribute(s, TEXT("/g"), TEXT("unit"));
-    case 15: return h5i_unlink(s, TEXT("/h"));
-    case 16: return h5i_repack(s);
+    case 15: return h5i_create_group(s, TEXT("/g/deeper"));
+    case 16: return h5i_create_array(s, TEXT("/g/deeper/c"), int16, LIST(two), LIST(two), LIBH5I_CONTIGUOUS, chunks, 0, (const uint8_t *)values, 2);
+    case 17: return h5i_soft_link(s, TEXT("/s"), TEXT("/g/deeper/s"));
+    /* A group goes with all that it holds, and one name of an array whose view stays. */
+    case 18: return h5i_unlink(s, TEXT("/g"));
+    case 19: return h5i_show(s, view, room, 12);
+    case 20: return h5i_unlink(s, TEXT("/h"));
+    case 21: return h5i_repack(s);
     default: return h5i_close_view(s, view);
     }
 }
 
-enum { CALLS = 18 };
+enum { CALLS = 23 };
 
 /* Runs all calls, the wanted one with an allocation refused; says whether it was refused for that. */
 static bool refused(int wanted, long at) {

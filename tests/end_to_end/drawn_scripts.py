@@ -30,6 +30,9 @@ WRITES = dict(dataset=14, write=40, resize=14, dump=14, unlink=3, link=5, soft=2
 CHUNKS = dict(dataset=12, write=48, resize=26, unlink=5, link=3, soft=2, group=3, attr=3, unattr=2, repack=1, bad=2)
 # And where views are open meanwhile.
 VIEWS = WRITES | dict(view=16, show=30, close=4, dump=5)
+# Where groups of all kinds of things, at any depth, are unlinked whole, and arrays of them are linked elsewhere and viewed.
+WHOLE = dict(group=24, many=12, near=8, dataset=12, link=22, soft=5, whole=10, unlink=3, write=12, resize=5, attr=4, unattr=1, view=8, show=14, close=1,
+             repack=1, bad=2)
 # A chunk of more bytes, which the program takes, would be in each image behind the write that stores it.
 LARGE_CHUNK, LARGEST_CHUNK = 1 << 16, 1 << 30
 # Where nothing else is done, so that most writes are made in a file as others have laid it out.
@@ -128,11 +131,20 @@ class LineMaker(Maker):
             return f"link {path_text(target[0])} {path}"
         return f"soft {escape(link_text(self.rng))} {path}"
 
+    def is_full(self, link):
+        """The link leads to a group that has links."""
+        return link[0] == "object" and self.session.tree.is_group(link[1]) and self.session.tree.objects[link[1]].links
+
+    def make_whole(self):
+        """unlink of a group that has links, or a new group where there is none"""
+        full = self.pick(self.links(self.is_full))
+        return f"unlink {path_text(full[0])}" if full else self.make_group()
+
     def unlink_all(self):
-        """Runs lines that take all links away, in any order in which no group has links when it goes: what `run` gives of each."""
-        tree = self.session.tree
-        while bare := self.links(lambda link: link[0] == "soft" or not tree.is_group(link[1]) or not tree.objects[link[1]].links):
-            yield self.run(f"unlink {path_text(self.pick(bare)[0])}".encode("ascii"))
+        """Runs lines that take all links away, in any order; few are of groups that have links. What `run` gives of each."""
+        while links := self.links():
+            bare = [(names, link) for names, link in links if not self.is_full(link)]
+            yield self.run(f"unlink {path_text(self.pick(links if self.odd(0.1) else bare)[0])}".encode("ascii"))
 
     def make_root(self):
         """dump of the root"""

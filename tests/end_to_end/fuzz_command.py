@@ -1,4 +1,4 @@
-"""The command tests/fuzz: cases side by side, one process for each processor, in which the library stays loaded."""
+"""The command tests/fuzz: cases side by side, mostly one process for each processor, in which the library stays loaded."""
 
 import argparse
 import multiprocessing
@@ -155,6 +155,7 @@ def parser():
     made.add_argument("--count", type=int, help="how many cases (1000, or no end where there are --minutes)")
     made.add_argument("--minutes", type=float, help="begin no case after so many minutes")
     made.add_argument("--library", default=LIBRARY, metavar="FILE", help="libh5i.so (build/libh5i.so, which bin/build-c makes)")
+    made.add_argument("--processors", type=int, default=len(os.sched_getaffinity(0)), metavar="N", help="how many cases at once (all processors)")
     made.add_argument("--keep", metavar="FOLDER", help="where the image and the lines of each case that differs are written")
     return made
 
@@ -185,7 +186,7 @@ def main(words, library=None):
         print("tests/fuzz: there is no HDF5 file", file=sys.stderr)
         return 2
     cases = differences = 0
-    for seed, found, passed in verdicts(seeds_of(words), len(os.sched_getaffinity(0)), (images, library, words.keep)):
+    for seed, found, passed in verdicts(seeds_of(words), max(1, words.processors), (images, library, words.keep)):
         cases, differences = cases + (passed is None), differences + (found is not None)
         if found or passed:
             of = f" ({paths[seed % len(paths)]})" if paths else ""

@@ -11,7 +11,7 @@ import random
 
 from . import today
 from .drawn_images import linked_image, small_image
-from .drawn_scripts import ARRAYS, GROUPS, LINKS, VIEWS, WRITES, LineMaker
+from .drawn_scripts import ARRAYS, GROUPS, LINKS, VIEWS, WHOLE, WRITES, LineMaker
 
 # pylint: disable=wrong-import-order
 from h5oracle.foreign import random_superblock, write_foreign  # noqa: E402
@@ -22,7 +22,7 @@ from h5oracle.values import OpenFault  # noqa: E402
 from mutate import base_image, mutant  # noqa: E402
 from randscript import MOODS  # noqa: E402
 
-KINDS = [GROUPS, LINKS, LINKS, ARRAYS, WRITES, VIEWS, VIEWS, *MOODS.values()]
+KINDS = [GROUPS, LINKS, LINKS, WHOLE, WHOLE, ARRAYS, WRITES, VIEWS, VIEWS, *MOODS.values()]
 MOST_LINES = 40
 # A larger file is taken as it is or changed, but not laid out anew; and its edits in place are judged by their trees alone.
 LARGE = 200000

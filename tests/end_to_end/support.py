@@ -52,9 +52,9 @@ def h5i(*words, **options):
     return run_command(PROGRAM, *words, **options)
 
 
-# The reference as the program is: all lines of scripts are taken, all edits are made in place, views are lent or patched, and the later
-# forms are not read.
-STAGE = "10+11"
+# The reference as the program is: all lines of scripts are taken, all edits are made in place, an unlink takes a whole group, views are
+# lent or patched, and the later forms are not read.
+STAGE = "10+11+14"
 
 
 def reference(*words, **options):

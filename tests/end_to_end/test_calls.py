@@ -7,7 +7,7 @@ import random
 
 from . import today
 from .drawn_images import IMAGES, linked_image
-from .drawn_scripts import VIEWS, WRITES, LineMaker
+from .drawn_scripts import VIEWS, WHOLE, WRITES, LineMaker
 from .support import TOP, empty_image
 from .transcripts import Transcripts
 from .tried import Tried
@@ -21,6 +21,7 @@ LINES = 60
 NO_CALLS = {"dump", "root", "ls", "repack", "bad", "note"}
 EDITS = {kind: often for kind, often in WRITES.items() if kind not in NO_CALLS}
 CALLS = {kind: often for kind, often in VIEWS.items() if kind not in NO_CALLS}
+GROUP_CALLS = {kind: often for kind, often in WHOLE.items() if kind not in NO_CALLS}
 
 
 def called(session, line, text):
@@ -71,7 +72,7 @@ class Calls(Tried):
     """One run of a program that calls the library."""
 
     def test_edits_and_views(self):
-        drawn = [asked(seed, word, kinds) for seed in SEEDS for word, kinds in (("file", EDITS), ("session", CALLS))]
+        drawn = [asked(seed, word, kinds) for seed in SEEDS for word, kinds in (("file", EDITS), ("session", CALLS), ("session", GROUP_CALLS))]
         with open(PROGRAM, encoding="utf-8") as file:
             program = file.read()
         lines_of_readme = "\n".join(shown_lines("An example", "crates", "h5_file"))

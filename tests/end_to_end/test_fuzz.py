@@ -135,7 +135,8 @@ class Fuzz(InFolder):
         return status, text.getvalue().splitlines()
 
     def test_a_library_that_does_as_the_reference(self):
-        self.assertEqual(self.fuzz(StandIn(), "--count", str(CASES)), (0, [f"{CASES} cases, 0 differences"]))
+        for words in ((), ("--processors", "1")):
+            self.assertEqual(self.fuzz(StandIn(), "--count", str(CASES), *words), (0, [f"{CASES} cases, 0 differences"]))
 
     def assert_told(self, library, pattern, *words, **options):
         """Differences are told, each with its seed, which gives it again."""

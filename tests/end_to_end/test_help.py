@@ -148,7 +148,7 @@ class Refusals(unittest.TestCase):
 
     def test_each_refusal_is_told(self):
         wanted = [defined(*each[:3]) for each in REFUSALS]
-        self.assertEqual([len(each) for each in wanted], [36, 31, 5])
+        self.assertEqual([len(each) for each in wanted], [36, 30, 5])
         self.assertEqual([[row[:2] for row in each] for each in told()], wanted)
 
     def test_the_page_says_the_same(self):

@@ -22,7 +22,7 @@ from .test_scripts import unwritten
 # pylint: disable=wrong-import-order
 from h5oracle.foreign import Foreign  # noqa: E402
 from h5oracle.growth import link_bound  # noqa: E402
-from h5oracle.model import Tree, apply, parent_of  # noqa: E402
+from h5oracle.model import Group, Tree, apply, parent_of  # noqa: E402
 from h5oracle.plain import le, write_plain  # noqa: E402
 from h5oracle.reader import Superblock, number_at  # noqa: E402
 from h5oracle.script import edit_of  # noqa: E402
@@ -86,8 +86,15 @@ def drawn_lines(rng, image, kinds, to_the_end):
             yield told(*ran)
 
 
+def link_count(tree):
+    """How many links a tree has."""
+    return sum(len(thing.links) for thing in tree.objects.values() if isinstance(thing, Group))
+
+
 def judged(word, kinds, image_of, seed):
-    """What is wrong with a random session, line by line, and how many edits of each kind it makes. The word and the seed draw it."""
+    """What is wrong with a random session, line by line, and how many edits of each kind it makes: those that take several links away count
+    as `whole`. The word and the seed draw it.
+    """
     rng = random.Random(f"{word} {image_of.__name__} {seed}")
     image = image_of(rng)
     wanted = list(drawn_lines(rng, image, kinds, seed % 2))
@@ -99,11 +106,12 @@ def judged(word, kinds, image_of, seed):
                 group = parent_of(judge.reading.tree, edit_of(step.line.split(b" ")).path)
                 deep = judge.reading.facts[group]["level"] == DEEPEST and step.before == step.after
                 return [] if deep else [(step.line, ["no tree is as deep"])], made
+            links = link_count(judge.reading.tree)
             wrong = [] if step.answer == answer else [f"it is answered {step.answer}"]
             wrong += judge.wrong_with(step, edited, is_in_place, tree)
             if wrong:
                 return [(step.line, wrong)], made
-            made[step.line.split(b" ")[0]] += is_in_place
+            made[b"whole" if link_count(tree) < links - 1 else step.line.split(b" ")[0]] += is_in_place
     return [], made
 
 

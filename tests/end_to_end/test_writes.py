@@ -361,4 +361,6 @@ class Lists(Transcripts):
         }
         self.assert_each(path, {line: "refused " + answer for line, answer in rows.items()} | {"grop /x": "bad line"})
         self.accepted(["dataset /q u8 65524 compact", "group /" + "n" * 1023, "attr /d big u8 65480 " + ",".join(["1"] * 65480), "group /g", "group /g/h"], path)
-        self.assert_each(path, {"unlink /g": "refused 11 GroupNotEmpty"})
+        # A group with a link is unlinked with it.
+        self.accepted(["unlink /g"], path)
+        self.assert_each(path, {"dump /g": "refused 6 NotFound", "unlink /g/h": "refused 4 NoSuchParent"})

@@ -1,7 +1,7 @@
 """The reference implementation, held to what the program carries today.
 
 Which images are opened, what is listed and dumped of them, and what is answered to scripts is the reference's own answer, at the
-stage at which all edits are made in place, views are lent or patched, and the later forms are not read.
+stage at which all edits are made in place, an unlink takes a whole group, views are lent or patched, and the later forms are not read.
 """
 
 import os

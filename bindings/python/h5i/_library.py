@@ -10,12 +10,12 @@ import numpy as np
 
 __all__ = ["About", "NotAFile", "Refused", "Type", "check", "library", "type_of", "dtype_of"]
 
-# The refusals of edits, paths and selections by their numbers, from 1 on, and the faults of views, from 201 on.
+# The refusals of edits, paths and selections by their numbers, from 1 on, and the faults of views, from 201 on. No refusal has number 11.
 RULES = (
-    "BadPath PathTooDeep IsRoot NoSuchParent NotAGroup NotFound AlreadyThere NameTooLong NotADataset GroupLink "
-    "GroupNotEmpty BadSpec RankMismatch StrideZero BlocksOverlap OutOfExtent NotChunked AboveMaximum ChunkTooLarge "
-    "CompactTooLarge TooManyCells ValueCount ValueRange AttributeTooLarge NoSuchAttribute TooManyLinks TooManyObjects "
-    "HeaderFull TreeTooDeep ImageFull NoMemory"
+    "BadPath PathTooDeep IsRoot NoSuchParent NotAGroup NotFound AlreadyThere NameTooLong NotADataset GroupLink - "
+    "BadSpec RankMismatch StrideZero BlocksOverlap OutOfExtent NotChunked AboveMaximum ChunkTooLarge CompactTooLarge "
+    "TooManyCells ValueCount ValueRange AttributeTooLarge NoSuchAttribute TooManyLinks TooManyObjects HeaderFull "
+    "TreeTooDeep ImageFull NoMemory"
 ).split()
 # The causes for which bytes are no file, by their numbers, from 301 on.
 CAUSES = (

@@ -168,6 +168,7 @@ class Group(_Object, MutableMapping[str, Any]):
             self.create_dataset(name, data=what)
 
     def __delitem__(self, name: str | bytes) -> None:
+        """Takes the name away; of a group all that it holds. A dataset goes with its last name, and the views of it end then."""
         path = below(self._path, name)
         self._file._edit(library.h5i_unlink, path, len(path))
 

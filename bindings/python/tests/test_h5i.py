@@ -279,6 +279,23 @@ class Groups(unittest.TestCase):
         self.assertRaises(TypeError, self.file.require_group, "h")
         self.assertEqual(self.file.require_group("g"), group)
 
+    def test_a_group_goes_with_all_that_it_holds(self):
+        self.file["g/h/d"] = np.arange(3)
+        self.file["g/e"] = np.arange(4)
+        self.file["kept"] = self.file["g/e"]
+        self.file["g/h/f"] = self.file["g/e"]
+        self.file["g/h/s"] = h5i.SoftLink("/kept")
+        goes, stays = self.file["g/h/d"].view[:], self.file["g/e"].view[1:]
+        del self.file["g"]
+        self.assertEqual(list(self.file), ["kept"])
+        with self.assertRaises(h5i.Refused) as caught:
+            goes[...]
+        self.assertEqual(caught.exception.rule, "Gone")
+        self.file["kept"][2] = 9
+        self.assertEqual(stays[...].tolist(), [1, 9, 3])
+        with self.assertRaises(KeyError):
+            del self.file["g"]
+
     def test_what_stands_in_another_file(self):
         with in_memory() as other:
             other["d"] = [1, 2]

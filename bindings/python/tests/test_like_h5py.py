@@ -137,6 +137,24 @@ class LikeH5py(unittest.TestCase):
             lambda file: file["a/x"][1],
         )
 
+    def test_groups_that_go(self):
+        for file in self.files:
+            file["kept"] = file["g/h/e"]
+            file["g/h/again"] = file["g/h/e"]
+            file["g/h/d"] = file["d"]
+        self.assert_alike(
+            lambda file: file.__delitem__("g/h"),
+            lambda file: (list(file["g"]), "g/h/e" in file, file["kept"].shape),
+            lambda file: file.__delitem__("g/h"),
+            lambda file: file["g/h/e"],
+            lambda file: file["g"].__delitem__("h/e"),
+            lambda file: file.__delitem__("g"),
+            lambda file: (list(file), file["kept"][...], file["d"][...]),
+            lambda file: file.create_dataset("g", data=np.arange(3))[...],
+            lambda file: file.clear(),
+            lambda file: len(file),
+        )
+
     def test_what_is_told_of_arrays(self):
         for path in ("d", "g/h/e", "g/s", "n"):
             self.assert_alike(

@@ -54,7 +54,6 @@ faults! {
     8 NameTooLong "a new name or text has more than 1023 bytes"
     9 NotADataset "a group or a soft link stands where an array is needed"
     10 GroupLink "a hard link's target is a group"
-    11 GroupNotEmpty "the group to unlink has links"
     12 BadSpec "sizes, maxima, chunk sizes or an attribute's name are not of their form"
     13 RankMismatch "a list has not one number for each dimension"
     14 StrideZero "a stride is 0"

@@ -269,7 +269,8 @@ impl Session {
         done(unsafe { raw::h5i_soft_link(&mut self.0, text.as_ptr(), text.len(), path.as_ptr(), path.len()) })
     }
 
-    /// Takes the link at the path away; the object goes with its last hard link.
+    /// Takes the link at the path away. A group goes with all that it holds, at any depth; an array goes with its last hard link, and its
+    /// views are `Gone` then. One that has a name elsewhere stays.
     pub fn unlink(&mut self, path: impl AsRef<[u8]>) -> Result<(), Fault> {
         let path = path.as_ref();
         done(unsafe { raw::h5i_unlink(&mut self.0, path.as_ptr(), path.len()) })

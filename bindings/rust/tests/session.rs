@@ -52,7 +52,7 @@ fn reads_and_refuses_by_name() -> Result<(), Fault> {
     assert_eq!(session.write("/h", &Slab::new(&[0, 0], &[1, 2]), &[1i64]), Err(Fault::ValueCount));
     assert_eq!(session.create_group("/g"), Err(Fault::AlreadyThere));
     assert_eq!(session.resize("/h", &[3, 5]), Err(Fault::AboveMaximum));
-    assert_eq!(session.unlink("/g"), Err(Fault::GroupNotEmpty));
+    assert_eq!(session.unlink("/"), Err(Fault::IsRoot));
     assert_eq!(session.remove_attribute("/g", "none"), Err(Fault::NoSuchAttribute));
     assert_eq!(session.image()?, image);
     assert_eq!(Session::open(&image[..400]).err(), Some(Fault::NotAFile { cause: 2, address: 40 }));
@@ -114,6 +114,22 @@ fn edits_and_scripts() -> Result<(), Fault> {
     assert_eq!(session.read::<i64>("/scalar", &Slab::new(&[], &[]))?, [-1]);
     session.repack()?;
     assert_eq!(session.read::<u8>("/c", &Slab::new(&[0], &[2]))?, [9, 9]);
+    Ok(())
+}
+
+#[test]
+fn groups_go_whole() -> Result<(), Fault> {
+    let mut session = made()?;
+    session.create_group("/g/deeper")?;
+    session.create_array("/g/deeper/c", &NewArray::<u8>::compact(&[2]).fill(9))?;
+    let all = Slab::new(&[0, 0], &[3, 4]);
+    let (stays, goes) = (session.open_view("/g/d", &all)?, session.open_view("/g/deeper/c", &Slab::new(&[0], &[2]))?);
+    session.unlink("/g")?;
+    assert_eq!(session.names("/")?.collect::<Vec<_>>(), [b"h", b"s"]);
+    assert_eq!((session.show::<i32>(stays)?, session.show::<u8>(goes)), (CELLS.to_vec(), Err(Fault::Gone)));
+    assert_eq!(session.unlink("/g"), Err(Fault::NotFound));
+    session.unlink("/h")?;
+    assert_eq!(session.show::<i32>(stays), Err(Fault::Gone));
     Ok(())
 }
 

@@ -125,8 +125,6 @@ pub(crate) const REFUSALS: &str = concat!(
     "     Usually: the path leads to a group or a soft link.\n",
     "  10 GroupLink: A new hard link leads to a dataset.\n",
     "     Usually: its target is a group, which has one path alone.\n",
-    "  11 GroupNotEmpty: A group that is unlinked has no links.\n",
-    "     Usually: unlink what it holds first.\n",
     "  12 BadSpec: A new dataset has at most 32 sizes, no maximum below its size, other maxima and\n",
     "     chunk sizes in chunks alone, a chunk size for each size, none 0 or above its maximum; a new\n",
     "     attribute has at most 32 sizes and a name without a zero byte.\n",

@@ -10,13 +10,6 @@ use Rattle.h5_c.specs.Asked.{HasAttributesListed, HasListed, HasNumber, ended}
 use Rattle.h5_c.specs.declared.held.Held.{Held}
 
 module _ (before after : Held) (path : List ℕ) (kept : after.session ≡ before.session) where
-  -- memory was refused for the text
-  pub links_short : HasListed before path after 31
-  links_short = record { session = kept; listed = record { answer = Err NoMemory; status_is = refl; says = tt } }
-
-  pub attributes_short : HasAttributesListed before path after 31
-  attributes_short = record { session = kept; listed = record { answer = Err NoMemory; status_is = refl; says = tt } }
-
   module _ (file : FileState) (same : file ≡ before.session.file) where
     -- the names are told
     pub links_listed : (names told : List (List ℕ)) → HasLinksNamed file.tree path names → told ≡ names → after.text.items ≡ ended told → HasListed before path after 0
@@ -31,7 +24,20 @@ module _ (before after : Held) (path : List ℕ) (kept : after.session ≡ befor
       listed = record { answer = Ok names; status_is = refl; says = (subst (λ (f : FileState). HasAttributeNames f.tree path names) same named, text ∙ ap ended are) };
     }
 
-    -- a rule refuses it
+    -- memory was refused for the text of names that were found
+    pub links_short : (names : List (List ℕ)) → HasLinksNamed file.tree path names → HasListed before path after 31
+    links_short names named = record {
+      session = kept;
+      listed = record { answer = Err NoMemory; status_is = refl; says = subst (λ (f : FileState). IsListRefused f.tree path NoMemory) same named.accepted };
+    }
+
+    pub attributes_short : (names : List (List ℕ)) → HasAttributeNames file.tree path names → HasAttributesListed before path after 31
+    attributes_short names named = record {
+      session = kept;
+      listed = record { answer = Err NoMemory; status_is = refl; says = subst (λ (f : FileState). IsUnlisted f.tree path NoMemory) same named.accepted };
+    }
+
+    -- it is refused
     pub links_refused : (e : EditFault) (status : ℕ) → IsListRefused file.tree path e → status ≡ fault_number e → HasListed before path after status
     links_refused e status refused number = record {
       session = kept;

@@ -24,8 +24,8 @@ abbrev pub open_status : OpenFault → ℕ
 open_status f = cause_status f.cause
 
 abbrev pub run_status : RunFault → ℕ
-run_status run.NoMemory = 31
-run_status f = 103
+run_status run.ScriptTooLong = 103
+run_status f = 31
 
 -- 0 for an answer of the library's, and its number for a refusal
 abbrev pub status_of : {A E : Type 0} → (E → ℕ) → Result A E → ℕ

@@ -250,7 +250,7 @@ pub extern "C" fn h5i_number(alloc: Global, slot: &mut Slot, path: &[u8], number
 ///
 /// # Errors
 ///
-/// As [`h5i_stat`]; `NotAGroup` where no group stands there; `NO_MEMORY`.
+/// As [`h5i_stat`]; `NotAGroup` where no group stands there; last, `NO_MEMORY`. No other holds then.
 #[unsafe(no_mangle)]
 pub extern "C" fn h5i_list(alloc: Global, slot: &mut Slot, path: &[u8]) -> u32
     ensures kept { IsKeptOpen slot.old.is_open slot.new.is_open result }
@@ -291,7 +291,7 @@ pub extern "C" fn h5i_link_text(alloc: Global, slot: &mut Slot, path: &[u8]) -> 
 ///
 /// # Errors
 ///
-/// As [`h5i_stat`]; `NotFound` where a soft link stands there; `NO_MEMORY`.
+/// As [`h5i_stat`]; `NotFound` where a soft link stands there; last, `NO_MEMORY`. No other holds then.
 #[unsafe(no_mangle)]
 pub extern "C" fn h5i_attributes(alloc: Global, slot: &mut Slot, path: &[u8]) -> u32
     ensures kept { IsKeptOpen slot.old.is_open slot.new.is_open result }

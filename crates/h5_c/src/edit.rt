@@ -93,7 +93,7 @@ pub extern "C" fn h5i_soft_link(alloc: Global, slot: &mut Slot, text: &[u8], pat
     slot.edit(alloc, make_soft_link(alloc, text, path))
 }
 
-/// Takes the link at the path away, and the object with its last hard link.
+/// Takes the link at the path away, and what no path reaches then. An array that is linked elsewhere stays.
 #[unsafe(no_mangle)]
 pub extern "C" fn h5i_unlink(alloc: Global, slot: &mut Slot, path: &[u8]) -> u32
     ensures kept { IsKeptOpen slot.old.is_open slot.new.is_open result }

@@ -62,7 +62,8 @@ pub(crate) fn run_status(fault: RunFault) -> u32
     ensures { result ≡ status_of_run fault }
 {
     match fault {
-        RunFault::NoMemory => NO_MEMORY,
-        RunFault::ScriptRead | RunFault::ScriptWrite | RunFault::ScriptTooLong => SCRIPT_TOO_LONG,
+        RunFault::ScriptTooLong => SCRIPT_TOO_LONG,
+        // Answers are written to memory, so a write fails for want of it alone; a read of bytes never fails.
+        RunFault::ScriptRead | RunFault::ScriptWrite | RunFault::NoMemory => NO_MEMORY,
     }
 }

@@ -164,7 +164,7 @@ module _ (tree : Tree) (path : List ℕ) where
 
 -- before anything is written
 pub unfound : (tree : Tree) (path : List ℕ) (known : Option (List ℕ)) (e : EditFault) → IsUnfound tree path e → IsUndumped tree path known known (Refused e)
-unfound tree path known NoMemory is = refl
+unfound tree path known NoMemory is = (is, refl)
 unfound tree path known e is = (is, refl)
 
 -- what was found was dumped, or cut off
@@ -173,6 +173,6 @@ pub found-dumped : (tree : Tree) (path : List ℕ) (r : Result (Unit {0}) DumpFa
 found-dumped tree path (Ok x) old new accepted is = record { accepted = accepted; written = is }
 found-dumped tree path (Err (Refused e)) old new accepted is = refused e is where
   refused : (f : EditFault) → Dumps {T = Unit {0}} (Err (Refused f)) old new (dumped tree path (located tree path)) → IsUndumped tree path old new (Refused f)
-  refused NoMemory is = is
+  refused NoMemory is = (accepted, is)
   refused f is = absurd is
 found-dumped tree path (Err (Cut reason)) old new accepted is = record { accepted = accepted; some = is }

@@ -21,9 +21,9 @@ pub record IsPartlyDumped (tree : Tree) (path : List ℕ) (old new : Option (Lis
   pub accepted : first_holding (path_rules tree path) ≡ None
   pub some : WritesSome old new (dumped tree path (located tree path))
 
--- memory was short, or the rules refuse the path, and nothing was written; or the dump was cut off
+-- the rules refuse the path, or none does and memory was short, and nothing was written; or the dump was cut off
 abbrev pub IsUndumped : Tree → List ℕ → Option (List ℕ) → Option (List ℕ) → DumpFault → Type 0
-IsUndumped tree path old new (Refused fault.NoMemory) = new ≡ old
+IsUndumped tree path old new (Refused fault.NoMemory) = (first_holding (path_rules tree path) ≡ None) × (new ≡ old)
 IsUndumped tree path old new (Refused e) = (first_holding (path_rules tree path) ≡ Some e) × (new ≡ old)
 IsUndumped tree path old new (Cut reason) = IsPartlyDumped tree path old new
 

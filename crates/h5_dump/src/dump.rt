@@ -31,8 +31,8 @@ use std::io::Write;
 ///
 /// # Errors
 ///
-/// - `Refused`: the path is refused as [`File::find`] refuses it, or memory is refused before the first write.
-///   Nothing was written.
+/// - `Refused`: the path is refused as [`File::find`] refuses it; or no rule refuses it, and memory is refused before
+///   the first write. Nothing was written.
 /// - `Cut`: the writer failed, or memory was refused, behind a beginning of the dump that was written.
 pub fn write_dump<W: Write>(
     alloc: Global,

@@ -142,7 +142,7 @@ module _ (f : FileState) (sound : IsSound f) (path name : List ℕ) (number : �
     none : has_no_attribute f.tree (RemoveAttr path name) ≡ false
     none =
         let rules = none_holds (rules_of f.tree f.next (RemoveAttr path name)) at.allowed in
-        rules.1.1.1.1.1.1.1.1.1.1.1.1.1.1.1.1.1.1.1.1.1.1.1.1.0
+        rules.1.1.1.1.1.1.1.1.1.1.1.1.1.1.1.1.1.1.1.1.1.1.1.0
 
     by_object : (found : Option Object) → get f.tree number ≡ found → IsSome found → IsAttributeThere f number name
     by_object None is some = absurd (let never : false ≡ true = some in cc)

@@ -264,7 +264,7 @@ module _ (f : FileState) (path : List ℕ) (parent : ℕ) (name : List ℕ) (edi
     link_refused (insertion.Space space.NoMemory) so = record {
       given = Some fault.NoMemory;
       allowed = λ _. is.given (Some fault.NoMemory) tt;
-      answer = refl;
+      answer = rw accepted refl;
     }
 
     -- ---- what is made

@@ -30,6 +30,6 @@ module _ (f : FileState) (edit : Edit) where
     answer = rw h refl;
   }
 
-  -- want of memory
-  pub short_of_memory : IsRefused f edit fault.NoMemory
-  short_of_memory = record { given = Some fault.NoMemory; allowed = λ _. memory_in_place f edit; answer = refl }
+  -- want of memory, where no rule holds
+  pub short_of_memory : refusal_of f.tree f.next edit ≡ None → IsRefused f edit fault.NoMemory
+  short_of_memory h = record { given = Some fault.NoMemory; allowed = λ _. memory_in_place f edit; answer = rw h refl }

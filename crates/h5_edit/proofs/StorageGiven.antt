@@ -114,7 +114,7 @@ module _ {f : FileState} {path : List ℕ} {hyper : Hyper} {values : List ℤ} {
     }
 
   pub no_memory : IsRefused f edit fault.NoMemory
-  no_memory = short_of_memory f edit
+  no_memory = short_of_memory f edit is.at.allowed
 
   -- ---- nothing is missing
 

@@ -22,7 +22,7 @@ use std::alloc::Global;
 ///
 /// - `HeaderFull`: the header has 65534 messages or more.
 /// - `ImageFull`: the image, the body of the message and 32 bytes are more than 2147483648 bytes.
-/// - `NoMemory`: memory is refused. It may come in place of any other.
+/// - `NoMemory`: memory is refused. It may come in place of `HeaderFull` and `ImageFull`.
 pub fn set_attr(
     alloc: Global,
     opened: &mut Opened,

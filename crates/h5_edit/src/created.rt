@@ -39,7 +39,7 @@ use std::alloc::Global;
 ///
 /// - `TreeTooDeep`: the root of the B-tree of the group that gets the link is at level 15, and all on the way to the name is full.
 /// - `ImageFull`: the image, and the bytes that the group and its link may add, are more than 2147483648 bytes.
-/// - `NoMemory`: memory is refused. It may come in place of any other.
+/// - `NoMemory`: memory is refused. It may come in place of `TreeTooDeep` and `ImageFull`.
 pub fn create_group(alloc: Global, opened: &mut Opened, path: &[u8]) -> Result<Edited, EditFault>
     ensures { MatchResult result (IsEdited opened.old (CreateGroup path.now) opened.new) (λ e.
         IsRefused opened.old (CreateGroup path.now) e × (opened.new ≡ opened.old)) }
@@ -75,7 +75,7 @@ pub fn create_group(alloc: Global, opened: &mut Opened, path: &[u8]) -> Result<E
 ///
 /// - `TreeTooDeep`: the root of the B-tree of the group that gets the link is at level 15, and all on the way to the name is full.
 /// - `ImageFull`: the image, and the bytes that the array and its link may add, are more than 2147483648 bytes.
-/// - `NoMemory`: memory is refused. It may come in place of any other.
+/// - `NoMemory`: memory is refused. It may come in place of `TreeTooDeep` and `ImageFull`.
 pub fn create_dataset(
     alloc: Global,
     opened: &mut Opened,

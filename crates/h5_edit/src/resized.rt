@@ -36,7 +36,7 @@ use std::alloc::Global;
 /// - `HeaderFull`: the Dataspace message of the array has no maxima, so it needs a new one, and the header has 65534
 ///   messages or more.
 /// - `ImageFull`: the image, and the bytes that a Dataspace message may add where a new one is needed, are more than 2147483648 bytes.
-/// - `NoMemory`: memory is refused. It may come in place of any other.
+/// - `NoMemory`: memory is refused. It may come in place of `HeaderFull` and `ImageFull`.
 pub fn resize(
     alloc: Global,
     opened: &mut Opened,

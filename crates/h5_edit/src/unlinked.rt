@@ -10,10 +10,12 @@ use h5_model::{EditFault, Edited};
 use h5_query::Opened;
 use std::alloc::Global;
 
-/// Takes the link at the path away. If it was the last hard link to its object, the object goes too: its blocks are given back, and its number
-/// is not used again. All other objects keep their numbers.
+/// Takes the link at the path away. What no path reaches then goes too: the object to which it was the last hard link, and of all below it
+/// what is linked nowhere else. The blocks of these are given back, and their numbers are not used again. An array that is linked elsewhere
+/// stays; its header counts as many links less as are lost. All objects that stay keep their numbers.
 ///
-/// The link is taken out of its group where that stands. No other object changes, no header moves, and the image keeps its length.
+/// The link is taken out of its group where that stands. Beside that group and what stands below the link no object changes, no header
+/// moves, and the image keeps its length.
 ///
 /// # Errors
 ///

@@ -45,7 +45,7 @@ use std::alloc::{AllocError, Global};
 /// - `TreeTooDeep`: one of the missing chunks, in its turn, finds the root of the array's B-tree at level 15 and all on the way to the chunk
 ///   full. Where the first one does, always; where another does, `ImageFull` may come in its place.
 /// - `ImageFull`: the image, and the bytes that the missing storage may add, are more than 2147483648 bytes.
-/// - `NoMemory`: memory is refused. It may come in place of any other.
+/// - `NoMemory`: memory is refused. It may come in place of `TreeTooDeep` and `ImageFull`.
 pub fn write(
     alloc: Global,
     opened: &mut Opened,

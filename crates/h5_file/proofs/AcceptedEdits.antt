@@ -39,7 +39,7 @@ module _ (tree : Tree) (next : ℕ) (path : List ℕ) (hyper : Hyper) (values : 
   unfolding refusal_of
   write_allowed =
       let rules = none_holds (rules_of tree next (Write path hyper values)) allowed in
-      let later = rules.1.1.1.1.1.1.1.1.1.1.1.1 in
+      let later = rules.1.1.1.1.1.1.1.1.1.1.1 in
       let found = accepted_write tree next path hyper values allowed in
       record {
         array = found.0;
@@ -70,14 +70,14 @@ module _ (tree : Tree) (next : ℕ) (path dims : List ℕ) (allowed : refusal_of
     unfolding refusal_of
     resize_rank =
         let rules = none_holds (rules_of tree next (Resize path dims)) allowed in
-        let rank = rules.1.1.1.1.1.1.1.1.1.1.1.1.0 in
+        let rank = rules.1.1.1.1.1.1.1.1.1.1.1.0 in
         same_by _ _ (sym (ap (λ o. option_map_or (λ (d : Dataset). not (length dims == length d.sizes)) o false) found) ∙ rank)
 
     pub resize_chunked : is_chunked d.storage ≡ true
     unfolding refusal_of
     resize_chunked =
         let rules = none_holds (rules_of tree next (Resize path dims)) allowed in
-        let chunked = rules.1.1.1.1.1.1.1.1.1.1.1.1.1.1.1.1.0 in
+        let chunked = rules.1.1.1.1.1.1.1.1.1.1.1.1.1.1.1.0 in
         true_of _ (sym (ap (λ o. option_map_or (λ (d : Dataset). not (is_chunked d.storage)) o false) found) ∙ chunked)
 
 -- ---- of an opened file

@@ -16,5 +16,6 @@ pub use Rattle.h5_edit.specs.Pieces
 pub use Rattle.h5_edit.specs.Selected
 pub use Rattle.h5_edit.specs.FoundType
 pub use Rattle.h5_edit.specs.Opened
+pub use Rattle.h5_space.specs.Space
 pub mod Patched
 pub mod Touched

@@ -67,7 +67,7 @@ impl File {
     /// - `TreeTooDeep`: the root of the B-tree of the group that gets the link is at level 15, and all on the way to the
     ///   name is full.
     /// - `ImageFull`: the image, and the bytes that the group and its link may add, are more than 2147483648 bytes.
-    /// - `NoMemory`: memory is refused.
+    /// - `NoMemory`: memory is refused. It may come in place of `TreeTooDeep` and `ImageFull`.
     pub fn create_group(&mut self, path: &[u8]) -> Result<Edited, EditFault>
         ensures edited { MatchResult result (IsEdited self.old (CreateGroup path.now) self.new)
             (λ e. IsRefused self.old (CreateGroup path.now) e × (self.new ≡ self.old)) }
@@ -103,7 +103,7 @@ impl File {
     /// - `TreeTooDeep`: the root of the B-tree of the group that gets the link is at level 15, and all on the way to the
     ///   name is full.
     /// - `ImageFull`: the image, and the bytes that the array and its link may add, are more than 2147483648 bytes.
-    /// - `NoMemory`: memory is refused. It may come in place of any other.
+    /// - `NoMemory`: memory is refused. It may come in place of `TreeTooDeep` and `ImageFull`.
     pub fn create_dataset(&mut self, path: &[u8], spec: &Spec) -> Result<Edited, EditFault>
         ensures edited { MatchResult result (IsEdited self.old (CreateDataset path.now spec.now) self.new)
             (λ e. IsRefused self.old (CreateDataset path.now spec.now) e × (self.new ≡ self.old)) }
@@ -169,11 +169,13 @@ impl File {
         soft_link(&mut self.opened, text, path)
     }
 
-    /// Takes the link at the path away. If it was the last hard link to its object, the object goes too: its blocks are
-    /// given back, and its number is not used again. All other objects keep their numbers.
+    /// Takes the link at the path away. What no path reaches then goes too: the object to which it was the last hard link,
+    /// and of all below it what is linked nowhere else. The blocks of these are given back, and their numbers are not used
+    /// again. An array that is linked elsewhere stays; its header counts as many links less as are lost. All objects that
+    /// stay keep their numbers.
     ///
-    /// The link is taken out of its group where that stands. No other object changes, no header moves, and the image keeps
-    /// its length.
+    /// The link is taken out of its group where that stands. Beside that group and what stands below the link no object
+    /// changes, no header moves, and the image keeps its length.
     ///
     /// # Errors
     ///
@@ -185,7 +187,6 @@ impl File {
     /// - `NoSuchParent`: a name before the last one is missing.
     /// - `NotAGroup`: a name before the last one leads to no group.
     /// - `NotFound`: the last name is missing.
-    /// - `GroupNotEmpty`: a group with links stands there.
     /// - `NoMemory`: memory is refused.
     pub fn unlink(&mut self, path: &[u8]) -> Result<Edited, EditFault>
         ensures edited { MatchResult result (IsEdited self.old (Unlink path.now) self.new)
@@ -216,7 +217,7 @@ impl File {
     /// - `AttributeTooLarge`: the body of the message would have more than 65528 bytes.
     /// - `HeaderFull`: the header has 65534 messages or more.
     /// - `ImageFull`: the image, the body of the message and 32 bytes are more than 2147483648 bytes.
-    /// - `NoMemory`: memory is refused. It may come in place of any other.
+    /// - `NoMemory`: memory is refused. It may come in place of `HeaderFull` and `ImageFull`.
     pub fn set_attr(&mut self, path: &[u8], attr: &AttrSpec) -> Result<Edited, EditFault>
         ensures edited { MatchResult result (IsEdited self.old (SetAttr path.now attr.now) self.new)
             (λ e. IsRefused self.old (SetAttr path.now attr.now) e × (self.new ≡ self.old)) }
@@ -270,7 +271,7 @@ impl File {
     ///   65534 messages or more.
     /// - `ImageFull`: the image, and the bytes that a Dataspace message may add where a new one is needed, are more than
     ///   2147483648 bytes.
-    /// - `NoMemory`: memory is refused. It may come in place of any other.
+    /// - `NoMemory`: memory is refused. It may come in place of `HeaderFull` and `ImageFull`.
     pub fn resize(&mut self, path: &[u8], dims: &[u64]) -> Result<Edited, EditFault>
         ensures edited { MatchResult result (IsEdited self.old (Resize path.now dims.now) self.new)
             (λ e. IsRefused self.old (Resize path.now dims.now) e × (self.new ≡ self.old)) }
@@ -306,7 +307,7 @@ impl File {
     ///   on the way to the chunk full. Where the first one does, always; where another does, `ImageFull` may come in its
     ///   place.
     /// - `ImageFull`: the image, and the bytes that the missing storage may add, are more than 2147483648 bytes.
-    /// - `NoMemory`: memory is refused. It may come in place of any other.
+    /// - `NoMemory`: memory is refused. It may come in place of `TreeTooDeep` and `ImageFull`.
     pub fn write(
         &mut self,
         path: &[u8],

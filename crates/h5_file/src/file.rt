@@ -15,6 +15,7 @@ ghost use Rattle.h5_edit.specs.Look.{HasKind, HasLinksNamed, HasCell, HasAttribu
 ghost use Rattle.h5_edit.specs.Found.{HasFound, IsUnfound};
 ghost use Rattle.h5_edit.specs.Place.{IsNumber, IsNoObject};
 ghost use Rattle.h5_edit.specs.Selected.{HasRuns};
+ghost use Rattle.h5_space.specs.Space.{IsSpaced};
 ghost use Rattle.h5_file.specs.State.{created_state};
 ghost use Rattle.h5_file.specs.DatasetAt.{IsDatasetAt};
 ghost use Rattle.h5_file.specs.Opening.{IsReadable, Refused};
@@ -109,8 +110,13 @@ impl File {
         ensures bytes { result.now ≡ self.now.image }
         ensures sound { IsSound self.now }
         ensures low { AreBytes self.now.image }
+        // Free neighbours are joined.
+        ensures joined { IsSpaced self.now.free (length self.now.image) }
     {
-        let bytes = self.opened.image().bytes();
+        let image = self.opened.image();
+        // What an image keeps to.
+        let _free = image.free();
+        let bytes = image.bytes();
         bytes
     }
 
@@ -146,7 +152,7 @@ impl File {
     ///
     /// # Errors
     ///
-    /// Those of [`File::kind`], and `NoMemory` if memory is refused.
+    /// Those of [`File::kind`]; last, `NoMemory`: memory is refused. No other refusal holds then.
     pub fn find(&self, path: &[u8]) -> Result<Found<'_>, EditFault>
         ensures { MatchResult result (HasFound self.now.tree path.now) (IsUnfound self.now.tree path.now) }
     {
@@ -157,7 +163,8 @@ impl File {
     ///
     /// # Errors
     ///
-    /// Those of [`File::kind`]; `NotAGroup` if no group stands at the path; `NoMemory` if memory is refused.
+    /// Those of [`File::kind`]; `NotAGroup` if no group stands at the path; last, `NoMemory`: memory is refused. No other
+    /// refusal holds then.
     pub fn list(&self, path: &[u8]) -> Result<Vec<&[u8]>, EditFault>
         ensures { MatchResult result (λ names.
             HasLinksNamed self.now.tree path.now (map (λ name. name.now) names.items))
@@ -170,7 +177,8 @@ impl File {
     ///
     /// # Errors
     ///
-    /// Those of [`File::kind`]; `NotFound` if a soft link stands at the path; `NoMemory` if memory is refused.
+    /// Those of [`File::kind`]; `NotFound` if a soft link stands at the path; last, `NoMemory`: memory is refused. No other
+    /// refusal holds then.
     pub fn attrs(&self, path: &[u8]) -> Result<Vec<&[u8]>, EditFault>
         ensures { MatchResult result (λ names.
             HasAttributeNames self.now.tree path.now (map (λ name. name.now) names.items))

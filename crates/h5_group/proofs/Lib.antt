@@ -3,7 +3,6 @@ pub mod Standing
 pub mod Searched
 pub mod Way
 pub mod Gathered
-pub mod SomeLinks
 pub mod HeapSteps
 pub mod Refusals
 pub mod Linked

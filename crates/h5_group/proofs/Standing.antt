@@ -57,7 +57,7 @@ module _ (image : List ℕ) (table : SymbolTable) (read : IsGroupRead image tabl
   abbrev IsInside : Block → Type 0
   IsInside b = b.at + b.len ≤ length image
 
-  pub trees_there : Inside (length image) (tree_blocks (kind_in image) (read.linked).owned ++ map (symbol_block (leaf_k image)) (read.linked).symbol_nodes)
+  trees_there : Inside (length image) (tree_blocks (kind_in image) (read.linked).owned ++ map (symbol_block (leaf_k image)) (read.linked).symbol_nodes)
   trees_there = all_left IsInside (tree_blocks (kind_in image) (read.linked).owned ++ map (symbol_block (leaf_k image)) (read.linked).symbol_nodes) (heap_blocks image table.heap) laid
 
   pub heap_there : Inside (length image) (heap_blocks image table.heap)

@@ -1,19 +1,15 @@
 //! All links of a group (File Format Specification 3.0, section III.B).
 
-ghost use Rattle.std.specs.Prelude.{◌≡◌, ◌<◌, ◌≤◌, ◌++◌, IfOk, OnOk, Some, [], ◌∷◌, length, map, nat_lt, slice_get, option_map};
+ghost use Rattle.std.specs.Prelude.{◌≡◌, ◌<◌, ◌++◌, IfOk, OnOk, Some, length, map, slice_get, option_map};
 ghost use Rattle.std.specs.List.{Contains};
-ghost use Rattle.h5_model.specs.Format.Superblock.{internal_k, leaf_k};
+ghost use Rattle.h5_model.specs.Format.Superblock.{leaf_k};
 ghost use Rattle.h5_model.specs.Format.Heap.{segment_of};
 ghost use Rattle.h5_model.specs.Format.Symbols.{symbols_at, link_of};
-ghost use Rattle.h5_model.specs.Faults.TreeFaults.{all_entries};
-ghost use Rattle.h5_btree.specs.Order.{HasSubtree};
-ghost use Rattle.h5_btree.specs.Walk.Below.{leaves_below};
-ghost use Rattle.h5_btree.specs.Walk.Forms.{OfGroup};
 ghost use Rattle.h5_group.specs.Links.{IsGroupRead, lent_link};
 ghost use Rattle.h5_group.specs.Told.{links_told, symbol_nodes_told};
 
 use crate::link::link_in;
-use crate::nodes::{self, SymbolNodes, tree_node};
+use crate::nodes::SymbolNodes;
 use crate::read::{segment, symbol_node};
 use h5_btree::tree_leaves;
 use h5_model::Link;
@@ -77,36 +73,6 @@ pub fn symbol_nodes(
     ensures { IfOk result (λ nodes. nodes.items ≡ symbol_nodes_told image.now.bytes table) }
 {
     tree_leaves(alloc, image, &SymbolNodes, table.tree())
-}
-
-/// Whether the group has a link. Goes down its B-tree to the first symbol node that has an entry. Takes no memory.
-pub fn has_links(image: &Image, table: SymbolTable) -> bool
-    requires { IsGroupRead image.now.bytes table }
-    ensures { result ≡ nat_lt 0 (length (links_told image.now.bytes table)) }
-{
-    let root = table.tree();
-    let level = tree_node(image, root).level();
-    has_entries(image, level + 1, root)
-}
-
-/// Whether a symbol node so many levels below an address has an entry: at height 0 the one that stands there itself.
-fn has_entries(image: &Image, height: u8, at: u64) -> bool
-    requires long { 20 ≤ length image.now.bytes }
-    requires few { internal_k image.now.bytes ≤ 32767 }
-    requires subtree { HasSubtree image.now.bytes OfGroup height at }
-    ensures { result ≡ nat_lt 0 (length (all_entries image.now.bytes
-        (leaves_below image.now.bytes OfGroup height (at ∷ [])))) }
-{
-    if height == 0 {
-        return !nodes::symbol_node(image, at).is_empty();
-    }
-    let node = tree_node(image, at);
-    for k in 0..node.len() {
-        if has_entries(image, height - 1, node.child(k)) {
-            return true;
-        }
-    }
-    false
 }
 
 /// How many entries the symbol node at the address `node` has. Takes no memory.

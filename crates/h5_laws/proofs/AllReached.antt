@@ -32,7 +32,7 @@ soft_leads tree text [] b h = absurd (let e : Some (Soft text) ≡ Some (ToObjec
 soft_leads tree text (name ∷ path) b h = absurd (let e : None ≡ Some (ToObject b) = h in cc)
 
 -- the first link of a path
-first_link : (tree : Tree) (a b : ℕ) (name : List ℕ) (path : List (List ℕ)) → follow tree (ToObject a) (name ∷ path) ≡ Some (ToObject b)
+pub first_link : (tree : Tree) (a b : ℕ) (name : List ℕ) (path : List (List ℕ)) → follow tree (ToObject a) (name ∷ path) ≡ Some (ToObject b)
     → (links : Links) × (number : ℕ) × (links_of tree a ≡ Some links) × (get links name ≡ Some (ToObject number)) × (follow tree (ToObject number) path ≡ Some (ToObject b))
 first_link tree a b name path leads = by_links (links_of tree a) refl leads where
   by_link : (links : Links) → links_of tree a ≡ Some links → (o : Option Link) → get links name ≡ o → option_and_then (λ link. follow tree link path) o ≡ Some (ToObject b)

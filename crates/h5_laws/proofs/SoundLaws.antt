@@ -10,6 +10,9 @@ pub mod Alike
 pub mod DatasetChanges
 pub mod Fewer
 pub mod Unlinked
+pub mod Without
+pub mod Lost
+pub mod Left
 pub mod NewPaths
 pub mod Removed
 pub mod Applied

@@ -41,7 +41,7 @@ last_view_number : (answer_of (nested 4294967294) (OpenView (codes "/g/h/x") sca
 unfolding names_of digits
 last_view_number = simp known
 
--- want of memory, behind the other rules of a view, and before those of an edit
+-- want of memory, behind the other rules of a view and of an edit
 view_without_memory : (answer_of (nested 0) (OpenView (codes "/g/h/x") scalar) (Some fault.NoMemory)).text ≡ codes "fault 5 NoMemory\n"
 unfolding names_of digits
 view_without_memory = simp known
@@ -50,9 +50,13 @@ view_of_a_group : (answer_of (nested 0) (OpenView (codes "/g") scalar) (Some fau
 unfolding names_of digits
 view_of_a_group = simp known
 
-edit_without_memory : (answer_of (nested 0) (Change (CreateGroup (codes "/g"))) (Some fault.NoMemory)).text ≡ codes "refused 31 NoMemory\n"
+edit_without_memory : (answer_of (nested 0) (Change (CreateGroup (codes "/n"))) (Some fault.NoMemory)).text ≡ codes "refused 31 NoMemory\n"
 unfolding refusal_of names_of digits
-edit_without_memory = refl
+edit_without_memory = simp known
+
+edit_of_a_taken_path : (answer_of (nested 0) (Change (CreateGroup (codes "/g"))) (Some fault.NoMemory)).text ≡ codes "refused 7 AlreadyThere\n"
+unfolding refusal_of names_of digits
+edit_of_a_taken_path = simp known
 
 -- what else is given comes behind the rules of the tree
 edit_of_a_full_image : (answer_of (nested 0) (Change (CreateGroup (codes "/g"))) (Some fault.ImageFull)).text ≡ codes "refused 7 AlreadyThere\n"

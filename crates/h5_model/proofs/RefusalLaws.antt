@@ -15,7 +15,6 @@ use Rattle.h5_model.specs.declared.hyperslab.Hyper.{Hyper}
 use Rattle.h5_model.specs.declared.edits.Edit.{Edit}
 use Rattle.h5_model.specs.declared.edits.Edit.TheVariants.{Write}
 use Rattle.h5_model.specs.declared.edit_fault.EditFault.{EditFault}
-use Rattle.h5_model.specs.declared.edit_fault.EditFault.TheVariants as fault
 use Rattle.h5_model.proofs.CountLaws.{length-selection}
 use Rattle.h5_model.proofs.PathLaws.{is_place, located-is_place}
 use Rattle.h5_model.proofs.StateLaws.{IsState-state_after}
@@ -36,7 +35,7 @@ pub has_number : (tree : Tree) (next : ℕ) (edit : Edit) → refusal_of tree ne
 unfolding refusal_of
 has_number tree next edit h =
     let rules = none_holds (rules_of tree next edit) h in
-    rules.1.1.1.1.1.1.1.1.1.1.1.1.1.1.1.1.1.1.1.1.1.1.1.1.1.1.0
+    rules.1.1.1.1.1.1.1.1.1.1.1.1.1.1.1.1.1.1.1.1.1.1.1.1.1.0
 
 -- an accepted edit keeps a state
 pub IsState-accepted : (s : State) (edit : Edit) → IsState s → refusal_of s.tree s.next edit ≡ None → IsState (state_after s edit)
@@ -44,9 +43,7 @@ IsState-accepted s edit is h = IsState-state_after s edit is (has_number s.tree 
 
 pub not_refused : (refusal given : Option EditFault) → is_none (chosen refusal given) ≡ true → refusal ≡ None
 not_refused None given h = refl
-not_refused (Some f) None h = absurd (cc)
-not_refused (Some f) (Some fault.NoMemory) h = absurd (cc)
-not_refused (Some f) (Some g) h = absurd (cc)
+not_refused (Some f) given h = absurd (cc)
 
 -- and so do edits, some of them refused
 pub IsState-after_edits : (s : State) (steps : List (Edit × Option EditFault)) → IsState s → IsState (after_edits s steps)
@@ -113,7 +110,7 @@ accepted_write tree next path hyper values h =
     let missing : is_missing (located tree path) ≡ false = first_of_or _ _ (first_of_or _ _ after_four.1.0) in
     let stands : is_here (located tree path) ≡ true = here (located tree path) (located-is_place tree path form) parent group missing in
     let found : (d : Dataset) × (dataset_at tree path ≡ Some d) = some_of (is_here (located tree path)) (dataset_at tree path) stands (first_of_or _ _ after_four.1.1.1.1.0) in
-    let later = after_four.1.1.1.1.1.1.1.1 in
+    let later = after_four.1.1.1.1.1.1.1 in
     let rank : has_rank (length (found.0).sizes) hyper ≡ true = true_of _ (sym (ap (λ o. option_map_or (λ (d : Dataset). not (has_rank (length d.sizes) hyper)) o false) found.1) ∙ later.0) in
     let apart : list_any overlaps (axes_of hyper) ≡ false = later.1.1.0 in
     let within : is_within (found.0).sizes (axes_of hyper) ≡ true = true_of _ (sym (ap (λ o. option_map_or (λ (d : Dataset). not (is_within d.sizes (axes_of hyper))) o false) found.1) ∙ later.1.1.1.0) in

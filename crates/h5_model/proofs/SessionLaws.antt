@@ -123,7 +123,7 @@ rank_kept s (RemoveAttr path name) h rank m low before = ranks-with_object_at (w
 rank_kept s (Write path hyper values) h rank m low before =
     ranks-with_object_at (with_dataset (written (axes_of hyper) values)) (λ r o. rank-written r (axes_of hyper) values o) s.tree path rank m ∙ before
 rank_kept s (Resize path dims) h rank m low before =
-    ranks-resized s.tree path dims (none_holds (rules_of s.tree s.next (Resize path dims)) h).1.1.1.1.1.1.1.1.1.1.1.1.0 rank m ∙ before
+    ranks-resized s.tree path dims (none_holds (rules_of s.tree s.next (Resize path dims)) h).1.1.1.1.1.1.1.1.1.1.1.0 rank m ∙ before
 
 -- ---- views
 

@@ -161,12 +161,11 @@ nested_more : TwoLines (session_of (group_at 0 ((codes "g", ToObject 1) ∷ []) 
 unfolding line_asks unescaped type_from refusal_of names_of applied within_names is_reached selection_of met_boxes bytes_of value_at raw_at lines_below digits
 nested_more = (simp known, simp known, simp known)
 
-nested_list : TwoLines (session_of (group_at 0 ((codes "g", ToObject 1) ∷ []) ∷ group_at 1 ((codes "h", ToObject 2) ∷ (codes "s", Soft (codes "a b")) ∷ []) ∷ group_at 2 ((codes "x", ToObject 3) ∷ []) ∷ array_at 3 (record { fixed = u8; sizes = []; maxima = []; storage = Compact; fill = pos 7; cells = pos 7 ∷ [] }) ∷ []) 4 [] 0)
+nested_list : OneLine (session_of (group_at 0 ((codes "g", ToObject 1) ∷ []) ∷ group_at 1 ((codes "h", ToObject 2) ∷ (codes "s", Soft (codes "a b")) ∷ []) ∷ group_at 2 ((codes "x", ToObject 3) ∷ []) ∷ array_at 3 (record { fixed = u8; sizes = []; maxima = []; storage = Compact; fill = pos 7; cells = pos 7 ∷ [] }) ∷ []) 4 [] 0)
     (codes "ls") (codes "/ group\n/g group\n/g/h group\n/g/h/x dataset u8 {}\n/g/s soft a\\x20b\n")
-    (codes "unlink /g") (codes "refused 11 GroupNotEmpty\n")
     (session_of (group_at 0 ((codes "g", ToObject 1) ∷ []) ∷ group_at 1 ((codes "h", ToObject 2) ∷ (codes "s", Soft (codes "a b")) ∷ []) ∷ group_at 2 ((codes "x", ToObject 3) ∷ []) ∷ array_at 3 (record { fixed = u8; sizes = []; maxima = []; storage = Compact; fill = pos 7; cells = pos 7 ∷ [] }) ∷ []) 4 [] 0)
 unfolding line_asks unescaped type_from refusal_of names_of applied within_names is_reached selection_of met_boxes bytes_of value_at raw_at lines_below digits
-nested_list = (simp known, simp known, simp known)
+nested_list = (simp known, refl)
 
 nested_dumps : TwoLines (session_of (group_at 0 ((codes "g", ToObject 1) ∷ []) ∷ group_at 1 ((codes "h", ToObject 2) ∷ (codes "s", Soft (codes "a b")) ∷ []) ∷ group_at 2 ((codes "x", ToObject 3) ∷ []) ∷ array_at 3 (record { fixed = u8; sizes = []; maxima = []; storage = Compact; fill = pos 7; cells = pos 7 ∷ [] }) ∷ []) 4 [] 0)
     (codes "dump /g/h/x") (codes "/g/h/x dataset u8 {} compact fill 7\n7\n")
@@ -182,3 +181,23 @@ dumps_refused : ThreeLines (session_of (group_at 0 ((codes "g", ToObject 1) ∷ 
     (session_of (group_at 0 ((codes "g", ToObject 1) ∷ []) ∷ group_at 1 ((codes "h", ToObject 2) ∷ (codes "s", Soft (codes "a b")) ∷ []) ∷ group_at 2 ((codes "x", ToObject 3) ∷ []) ∷ array_at 3 (record { fixed = u8; sizes = []; maxima = []; storage = Compact; fill = pos 7; cells = pos 7 ∷ [] }) ∷ []) 4 [] 0)
 unfolding line_asks unescaped type_from refusal_of names_of applied within_names is_reached selection_of met_boxes bytes_of value_at raw_at lines_below digits
 dumps_refused = (simp known, refl, simp known, simp known)
+
+-- a group goes with all that is linked below it alone
+nested_gone : OneLine (session_of (group_at 0 ((codes "g", ToObject 1) ∷ []) ∷ group_at 1 ((codes "h", ToObject 2) ∷ (codes "s", Soft (codes "a b")) ∷ []) ∷ group_at 2 ((codes "x", ToObject 3) ∷ []) ∷ array_at 3 (record { fixed = u8; sizes = []; maxima = []; storage = Compact; fill = pos 7; cells = pos 7 ∷ [] }) ∷ []) 4 [] 0)
+    (codes "unlink /g") (codes "ok 0\n")
+    (session_of (group_at 0 [] ∷ []) 4 [] 0)
+unfolding line_asks unescaped type_from refusal_of names_of applied within_names is_reached selection_of met_boxes bytes_of value_at raw_at lines_below digits
+nested_gone = (simp known, simp known)
+
+-- an array that is linked elsewhere stays
+nested_linked : OneLine (session_of (group_at 0 ((codes "g", ToObject 1) ∷ []) ∷ group_at 1 ((codes "h", ToObject 2) ∷ (codes "s", Soft (codes "a b")) ∷ []) ∷ group_at 2 ((codes "x", ToObject 3) ∷ []) ∷ array_at 3 (record { fixed = u8; sizes = []; maxima = []; storage = Compact; fill = pos 7; cells = pos 7 ∷ [] }) ∷ []) 4 [] 0)
+    (codes "link /g/h/x /y") (codes "ok 0\n")
+    (session_of (group_at 0 ((codes "g", ToObject 1) ∷ (codes "y", ToObject 3) ∷ []) ∷ group_at 1 ((codes "h", ToObject 2) ∷ (codes "s", Soft (codes "a b")) ∷ []) ∷ group_at 2 ((codes "x", ToObject 3) ∷ []) ∷ array_at 3 (record { fixed = u8; sizes = []; maxima = []; storage = Compact; fill = pos 7; cells = pos 7 ∷ [] }) ∷ []) 4 [] 0)
+unfolding line_asks unescaped type_from refusal_of names_of applied within_names is_reached selection_of met_boxes bytes_of value_at raw_at lines_below digits
+nested_linked = (simp known, simp known)
+
+nested_stays : OneLine (session_of (group_at 0 ((codes "g", ToObject 1) ∷ (codes "y", ToObject 3) ∷ []) ∷ group_at 1 ((codes "h", ToObject 2) ∷ (codes "s", Soft (codes "a b")) ∷ []) ∷ group_at 2 ((codes "x", ToObject 3) ∷ []) ∷ array_at 3 (record { fixed = u8; sizes = []; maxima = []; storage = Compact; fill = pos 7; cells = pos 7 ∷ [] }) ∷ []) 4 [] 0)
+    (codes "unlink /g") (codes "ok 0\n")
+    (session_of (group_at 0 ((codes "y", ToObject 3) ∷ []) ∷ array_at 3 (record { fixed = u8; sizes = []; maxima = []; storage = Compact; fill = pos 7; cells = pos 7 ∷ [] }) ∷ []) 4 [] 0)
+unfolding line_asks unescaped type_from refusal_of names_of applied within_names is_reached selection_of met_boxes bytes_of value_at raw_at lines_below digits
+nested_stays = (simp known, simp known)

@@ -30,8 +30,6 @@ pub enum EditFault {
     NotADataset,
     /// The hard link's target is a group.
     GroupLink,
-    /// The group to unlink has links.
-    GroupNotEmpty,
     /// Rank, maxima, chunk sizes or an attribute name are not of their form.
     BadSpec,
     /// A selection's lists differ in length, or a rank is not the dataset's.
@@ -77,7 +75,7 @@ pub enum EditFault {
 impl EditFault {
     ghost use Rattle.h5_model.specs.Edits.EditFaults.{fault_number, fault_name};
 
-    /// The number of the rule, from 1 on.
+    /// The number of the rule, from 1 on. No rule has the number 11.
     pub fn number(self) -> u32
         ensures { result ≡ fault_number self }
     {
@@ -92,7 +90,6 @@ impl EditFault {
             EditFault::NameTooLong => 8,
             EditFault::NotADataset => 9,
             EditFault::GroupLink => 10,
-            EditFault::GroupNotEmpty => 11,
             EditFault::BadSpec => 12,
             EditFault::RankMismatch => 13,
             EditFault::StrideZero => 14,
@@ -131,7 +128,6 @@ impl EditFault {
             EditFault::NameTooLong => "NameTooLong",
             EditFault::NotADataset => "NotADataset",
             EditFault::GroupLink => "GroupLink",
-            EditFault::GroupNotEmpty => "GroupNotEmpty",
             EditFault::BadSpec => "BadSpec",
             EditFault::RankMismatch => "RankMismatch",
             EditFault::StrideZero => "StrideZero",

@@ -1,9 +1,9 @@
 -- A group of an opened image out of which one link was taken where it stands.
-use Rattle.std.proofs.Common.{◌≡◌, inl, inr, ℕ, ◌+◌, ◌≤◌, ◌^◌, List, [], ◌∷◌, ◌++◌, length, sym, ap, ◌∙◌, subst, Option, Some, None}
+use Rattle.std.proofs.Common.{◌≡◌, inl, inr, ℕ, ◌+◌, ◌≤◌, ◌^◌, List, [], ◌∷◌, ◌++◌, length, sym, ap, ◌∙◌, subst, Option, Some}
 use Rattle.std.specs.Prelude.{slice_get}
 use Rattle.std.specs.Ordering.{nat_cmp}
 use Rattle.std.specs.BTreeMap.{BTreeMap}
-use Rattle.std.specs.FinMap.{FinMap, get, get-empty, remove}
+use Rattle.std.specs.FinMap.{FinMap, get, remove}
 use Rattle.std.specs.List.{Contains, flat_map}
 use Rattle.h5_bytes.specs.Blocks.{cover}
 use Rattle.h5_bytes.specs.declared.Block.{Block}
@@ -11,25 +11,22 @@ use Rattle.h5_model.specs.Format.Addresses.{SymbolTable}
 use Rattle.h5_model.specs.Format.Links.{Ascend}
 use Rattle.h5_model.specs.Format.Superblock.{end_of_file, end_field}
 use Rattle.h5_model.specs.Format.Symbols.{Target, Header}
-use Rattle.h5_model.specs.Tree.Objects.{Tree, Link, Links, ToObject, hard_links, link_in, links_of}
+use Rattle.h5_model.specs.Tree.Objects.{Tree, Link, link_in}
 use Rattle.h5_space.specs.Moves.{Moves}
 use Rattle.h5_space.specs.Space.{Space}
 use Rattle.h5_group.specs.Edited.{IsLinkPut}
 use Rattle.h5_group.specs.Told.{links_told}
-use Rattle.h5_laws.specs.Trees.Unlinked.{without_link}
 use Rattle.h5_laws.proofs.Lists.{In, contains_in, in_contains}
-use Rattle.h5_laws.proofs.SoundLaws.Counts.{adds}
-use Rattle.h5_laws.proofs.SoundLaws.LinksThere.{GroupAt, link_is, links_are}
+use Rattle.h5_laws.proofs.SoundLaws.LinksThere.{GroupAt, link_is}
 use Rattle.h5_open.specs.declared.opened.object.OpenedObject.{OpenedObject}
 use Rattle.h5_open.specs.declared.opened.object.OpenedContent.TheVariants as content
-use Rattle.h5_open.specs.LinkTaken.{IsBare, IsLinkTaken}
+use Rattle.h5_open.specs.LinkTaken.{IsLinkTaken}
 use Rattle.h5_open.specs.Opened.Kept.{IsOpened}
 use Rattle.h5_open.specs.Opened.Objects.{link_to, links_by, object_blocks, objects_of, table_of, tree_of}
 use Rattle.h5_open.specs.Opened.Sound.{IsHeaderIn}
 use Rattle.h5_open.specs.Opened.State.{opened_state}
 use Rattle.h5_open.proofs.GroupRelinked.{IsGroupRelinked}
 use Rattle.h5_open.proofs.LinkCalls.{group_read}
-use Rattle.h5_open.proofs.LinkLess.{less_counts}
 use Rattle.h5_open.proofs.LinksTaken.{link_named, links_taken}
 use Rattle.h5_open.proofs.OpenedLaws.Entries.{names_ascend}
 use Rattle.h5_open.proofs.OpenedLaws.LinkedHeaders.{linked_header}
@@ -64,18 +61,6 @@ module _ (old : Space) (slots : List (Option OpenedObject)) (numbers : BTreeMap 
   told_link =
       let named = link_named table (links_told old.bytes t) rises name link its_link in
       (named.0, contains_in (name, named.0) (links_told old.bytes t) named.1, named.2)
-
-  -- of the hard links to an object there is one less, where it was one of them
-  pub unlinked_counts : (n : ℕ) → hard_links (without_link tree parent name) n + adds n link ≡ hard_links tree n
-  unlinked_counts = less_counts tree parent name link group its_link
-
-  -- an object that has no links is another than the group
-  pub bare_apart : (number : ℕ) → link ≡ ToObject number → IsBare tree (ToObject number) → number ≡ parent → ⊥
-  bare_apart number leads bare same =
-      let none : get group.links name ≡ None
-      = ap (λ (ls : Links). get ls name) (bare group.links (ap (links_of tree) same ∙ links_are tree parent group)) ∙ get-empty _ name in
-      let never : Some link ≡ None = sym its_link ∙ none in
-      absurd (cc)
 
   -- ---- when it is taken
 

@@ -141,7 +141,7 @@ module _ (old mid new : Space) (slots : List (Option OpenedObject)) (numbers : B
   blocks_later : blocks_told new.bytes t ≡ blocks_told mid.bytes t
   blocks_later = blocks_told-same mid.bytes new.bytes leaf_later internal_later t is.read.linked tree_stays
 
-  links_later : links_told new.bytes t ≡ links_told mid.bytes t
+  pub links_later : links_told new.bytes t ≡ links_told mid.bytes t
   links_later = links_told-same mid.bytes new.bytes leaf_later internal_later t is.read.linked tree_stays
 
   read_later : IsGroupRead new.bytes t

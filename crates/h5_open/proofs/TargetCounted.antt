@@ -1,46 +1,42 @@
 -- An array of an opened image to which one link more leads, or one less: its header counts them, and all else of it stays.
-use Rattle.std.proofs.Common.{◌≡◌, ℕ, ◌+◌, ◌≤◌, ◌==◌, true, false, Bool, List, [], ◌∷◌, ◌++◌, length, refl, sym, ap, ◌∙◌, subst, arith, Option, Some, None}
+use Rattle.std.proofs.Common.{◌≡◌, ℕ, ◌+◌, ◌≤◌, ◌==◌, true, false, Bool, List, [], ◌∷◌, ◌++◌, length, refl, ap, ◌∙◌, arith, Option, Some, None}
 use Rattle.std.specs.Prelude.{slice_get, ◌||◌}
 use Rattle.std.specs.Ordering.{nat_cmp}
 use Rattle.std.specs.BTreeMap.{BTreeMap}
 use Rattle.std.specs.FinMap.{FinMap}
 use Rattle.std.specs.List.{flat_map}
 use Rattle.std.proofs.lemmas.Bool.Decides.{nat_tests}
-use Rattle.h5_bytes.specs.Blocks.{block, cover, Keeps}
+use Rattle.h5_bytes.specs.Blocks.{cover, Keeps}
 use Rattle.h5_bytes.specs.declared.Block.{Block}
-use Rattle.h5_bytes.proofs.BlockLaws.{all_so, cover-append, holds_join}
+use Rattle.h5_bytes.proofs.BlockLaws.{cover-append, holds_join}
 use Rattle.h5_model.specs.Format.Addresses.{SymbolTable}
-use Rattle.h5_model.specs.Format.Messages.{Message, first_size, prefix_at, reference_count}
+use Rattle.h5_model.specs.Format.Messages.{Message, prefix_at, reference_count}
 use Rattle.h5_model.specs.Format.Superblock.{end_field}
-use Rattle.h5_model.specs.Tree.Objects.{Content, Array, Links}
-use Rattle.h5_model.proofs.Frames.{front-same}
+use Rattle.h5_model.specs.Tree.Objects.{Links}
 use Rattle.h5_space.specs.Moves.{Moves}
 use Rattle.h5_space.specs.Space.{Space}
 use Rattle.h5_space.specs.Whole.{IsApart}
 use Rattle.h5_space.proofs.MovesLaws.{moves_apart, moves_beside, moves_kept, moves_same, moves_then}
 use Rattle.h5_header.specs.Listed.{messages_in}
 use Rattle.h5_header.specs.Standing.{IsStanding}
-use Rattle.h5_header.proofs.KeptLaws.{header-same, listed-same}
+use Rattle.h5_header.proofs.BlockPuts.{count_kept, standing_kept}
+use Rattle.h5_header.proofs.KeptLaws.{listed-same}
 use Rattle.h5_group.specs.Told.{blocks_told}
-use Rattle.h5_layout.specs.Data.{data_blocks, dataset_told}
-use Rattle.h5_layout.specs.Told.{array_told, layout_told, type_told}
 use Rattle.h5_open.specs.declared.opened.object.OpenedObject.{OpenedObject}
-use Rattle.h5_open.specs.declared.opened.object.OpenedContent.{OpenedContent}
 use Rattle.h5_open.specs.declared.opened.object.OpenedContent.TheVariants as content
 use Rattle.h5_open.specs.ChangedInPlace.{is_among}
-use Rattle.h5_open.specs.Opened.Headers.{object_with}
-use Rattle.h5_open.specs.Opened.Kept.{IsContentKept, IsObjectKept, IsOpened, IsContentTrimmed}
-use Rattle.h5_open.specs.Opened.Objects.{content_blocks, content_in, header_of, object_blocks, object_in, objects_of}
+use Rattle.h5_open.specs.Opened.Kept.{IsObjectKept, IsOpened}
+use Rattle.h5_open.specs.Opened.Objects.{header_of, object_blocks, object_in, objects_of}
 use Rattle.h5_open.specs.SlotsInPlace.{blocks_at, chosen_slots}
-use Rattle.h5_open.proofs.DataLaws.{data_blocks-same, data_inside, data_read-same, dataset_told-same}
+use Rattle.h5_open.proofs.ArrayStays.{array_blocks, array_data, array_kept, array_parts, array_same, data_of}
 use Rattle.h5_open.proofs.GroupRelinked.{IsGroupRelinked, both_moves, linked_grown}
+use Rattle.h5_open.proofs.HeaderInPlace.{header_standing}
 use Rattle.h5_open.proofs.OpenedLaws.Sounds.{object_of}
 use Rattle.h5_open.proofs.TouchedBlocks.{blocks_of_slot, group_blocks, touched_cover}
-use Rattle.h5_open.proofs.TrimmedKept.{trimmed-same}
 
 -- ---- two objects
 
-chosen_cover : (image : List ℕ) (q : ℕ) (touched : ℕ → Bool) (n : ℕ) (slots : List (Option OpenedObject))
+pub chosen_cover : (image : List ℕ) (q : ℕ) (touched : ℕ → Bool) (n : ℕ) (slots : List (Option OpenedObject))
     → cover q (flat_map (object_blocks image) (chosen_slots touched n slots)) ≤ cover q (flat_map (object_blocks image) (objects_of slots))
 chosen_cover image q touched n [] = omega arith
 chosen_cover image q touched n (None ∷ slots) = chosen_cover image q touched (n + 1) slots
@@ -131,7 +127,7 @@ module _ (old mid set new : Space) (slots : List (Option OpenedObject)) (numbers
   header = o.messages.blocks
 
   abbrev cells : List Block
-  cells = data_blocks old.bytes (type_told ms) (layout_told ms)
+  cells = data_of old.bytes o
 
   abbrev links : List Block
   links = blocks_told old.bytes t
@@ -139,11 +135,8 @@ module _ (old mid set new : Space) (slots : List (Option OpenedObject)) (numbers
   kept : IsObjectKept old.bytes o
   kept = (object_of old slots numbers opened number o its.target).kept
 
-  kept_array : IsContentKept old.bytes ms content.Array
-  kept_array = subst (IsContentKept old.bytes ms) its.array kept.content
-
   blocks_before : object_blocks old.bytes o ≡ header ++ cells
-  blocks_before = ap (λ (c : OpenedContent). header ++ content_blocks old.bytes ms c) its.array
+  blocks_before = array_parts old.bytes o kept its.array
 
   group_before : object_blocks old.bytes p ≡ p.messages.blocks ++ links
   group_before = group_blocks old.bytes p t is.kind
@@ -215,7 +208,7 @@ module _ (old mid set new : Space) (slots : List (Option OpenedObject)) (numbers
         cover-append q (header ++ cells) (end_field old.bytes ∷ []),
         cover-append q header cells,
       ))
-      (data_inside old.bytes (type_told ms) (layout_told ms) kept_array.1)
+      (array_data old.bytes o kept its.array)
 
   grown : length old.bytes ≤ length new.bytes
   grown = linked_grown old mid new slots numbers opened parent p t header change is
@@ -228,69 +221,25 @@ module _ (old mid set new : Space) (slots : List (Option OpenedObject)) (numbers
       ∙ its.messages
       ∙ listed-same old.bytes mid.bytes o.messages kept.header.has kept.header.within header_mid
 
-  pub count_mid : reference_count (prefix_at mid.bytes (header_of o)) ≡ reference_count (prefix_at old.bytes (header_of o))
-  count_mid =
-      let laid : Keeps old.bytes mid.bytes (block (header_of o) (16 + first_size (prefix_at old.bytes (header_of o))) ∷ []) = (
-        (subst (Keeps old.bytes mid.bytes) kept.header.has.laid header_mid).0,
-        tt,
-      ) in
-      ap reference_count (front-same old.bytes mid.bytes (header_of o) (16 + first_size (prefix_at old.bytes (header_of o))) 16 (omega arith) laid.0)
+  standing_now : IsStanding new.bytes o.messages
+  standing_now = standing_kept set.bytes new.bytes o.messages its.ended.grown its.standing header_new
 
-  count_set : reference_count (prefix_at new.bytes (header_of o)) ≡ reference_count (prefix_at set.bytes (header_of o))
-  count_set =
-      let laid : Keeps set.bytes new.bytes (block (header_of o) (16 + first_size (prefix_at set.bytes (header_of o))) ∷ []) = (
-        (subst (Keeps set.bytes new.bytes) its.standing.has.laid header_new).0,
-        tt,
-      ) in
-      ap reference_count (front-same set.bytes new.bytes (header_of o) (16 + first_size (prefix_at set.bytes (header_of o))) 16 (omega arith) laid.0)
+  pub count_mid : reference_count (prefix_at mid.bytes (header_of o)) ≡ reference_count (prefix_at old.bytes (header_of o))
+  count_mid = count_kept old.bytes mid.bytes o.messages (header_standing old slots numbers opened number o its.target) header_mid
 
   pub target_counts : reference_count (prefix_at new.bytes (header_of o)) ≡ count
-  target_counts = count_set ∙ its.counted
+  target_counts = count_kept set.bytes new.bytes o.messages its.standing header_new ∙ its.counted
 
   -- ---- the object
 
-  content_now : IsContentKept new.bytes ms' o.content
-  content_now = subst (IsContentKept new.bytes ms') (sym its.array) (subst (λ (l : List Message). IsContentKept new.bytes l content.Array) (sym list_stays)
-      (kept_array.0, data_read-same old.bytes new.bytes grown (type_told ms) (layout_told ms) kept_array.1 data_new))
-
-  trimmed_now : IsContentTrimmed old.bytes ms o.content → IsContentTrimmed new.bytes ms' o.content
-  trimmed_now was =
-      let before : IsContentTrimmed old.bytes ms content.Array = subst (IsContentTrimmed old.bytes ms) its.array was in
-      subst (IsContentTrimmed new.bytes ms') (sym its.array) (subst (λ (l : List Message). IsContentTrimmed new.bytes l content.Array) (sym list_stays)
-      (λ chunked. trimmed-same old.bytes new.bytes grown (array_told ms) kept_array.1 data_new (array_told ms).sizes (before chunked)))
-
-  set_grown : length set.bytes ≤ length new.bytes
-  set_grown = its.ended.grown
-
   pub target_kept : IsObjectKept new.bytes o
-  target_kept = record {
-    header = record {
-      has = header-same set.bytes new.bytes o.messages its.standing.has its.standing.within header_new;
-      inside = all_so (λ (b : Block). b.at + b.len ≤ length set.bytes) (λ (b : Block). b.at + b.len ≤ length new.bytes) header (λ b low. omega (arith, low, set_grown)) its.standing.inside;
-      within = all_so (λ m. m.at + m.size ≤ length set.bytes) (λ m. m.at + m.size ≤ length new.bytes) o.messages.list (λ m low. omega (arith, low, set_grown)) its.standing.within;
-      names = rw list_stays kept.header.names;
-      attributes = rw list_stays kept.header.attributes;
-    };
-    known = kept.known;
-    content = content_now;
-    trimmed = λ known. trimmed_now (kept.trimmed known);
-  }
+  target_kept = array_kept old.bytes o kept its.array new.bytes grown standing_now list_stays data_new
 
   pub target_blocks : object_blocks new.bytes o ≡ object_blocks old.bytes o
-  target_blocks =
-      ap (λ (c : OpenedContent). header ++ content_blocks new.bytes ms' c) its.array
-      ∙ ap (λ (l : List Message). header ++ content_blocks new.bytes l content.Array) list_stays
-      ∙ ap (λ (bs : List Block). header ++ bs) (data_blocks-same old.bytes new.bytes grown (type_told ms) (layout_told ms) kept_array.1 data_new)
-      ∙ sym blocks_before
+  target_blocks = array_blocks old.bytes o kept its.array new.bytes grown standing_now list_stays data_new
 
   pub target_parts : object_blocks old.bytes o ≡ header ++ cells
   target_parts = blocks_before
 
   pub target_same : (table : FinMap nat_cmp ℕ) → object_in new.bytes table o ≡ object_in old.bytes table o
-  target_same table =
-      let content_is : content_in new.bytes table ms' o.content ≡ content_in old.bytes table ms o.content
-      = ap (content_in new.bytes table ms') its.array
-      ∙ ap (λ (l : List Message). Array (dataset_told new.bytes (array_told l))) list_stays
-      ∙ ap Array (dataset_told-same old.bytes new.bytes grown (array_told ms) kept_array.1 data_new)
-      ∙ sym (ap (content_in old.bytes table ms) its.array) in
-      ap (λ (c : Content). object_with c ms') content_is ∙ ap (object_with (content_in old.bytes table ms o.content)) list_stays
+  target_same = array_same old.bytes o kept its.array new.bytes grown standing_now list_stays data_new

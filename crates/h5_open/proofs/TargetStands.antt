@@ -1,19 +1,18 @@
 -- The header of an array still stands where the links of a group were changed.
-use Rattle.std.proofs.Common.{◌≡◌, ℕ, ◌+◌, ◌≤◌, List, [], ◌∷◌, length, ap, subst, arith, Option, Some}
+use Rattle.std.proofs.Common.{◌≡◌, ℕ, List, ap, arith, Option, Some}
 use Rattle.std.specs.Prelude.{slice_get}
 use Rattle.std.specs.BTreeMap.{BTreeMap}
-use Rattle.h5_bytes.specs.Blocks.{block, cover, Keeps}
-use Rattle.h5_bytes.specs.declared.Block.{Block}
-use Rattle.h5_bytes.proofs.BlockLaws.{all_so, cover-append}
+use Rattle.h5_bytes.specs.Blocks.{cover, Keeps}
+use Rattle.h5_bytes.proofs.BlockLaws.{cover-append}
 use Rattle.h5_model.specs.Format.Addresses.{SymbolTable}
-use Rattle.h5_model.specs.Format.Messages.{first_size, prefix_at, reference_count}
-use Rattle.h5_model.proofs.Frames.{front-same}
+use Rattle.h5_model.specs.Format.Messages.{prefix_at, reference_count}
 use Rattle.h5_space.specs.Moves.{Moves}
 use Rattle.h5_space.specs.Space.{Space}
 use Rattle.h5_space.proofs.MovesLaws.{moves_kept}
 use Rattle.h5_header.specs.Listed.{messages_in}
 use Rattle.h5_header.specs.Standing.{IsStanding}
-use Rattle.h5_header.proofs.KeptLaws.{header-same}
+use Rattle.h5_header.proofs.BlockPuts.{count_kept, standing_kept}
+use Rattle.h5_header.proofs.KeptLaws.{listed-same}
 use Rattle.h5_group.specs.Told.{blocks_told}
 use Rattle.h5_open.specs.declared.opened.object.OpenedObject.{OpenedObject}
 use Rattle.h5_open.specs.declared.opened.object.OpenedContent.TheVariants as content
@@ -44,18 +43,12 @@ module _ (old : Space) (slots : List (Option OpenedObject)) (numbers : BTreeMap 
       was.inside
 
   pub still_standing : IsStanding mid.bytes o.messages
-  still_standing = record {
-    has = header-same old.bytes mid.bytes o.messages was.has was.within stays;
-    inside = all_so (λ (b : Block). b.at + b.len ≤ length old.bytes) (λ (b : Block). b.at + b.len ≤ length mid.bytes) o.messages.blocks (λ b low. omega (arith, low, moves.grown)) was.inside;
-    within = all_so (λ m. m.at + m.size ≤ length old.bytes) (λ m. m.at + m.size ≤ length mid.bytes) o.messages.list (λ m low. omega (arith, low, moves.grown)) was.within;
-    separate = was.separate;
-  }
+  still_standing = standing_kept old.bytes mid.bytes o.messages moves.grown was stays
+
+  -- it has the same messages
+  pub still_listed : messages_in mid.bytes o.messages.list ≡ messages_in old.bytes o.messages.list
+  still_listed = listed-same old.bytes mid.bytes o.messages was.has was.within stays
 
   -- and it counts as many links
   pub still_counted : reference_count (prefix_at mid.bytes (header_of o)) ≡ reference_count (prefix_at old.bytes (header_of o))
-  still_counted =
-      let laid : Keeps old.bytes mid.bytes (block (header_of o) (16 + first_size (prefix_at old.bytes (header_of o))) ∷ []) = (
-        (subst (Keeps old.bytes mid.bytes) was.has.laid stays).0,
-        tt,
-      ) in
-      ap reference_count (front-same old.bytes mid.bytes (header_of o) (16 + first_size (prefix_at old.bytes (header_of o))) 16 (omega arith) laid.0)
+  still_counted = count_kept old.bytes mid.bytes o.messages was stays

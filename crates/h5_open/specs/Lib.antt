@@ -10,6 +10,8 @@ pub mod ChangedInPlace
 pub mod SlotsInPlace
 pub mod LinkAdded
 pub mod LinkTaken
+pub mod Losses
+pub mod LostLinks
 pub mod ObjectAdded
 pub mod Written
 pub mod Resized

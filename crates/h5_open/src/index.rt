@@ -1,11 +1,13 @@
 //! What is kept of an opened image: its objects, and the table of their numbers (File Format Specification 3.0, section IV.A).
 
-ghost use Rattle.std.specs.Prelude.{◌≡◌, ◌^◌, ◌<◌, [], ◌∷◌, ◌++◌, IfSome, IfNone, IfErr, OnErr, OnOk, Some, None, length, slice_get, slice_set};
+ghost use Rattle.std.specs.Prelude.{◌≡◌, ℕ, ◌^◌, ◌<◌, [], ◌∷◌, ◌++◌, IfSome, IfNone, IfErr, OnErr, OnOk, Some, None, length, slice_get, slice_set};
 ghost use Rattle.std.specs.BTreeMap.{Updates};
-ghost use Rattle.std.specs.List.{Contains};
-ghost use Rattle.std.specs.Ordering.{nat_cmp};
+ghost use Rattle.std.specs.List.{Contains, IsDistinct};
+ghost use Rattle.std.specs.Ordering.{eq_by_cmp, nat_cmp};
 ghost use Rattle.h5_open.specs.declared.opened.object.OpenedObject.{OpenedObject};
-ghost use Rattle.h5_open.specs.Opened.Objects.{headers, objects_of};
+ghost use Rattle.h5_open.specs.LinkTaken.{AreSlotsCleared, IsOwnTable};
+ghost use Rattle.h5_open.specs.Opened.Kept.{IsIndex};
+ghost use Rattle.h5_open.specs.Opened.Objects.{headers, objects_of, table_of};
 ghost use Rattle.h5_open.specs.Walk.{IsNumbered};
 
 use crate::opened::OpenedObject;
@@ -75,8 +77,23 @@ pub(crate) fn keep(index: &mut Index, object: OpenedObject) -> Result<(), AllocE
     Ok(())
 }
 
+/// Takes the objects of these numbers out. Their slots stay empty, and their headers have no numbers any more. Takes no memory.
+pub(crate) fn clear_all(index: &mut Index, gone: &[u32])
+    requires there { (n : ℕ) → Contains gone.now n
+        → (o : OpenedObject) × (slice_get index.old.objects.items n ≡ Some (Some o)) }
+    requires once { IsDistinct (eq_by_cmp nat_cmp) gone.now }
+    requires index { IsIndex (table_of index.old.objects.items) index.old.numbers }
+    requires own { IsOwnTable (table_of index.old.objects.items) }
+    ensures slots { AreSlotsCleared index.old.objects.items index.new.objects.items gone.now }
+    ensures index { IsIndex (table_of index.new.objects.items) index.new.numbers }
+{
+    for &number in gone {
+        clear(index, number);
+    }
+}
+
 /// Takes the object of this number out. Its slot stays empty, and its header has no number any more. Takes no memory.
-pub(crate) fn clear(index: &mut Index, number: u32)
+fn clear(index: &mut Index, number: u32)
     requires there { (o : OpenedObject) × (slice_get index.old.objects.items number ≡ Some (Some o)) }
     ensures slots { index.new.objects.items ≡ slice_set index.old.objects.items number None }
     ensures numbers { (o : OpenedObject) → slice_get index.old.objects.items number ≡ Some (Some o)

@@ -2,7 +2,7 @@
 //! IV.A).
 
 ghost use Rattle.std.specs.Prelude.{◌≡◌, ◌⊎◌, ℕ, ◌+◌, ◌*◌, ◌^◌, ◌≤◌, Some, length, map, IfOk, IfErr, OnOk};
-ghost use Rattle.h5_bytes.specs.Blocks.{Separate, cover};
+ghost use Rattle.h5_bytes.specs.Blocks.{Separate};
 ghost use Rattle.h5_model.specs.Format.Superblock.{IsSuperblock};
 ghost use Rattle.h5_model.specs.Tree.Places.{cells as cells_of};
 ghost use Rattle.h5_space.specs.Claimed.{HasClaimed};
@@ -27,7 +27,7 @@ use h5_header::{Messages, ObjectKind, claim};
 use h5_layout::{ArrayRef, Dims, Layout, known_array};
 use h5_model::{Cause, Fixed, Link, OpenFault};
 use h5_space::{Claims, Image, fault};
-use std::alloc::{AllocError, Global};
+use std::alloc::Global;
 
 /// How many links below the root the last objects may stand.
 const LAST: u8 = 64;
@@ -206,35 +206,8 @@ fn claim_chunks(
     read_chunks(alloc, image, claims, &shape, root)
 }
 
-/// The blocks of an object that is kept, as claims of their own: those of its header, and those of its group or of the data of its array.
-///
-/// Its tree is read again for that, which takes memory for the nodes and leaves of this tree, and for the claims.
-///
-/// # Errors
-///
-/// `AllocError` if the blocks cannot all be claimed. Of an object of an opened image that is want of memory alone: its blocks are sound,
-/// and no two of them share a byte. No clause says so.
-pub(crate) fn claims_of(
-    alloc: Global,
-    image: &Image,
-    object: &OpenedObject,
-) -> Result<Claims, AllocError>
-    requires superblock { IsSuperblock image.now.bytes }
-    requires kept { IsObjectKept image.now.bytes object.now }
-    ensures blocks { IfOk result (λ claims. (p : ℕ)
-        → cover p claims.held ≡ cover p (object_blocks image.now.bytes object.now)) }
-    ensures separate { IfOk result (λ claims. Separate claims.held) }
-    ensures end { IfOk result (λ claims. claims.end ≡ length image.now.bytes) }
-{
-    let mut claims = Claims::new(alloc, image.bytes().len() as u64);
-    match claim_object(alloc, image, &mut claims, object) {
-        Ok(()) => Ok(claims),
-        Err(_) => Err(AllocError),
-    }
-}
-
 /// Claims the blocks of an object that is kept, and refuses them as `claim`, `read_group` and `read_chunks` do.
-fn claim_object(
+pub(crate) fn claim_object(
     alloc: Global,
     image: &Image,
     claims: &mut Claims,

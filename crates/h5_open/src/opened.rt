@@ -4,6 +4,7 @@ mod added;
 mod attributes;
 mod end;
 mod links;
+mod losses;
 mod object;
 mod resized;
 mod storage;

@@ -47,10 +47,10 @@ at_group tree path names at h low there =
 
 -- ---- a path to a group
 
-abbrev path_table : Bool → Bool → Located → Option EditFault
+abbrev pub path_table : Bool → Bool → Located → Option EditFault
 path_table bad deep at = first_holding ((BadPath, bad) ∷ (PathTooDeep, deep) ∷ (NoSuchParent, has_no_parent at) ∷ (NotAGroup, has_no_group at) ∷ (NotFound, is_missing at) ∷ [])
 
-abbrev list_table : Bool → Bool → Located → Bool → Option EditFault
+abbrev pub list_table : Bool → Bool → Located → Bool → Option EditFault
 list_table bad deep at other =
     first_holding ((BadPath, bad) ∷ (PathTooDeep, deep) ∷ (NoSuchParent, has_no_parent at) ∷ (NotAGroup, has_no_group at || (is_here at && other)) ∷ (NotFound, is_missing at) ∷ [])
 

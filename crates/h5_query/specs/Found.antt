@@ -32,7 +32,7 @@ pub record HasFound (tree : Tree) (path : List ℕ) (found : Found) : Type 0 whe
   pub accepted : first_holding (path_rules tree path) ≡ None
   pub there : IsFoundAs tree (located tree path) found
 
--- memory was short, or the rules refuse the path
+-- the rules refuse the path, or none does and memory was short
 abbrev pub IsUnfound : Tree → List ℕ → EditFault → Type 0
-IsUnfound tree path fault.NoMemory = Unit {0}
+IsUnfound tree path fault.NoMemory = first_holding (path_rules tree path) ≡ None
 IsUnfound tree path e = first_holding (path_rules tree path) ≡ Some e

@@ -53,9 +53,9 @@ pub record HasLinksNamed (tree : Tree) (path : List ℕ) (names : List (List ℕ
   pub accepted : first_holding (list_rules tree path) ≡ None
   pub listed : names ≡ listed_names tree path
 
--- memory was short, or the rules refuse the path
+-- the rules refuse the path, or none does and memory was short
 abbrev pub IsListRefused : Tree → List ℕ → EditFault → Type 0
-IsListRefused tree path fault.NoMemory = Unit {0}
+IsListRefused tree path fault.NoMemory = first_holding (list_rules tree path) ≡ None
 IsListRefused tree path e = first_holding (list_rules tree path) ≡ Some e
 
 -- a dataset stands there, which has this value at the index
@@ -77,9 +77,9 @@ pub record HasAttributesOf (tree : Tree) (path : List ℕ) (attributes : List (L
   pub found : option_and_then (get tree) (object_at tree path) ≡ Some object
   pub listed : attributes ≡ entries object.attributes
 
--- memory was short, or the rules refuse the path
+-- the rules refuse the path, or none does and memory was short
 abbrev pub IsUnlisted : Tree → List ℕ → EditFault → Type 0
-IsUnlisted tree path fault.NoMemory = Unit {0}
+IsUnlisted tree path fault.NoMemory = first_holding (object_rules tree path) ≡ None
 IsUnlisted tree path e = first_holding (object_rules tree path) ≡ Some e
 
 -- the object there has this attribute

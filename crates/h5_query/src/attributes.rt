@@ -17,7 +17,8 @@ use std::alloc::Global;
 ///
 /// # Errors
 ///
-/// Those of [`crate::look`]; `NotFound` if a soft link stands at the path; `NoMemory` if memory is refused.
+/// Those of [`crate::look`]; `NotFound` if a soft link stands at the path; last, `NoMemory`: memory is refused. No other
+/// refusal holds then.
 pub fn names_of_attributes<'a>(
     alloc: Global,
     opened: &'a Opened,

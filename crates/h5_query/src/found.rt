@@ -31,7 +31,7 @@ pub enum Found<'a> {
 ///
 /// # Errors
 ///
-/// Those of [`crate::look`], and `NoMemory` if memory is refused.
+/// Those of [`crate::look`]; last, `NoMemory`: memory is refused. No other refusal holds then.
 pub fn found_at<'a>(alloc: Global, opened: &'a Opened, path: &[u8]) -> Result<Found<'a>, EditFault>
     ensures { let tree = opened.now.tree in
         MatchResult result (HasFound tree path.now) (IsUnfound tree path.now) }

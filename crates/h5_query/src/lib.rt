@@ -23,7 +23,7 @@ pub use group::{links_of, tree_links};
 pub use h5_open::{
     ArrayRef, AttrRef, ContentBytes, Dims, Layout, MAX_RANK, ObjectBytes, Opened, OpenedContent,
     OpenedObject, Piece, Runs, StandingCells, StoredArray, SymbolTable, Values, entries, get,
-    has_links, known_array, new_body, sorted,
+    known_array, new_body, sorted,
 };
 pub use h5_shape::{Slab, SlabFault};
 pub use kind::{Kind, StoreKind};

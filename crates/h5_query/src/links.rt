@@ -99,7 +99,8 @@ fn store_kind(alloc: Global, layout: &Layout<'_>) -> StoreKind
 ///
 /// # Errors
 ///
-/// Those of [`crate::look`]; `NotAGroup` if no group stands at the path; `NoMemory` if memory is refused.
+/// Those of [`crate::look`]; `NotAGroup` if no group stands at the path; last, `NoMemory`: memory is refused. No other
+/// refusal holds then.
 pub fn names_at<'a>(
     alloc: Global,
     opened: &'a Opened,

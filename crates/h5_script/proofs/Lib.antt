@@ -1,4 +1,5 @@
 pub mod Known
+pub mod Wholes
 pub mod LineLaws
 pub mod RunLaws
 pub mod LineRuns
@@ -6,4 +7,3 @@ pub mod PieceLaws
 pub mod ScriptRuns
 pub mod LineAnswers
 pub mod ViewAnswers
-pub mod Sounds

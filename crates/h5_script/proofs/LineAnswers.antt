@@ -165,16 +165,21 @@ dump_refused s path f refused = record {
   outcome_is = rw refused refl;
 }
 
-dump_no_memory : (s : SessionState) (path : List ℕ) → IsAnswered s (Dump path) s (refused_text fault.NoMemory) Refused
+dump_no_memory : (s : SessionState) (path : List ℕ) → first_holding (path_rules s.file.tree path) ≡ None → IsAnswered s (Dump path) s (refused_text fault.NoMemory) Refused
 unfolding answer_at IsGivenAt
-dump_no_memory s path = record { given = Some fault.NoMemory; run = record { allowed = tt; session_is = refl; left = refl }; text_is = refl; outcome_is = refl }
+dump_no_memory s path accepted = record {
+  given = Some fault.NoMemory;
+  run = record { allowed = tt; session_is = rw accepted refl; left = rw accepted refl };
+  text_is = rw accepted refl;
+  outcome_is = rw accepted refl;
+}
 
 -- a dump that was refused, before anything was written
 pub dump_undumped : (s : SessionState) (path : List ℕ) (old new : Option (List ℕ)) (f : EditFault) → IsUndumped s.file.tree path old new (dump.Refused f)
     → IsAnswered s (Dump path) s (refused_text f) Refused
-dump_undumped s path old new fault.NoMemory is = dump_no_memory s path
+dump_undumped s path old new fault.NoMemory is = dump_no_memory s path is.0
 dump_undumped s path old new f is = dump_refused s path f is.0
 
 pub undumped_same : (s : SessionState) (path : List ℕ) (old new : Option (List ℕ)) (f : EditFault) → IsUndumped s.file.tree path old new (dump.Refused f) → new ≡ old
-undumped_same s path old new fault.NoMemory is = is
+undumped_same s path old new fault.NoMemory is = is.1
 undumped_same s path old new f is = is.1

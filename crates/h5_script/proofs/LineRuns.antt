@@ -20,6 +20,7 @@ use Rattle.h5_text.specs.declared.streams.PrintFault.{PrintFault}
 use Rattle.h5_text.specs.declared.streams.PrintFault.TheVariants.{WriteFailed}
 use Rattle.h5_text.specs.declared.streams.PrintFault.TheVariants as print
 use Rattle.h5_script.proofs.Known.{appends_none}
+use Rattle.h5_script.proofs.Wholes.{whole_behind}
 
 abbrev line_with : Command → Given → SessionState → Line
 line_with command given after = record { command = command; given = given; after = after }
@@ -39,6 +40,7 @@ one_run s line old new run written = record {
   asked_are = refl;
   each = (run, refl);
   session_is = run.session_is;
+  whole = whole_behind s line run;
   written = subst (λ (told : List ℕ). Appends old new told) (one_text s line) written;
 }
 
@@ -65,6 +67,7 @@ line_cut s t command text outcome old new answered some = has_begun_one (command
   asked_are = refl;
   run = answered.run;
   after_is = refl;
+  whole = whole_behind s (line_with command answered.given t) answered.run;
   written = subst (λ (told : List ℕ). WritesSome old new told) answered.text_is some;
 })
 
@@ -76,6 +79,7 @@ line_untold s t command known untold = has_begun_one (command ∷ []) s t known 
   asked_are = refl;
   run = untold.run;
   after_is = refl;
+  whole = whole_behind s (line_with command untold.given t) untold.run;
   written = record {
     told = [];
     untold = (answer_at s command untold.given).text;

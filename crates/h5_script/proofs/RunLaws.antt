@@ -13,6 +13,7 @@ use Rattle.h5_script.specs.Answered.{Line}
 use Rattle.h5_script.specs.Runs.{commands_in, asked_in, AreRun, HasRun, HasCounted, HasBegun, IsPartlyTold}
 use Rattle.h5_script.specs.declared.ran.Ran.{Ran}
 use Rattle.h5_script.proofs.Known.{appends_none, appends_more, keeps_all}
+use Rattle.h5_script.proofs.Wholes.{whole_after}
 
 are_run-append : (s m t : SessionState) (first others : List Line) → AreRun s first m → AreRun m others t → AreRun s (first ++ others) t
 unfolding AreRun
@@ -32,7 +33,7 @@ Known = Option (List ℕ)
 
 pub has_run_none : (s : SessionState) (known : Known) → HasRun [] s s known known
 unfolding AreRun session_after transcript_of
-has_run_none s known = record { lines = []; asked_are = refl; each = refl; session_is = refl; written = appends_none known }
+has_run_none s known = record { lines = []; asked_are = refl; each = refl; session_is = refl; whole = whole_after s s [] refl; written = appends_none known }
 
 -- lines behind lines, the first of which led to this session
 module _ (s m : SessionState) (first others : List Line) (is : session_of m ≡ session_after (session_of s) (asked_in first)) where
@@ -65,14 +66,17 @@ module _ (s m : SessionState) (first others : List Line) (is : session_of m ≡ 
       omega (arith, all, one, two)
 
 pub has_run_more : (asked more : List Command) (s m t : SessionState) (old mid new : Known) → HasRun asked s m old mid → HasRun more m t mid new → HasRun (asked ++ more) s t old new
-has_run_more asked more s m t old mid new one two = record {
-  lines = one.lines ++ two.lines;
-  asked_are = commands_in-append one.lines two.lines ∙ ap (λ commands. commands ++ commands_in two.lines) one.asked_are ∙ ap (λ commands. asked ++ commands) two.asked_are;
-  each = are_run-append s m t one.lines two.lines one.each two.each;
-  session_is = two.session_is ∙ session_more s m one.lines two.lines one.session_is;
-  written = subst (λ (text : List ℕ). Appends old new text) (text_more s m one.lines two.lines one.session_is)
-      (appends_more old mid new _ _ one.written two.written);
-}
+has_run_more asked more s m t old mid new one two =
+    let each = are_run-append s m t one.lines two.lines one.each two.each in
+    record {
+      lines = one.lines ++ two.lines;
+      asked_are = commands_in-append one.lines two.lines ∙ ap (λ commands. commands ++ commands_in two.lines) one.asked_are ∙ ap (λ commands. asked ++ commands) two.asked_are;
+      each = each;
+      session_is = two.session_is ∙ session_more s m one.lines two.lines one.session_is;
+      whole = whole_after s t (one.lines ++ two.lines) each;
+      written = subst (λ (text : List ℕ). Appends old new text) (text_more s m one.lines two.lines one.session_is)
+          (appends_more old mid new _ _ one.written two.written);
+    }
 
 pub has_counted_none : (s : SessionState) (known : Known) (counts : Ran) → HasCounted [] s s known known counts counts
 unfolding has_run_none
@@ -119,6 +123,7 @@ partly_of asked more s t old new partly = record {
   asked_are = ap (λ commands. commands ++ more) partly.asked_are;
   run = partly.run;
   after_is = partly.after_is;
+  whole = partly.whole;
   written = partly.written;
 }
 

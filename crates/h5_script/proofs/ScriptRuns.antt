@@ -133,6 +133,7 @@ module _ (s : SessionState) (input old : Known) where
               asked_are = all.run.asked_are;
               each = all.run.each;
               session_is = all.run.session_is;
+              whole = all.run.whole;
               written = appends_kept old new last _ all.run.written kept;
             };
             refused = all.refused;
@@ -163,6 +164,7 @@ module _ (s : SessionState) (input old : Known) where
           asked_are = ran.run.asked_are;
           each = ran.run.each;
           session_is = ran.run.session_is;
+          whole = ran.run.whole;
           written = appends_kept now new last _ ran.run.written kept;
         })))
 

@@ -41,6 +41,11 @@ pub record IsRunIn (s : SessionState) (line : Line) : Type 0 where
   pub session_is : session_of line.after ≡ (answer_at s line.command line.given).session
   pub left : Leaves (answer_at s line.command line.given).outcome line.command s.file line.after.file
 
+-- the line is a `repack`, and it was accepted
+pub record IsAcceptedRepack (s : SessionState) (line : Line) : Type 0 where
+  pub command : line.command ≡ Repack
+  pub outcome : (answer_at s line.command line.given).outcome ≡ script.Accepted
+
 -- a line that asks for the command led from one session to another, and its answer is this text
 pub record IsAnswered (before : SessionState) (command : Command) (after : SessionState) (text : List ℕ) (outcome : Outcome) : Type 0 where
   pub given : Given

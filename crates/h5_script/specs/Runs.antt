@@ -4,8 +4,9 @@ use Rattle.std.specs.List.{count_by}
 use Rattle.std.specs.Io.KnownBytes.{Appends, Keeps}
 use Rattle.h5_model.specs.Scripts.Lines.{Command}
 use Rattle.h5_model.specs.Scripts.Answers.{Given, is_accepted, is_refused, outcomes_of, session_after, transcript_of}
+use Rattle.h5_dump.specs.Opened.Sound.{IsWholeFile}
 use Rattle.h5_dump.specs.Session.{SessionState, session_of}
-use Rattle.h5_script.specs.Answered.{Line, answer_at, IsRunIn, IsTold}
+use Rattle.h5_script.specs.Answered.{Line, answer_at, IsAcceptedRepack, IsRunIn, IsTold}
 use Rattle.h5_text.specs.Printed.{WritesSome}
 use Rattle.h5_text.specs.declared.streams.PrintFault.{PrintFault}
 use Rattle.h5_text.specs.declared.streams.PrintFault.TheVariants as print
@@ -27,13 +28,24 @@ unfoldable pub AreRun : SessionState → List Line → SessionState → Type 0
 AreRun before [] after = after ≡ before
 AreRun before (line ∷ lines) after = IsRunIn before line × AreRun line.after lines after
 
+-- a `repack` among the lines was accepted
+unfoldable pub HasAcceptedRepack : SessionState → List Line → Type 0
+HasAcceptedRepack before [] = ⊥
+HasAcceptedRepack before (line ∷ lines) = IsAcceptedRepack before line ⊎ HasAcceptedRepack line.after lines
+
+-- Nothing leaks: where the blocks of the file, those in use and the free ones, covered each byte of its image once before the lines, or a
+-- `repack` among them was accepted, they do behind them.
+abbrev pub LeavesWhole : SessionState → List Line → SessionState → Type 0
+LeavesWhole before lines after = IsWholeFile before.file ⊎ HasAcceptedRepack before lines → IsWholeFile after.file
+
 -- These commands were run, and their answers were written behind what stood there: the transcript of the lines in the session before them.
--- The session is the one that these lines lead to.
+-- The session is the one that these lines lead to, and nothing leaks on the way.
 pub record HasRun (asked : List Command) (before after : SessionState) (old new : Option (List ℕ)) : Type 0 where
   pub lines : List Line
   pub asked_are : commands_in lines ≡ asked
   pub each : AreRun before lines after
   pub session_is : session_of after ≡ session_after (session_of before) (asked_in lines)
+  pub whole : LeavesWhole before lines after
   pub written : Appends old new (transcript_of (session_of before) (asked_in lines))
 
 -- and their outcomes were counted
@@ -53,6 +65,7 @@ pub record IsPartlyTold (asked : List Command) (before after : SessionState) (ol
   pub asked_are : line.command ∷ others ≡ asked
   pub run : IsRunIn before line
   pub after_is : after ≡ line.after
+  pub whole : LeavesWhole before (line ∷ []) after
   pub written : WritesSome old new (answer_at before line.command line.given).text
 
 -- the first of these commands were run, and their answers were written; of the others at most one was run, whose answer was written

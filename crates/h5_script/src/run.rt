@@ -1,7 +1,8 @@
 //! A whole script, run line by line.
 
 ghost use Rattle.std.specs.Prelude.{◌<◌, MatchResult, length};
-ghost use Rattle.h5_dump.specs.Opened.Sound.{IsSound};
+ghost use Rattle.h5_dump.specs.Opened.Sound.{IsSound, IsWholeFile};
+ghost use Rattle.h5_dump.specs.Space.{IsSpaced};
 ghost use Rattle.h5_script.specs.Script.{IsDone, IsStopped};
 
 use crate::fault::RunFault;
@@ -59,6 +60,23 @@ fn run_pieces<R: Read, W: Write>(
     Err(RunFault::ScriptTooLong)
 }
 
+/// Runs a script, which is read into a buffer of its own.
+fn run_buffered<R: Read, W: Write>(
+    alloc: Global,
+    session: &mut Session,
+    input: &mut R,
+    output: &mut W,
+) -> Result<Ran, RunFault>
+    ensures { MatchResult result
+        (IsDone session.old session.new (R.remaining input.old) (R.remaining input.new)
+        (W.contents output.old) (W.contents output.new))
+        (IsStopped session.old session.new (R.remaining input.old) (R.remaining input.new)
+        (W.contents output.old) (W.contents output.new)) }
+{
+    let mut piece = vec![in alloc; 0u8; PIECE]?;
+    run_pieces(alloc, session, input, output, &mut piece)
+}
+
 /// Runs a script to its end, and answers how its lines count: how many were refused or bad, and how many edits were
 /// accepted.
 ///
@@ -85,9 +103,13 @@ pub fn run_script<R: Read, W: Write>(
         (IsStopped session.old session.new (R.remaining input.old) (R.remaining input.new)
         (W.contents output.old) (W.contents output.new)) }
     ensures sound { IsSound session.new.file }
+    // Free neighbours are joined.
+    ensures joined { IsSpaced session.new.file.free (length session.new.file.image) }
+    // Nothing leaks. Behind an accepted `repack` this holds whatever the file was before: `run` has it of the lines.
+    ensures whole { IsWholeFile session.old.file → IsWholeFile session.new.file }
 {
-    // What a session holds is sound.
+    let ran = run_buffered(alloc, session, input, output);
+    // What a session keeps to.
     let _image = session.file().image();
-    let mut piece = vec![in alloc; 0u8; PIECE]?;
-    run_pieces(alloc, session, input, output, &mut piece)
+    ran
 }

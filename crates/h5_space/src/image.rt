@@ -66,6 +66,14 @@ impl Image {
         self.bytes.as_slice()
     }
 
+    /// The free blocks, in the order of their addresses. None is empty, and neighbours are joined. Takes no memory.
+    pub fn free(&self) -> &[Block]
+        ensures blocks { result.now ≡ self.now.free }
+        ensures joined { IsSpaced self.now.free (length self.now.bytes) }
+    {
+        self.free.as_slice()
+    }
+
     /// Gives the bytes up as they are. Takes no memory.
     pub fn into_bytes(self) -> Vec<u8>
         ensures { result.items ≡ self.bytes }

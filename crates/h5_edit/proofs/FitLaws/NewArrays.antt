@@ -133,7 +133,7 @@ module _ (tree : Tree) (next : ℕ) (path : List ℕ) (spec : Spec) (accepted : 
   unfolding refusal_of
   accepted_spec =
       let rules = none_holds (rules_of tree next (CreateDataset path spec)) accepted in
-      let shaped = rules.1.1.1.1.1.1.1.1.1.1.1 in
+      let shaped = rules.1.1.1.1.1.1.1.1.1.1 in
       let parts = neither (nat_lt 32 (length spec.dims)) _ shaped.0 in
       let formed = both (are_maxima spec.dims spec.maxima) (is_store spec.store spec.dims spec.maxima) (true_of _ parts.1) in
       let limits = shaped.1.1.1.1.1.1.1 in

@@ -27,7 +27,7 @@ pub accepted_attribute : (tree : Tree) (next : ℕ) (path : List ℕ) (a : AttrS
 unfolding refusal_of
 accepted_attribute tree next path a accepted =
     let rules = none_holds (rules_of tree next (SetAttr path a)) accepted in
-    let shaped = rules.1.1.1.1.1.1.1.1.1.1.1 in
+    let shaped = rules.1.1.1.1.1.1.1.1.1.1 in
     let formed = neither (nat_lt 32 (length a.dims)) (is_no_text a.name) shaped.0 in
     let text = neither (length a.name == 0) (has_zero a.name) formed.1 in
     let ranked = formed.0 in

@@ -90,7 +90,7 @@ pub can_have : (f : FileState) (path dims : List ℕ) (a : Described) → refusa
 unfolding refusal_of
 can_have f path dims a accepted at =
     let rules = none_holds (rules_of f.tree f.next (Resize path dims)) accepted in
-    let sized = rules.1.1.1.1.1.1.1.1.1.1.1.1 in
+    let sized = rules.1.1.1.1.1.1.1.1.1.1.1 in
     let stored = sized.1.1.1.1 in
     let rank : (length dims == length a.sizes) ≡ true
     = true_of _ (sym (ap (λ o. option_map_or (λ (x : Dataset). not (length dims == length x.sizes)) o false) at) ∙ sized.0) in

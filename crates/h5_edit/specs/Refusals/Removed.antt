@@ -1,17 +1,10 @@
 -- Links that an unlink takes away where no rule of the tree refuses it (File Format Specification 3.0, sections III.C and IV.A.1.a).
-use Rattle.std.specs.Prelude.{◌≡◌, ℕ, Bool, false, nat_lt, Some, None, List}
-use Rattle.std.specs.FinMap.{len}
-use Rattle.std.specs.Option.{option_map_or}
+use Rattle.std.specs.Prelude.{◌≡◌, ℕ, Some, None, List}
 use Rattle.h5_model.specs.Edits.Refusal.{refusal_of}
-use Rattle.h5_model.specs.Tree.Objects.{Tree, Link, ToObject, Soft, Links, links_of, object_of}
+use Rattle.h5_model.specs.Tree.Objects.{Tree, Link, object_of}
 use Rattle.h5_model.specs.Tree.Paths.{Here, located, parent_at}
 use Rattle.h5_model.specs.declared.edits.Edit.TheVariants.{Unlink}
 use Rattle.h5_edit.specs.declared.rules.unlink.Removal.{Removal}
-
--- a link to a group that has links
-abbrev pub has_links_at : Tree → Link → Bool
-has_links_at tree (ToObject number) = option_map_or (λ (links : Links). nat_lt 0 (len links)) (links_of tree number) false
-has_links_at tree (Soft text) = false
 
 -- no rule refuses the unlink; this is the link at the path, and the object to which it leads
 pub record IsRemoval (tree : Tree) (next : ℕ) (path : List ℕ) (r : Removal) : Type 0 where
@@ -19,5 +12,4 @@ pub record IsRemoval (tree : Tree) (next : ℕ) (path : List ℕ) (r : Removal) 
   pub parent : parent_at tree path ≡ Some (r.parent, r.name.now)
   pub link : Link
   pub stands : located tree path ≡ Here link
-  pub bare : has_links_at tree link ≡ false
   pub leads : r.object ≡ object_of link

@@ -84,8 +84,8 @@ impl Session {
         self.file.soft_link(text, path)
     }
 
-    /// Takes the link at the path away. If it was the last hard link to an array, the views of that array stay open, and
-    /// show from then on that it is gone.
+    /// Takes the link at the path away, and what no path reaches then. The views of an array that goes with it stay open,
+    /// and show from then on that it is gone.
     ///
     /// # Errors
     ///

@@ -159,7 +159,7 @@ many_rule : (tree : Tree) (next : ℕ) (target path : List ℕ) → refusal_of t
 unfolding refusal_of
 many_rule tree next target path accepted =
     let rules = none_holds (rules_of tree next (HardLink target path)) accepted in
-    rules.1.1.1.1.1.1.1.1.1.1.1.1.1.1.1.1.1.1.1.1.1.1.1.1.1.0
+    rules.1.1.1.1.1.1.1.1.1.1.1.1.1.1.1.1.1.1.1.1.1.1.1.1.0
 
 -- ---- every edit
 

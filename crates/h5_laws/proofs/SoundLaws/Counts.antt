@@ -19,7 +19,7 @@ abbrev led_by : ℕ → Object → ℕ
 led_by n o = links_to n o.content
 
 -- an object that no link leads from
-abbrev empty_group : Object
+abbrev pub empty_group : Object
 empty_group = new_object (Group empty)
 
 -- ---- a link more, an object more
@@ -105,7 +105,7 @@ none_named tree n none =
 
 -- ---- an object that some link names
 
-content_some : (n : ℕ) (c : Content) → 1 ≤ links_to n c → (links : Links) × (name : List ℕ) × (c ≡ Group links) × (get links name ≡ Some (ToObject n))
+pub content_some : (n : ℕ) (c : Content) → 1 ≤ links_to n c → (links : Links) × (name : List ℕ) × (c ≡ Group links) × (get links name ≡ Some (ToObject n))
 content_some n (Array d) many = absurd (omega (arith, many))
 content_some n (Group links) many =
     let one = sum_some nat_list_cmp_total (adds n) links many in

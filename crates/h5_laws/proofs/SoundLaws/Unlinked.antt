@@ -5,8 +5,9 @@ use Rattle.std.specs.Option.{option_and_then, option_map_or}
 use Rattle.std.specs.FinMap.{get, insert, remove}
 use Rattle.h5_model.specs.Edits.Applied.{with_links, unlinked}
 use Rattle.h5_model.specs.Tree.Paths.{parent_at}
-use Rattle.h5_model.specs.Tree.Objects.{Tree, Object, Content, Group, Array, Links, Link, links_in, links_to, only_reached, with_object}
+use Rattle.h5_model.specs.Tree.Objects.{Tree, Object, Content, Group, Array, Links, Link, links_in, links_to, only_reached}
 use Rattle.h5_laws.specs.Trees.Sound.{IsSoundTree}
+use Rattle.h5_laws.specs.Trees.Unlinked.{without_link}
 use Rattle.h5_laws.proofs.SoundLaws.Alike.{links_at}
 use Rattle.h5_laws.proofs.SoundLaws.Counts.{fewer_removed}
 use Rattle.h5_laws.proofs.SoundLaws.Fewer.{IsFewer, sound_fewer}
@@ -61,15 +62,18 @@ no_more_links name o n = go o.content where
   go (Group links) = fewer_removed n links name
   go (Array d) = omega arith
 
-pub fewer_unlinked : (tree : Tree) (path : List ℕ) → IsFewer tree (unlinked tree path)
-fewer_unlinked tree path = at_parent (parent_at tree path) where
-  at_number : (number : ℕ) (name : List ℕ) (found : Option Object) → get tree number ≡ found → IsFewer tree (option_map_or (λ o. insert tree number (without name o)) found tree)
-  at_number number name None is = fewer_itself tree
-  at_number number name (Some o) is = fewer_put tree number o (without name o) is (still_group name o) (old_links name o) (no_more_links name o)
+-- a tree without one of a group's links
+pub fewer_without : (tree : Tree) (parent : ℕ) (name : List ℕ) → IsFewer tree (without_link tree parent name)
+fewer_without tree parent name = go (get tree parent) refl where
+  go : (found : Option Object) → get tree parent ≡ found → IsFewer tree (option_map_or (λ o. insert tree parent (without name o)) found tree)
+  go None is = fewer_itself tree
+  go (Some o) is = fewer_put tree parent o (without name o) is (still_group name o) (old_links name o) (no_more_links name o)
 
-  at_parent : (found : Option (ℕ × List ℕ)) → IsFewer tree (option_map_or (λ p. with_object tree p.0 (without p.1)) found tree)
-  at_parent None = fewer_itself tree
-  at_parent (Some p) = at_number p.0 p.1 (get tree p.0) refl
+fewer_unlinked : (tree : Tree) (path : List ℕ) → IsFewer tree (unlinked tree path)
+fewer_unlinked tree path = go (parent_at tree path) where
+  go : (found : Option (ℕ × List ℕ)) → IsFewer tree (option_map_or (λ p. without_link tree p.0 p.1) found tree)
+  go None = fewer_itself tree
+  go (Some p) = fewer_without tree p.0 p.1
 
 -- whichever link it is
 pub sound_unlinked : (tree : Tree) (path : List ℕ) → IsSoundTree tree → IsSoundTree (only_reached (unlinked tree path))

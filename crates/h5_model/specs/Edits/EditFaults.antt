@@ -4,7 +4,7 @@ use Rattle.std.specs.Fmt.{decimal}
 use Rattle.h5_model.specs.declared.edit_fault.EditFault.{EditFault}
 use Rattle.h5_model.specs.declared.edit_fault.EditFault.TheVariants as fault
 
--- the rules' numbers
+-- the rules' numbers; none is 11
 abbrev pub fault_number : EditFault → ℕ
 fault_number fault.BadPath = 1
 fault_number fault.PathTooDeep = 2
@@ -16,7 +16,6 @@ fault_number fault.AlreadyThere = 7
 fault_number fault.NameTooLong = 8
 fault_number fault.NotADataset = 9
 fault_number fault.GroupLink = 10
-fault_number fault.GroupNotEmpty = 11
 fault_number fault.BadSpec = 12
 fault_number fault.RankMismatch = 13
 fault_number fault.StrideZero = 14
@@ -49,7 +48,6 @@ fault_name fault.AlreadyThere = codes "AlreadyThere"
 fault_name fault.NameTooLong = codes "NameTooLong"
 fault_name fault.NotADataset = codes "NotADataset"
 fault_name fault.GroupLink = codes "GroupLink"
-fault_name fault.GroupNotEmpty = codes "GroupNotEmpty"
 fault_name fault.BadSpec = codes "BadSpec"
 fault_name fault.RankMismatch = codes "RankMismatch"
 fault_name fault.StrideZero = codes "StrideZero"

@@ -20,9 +20,8 @@ adds_entry (SoftLink text path) = true
 adds_entry (Write path hyper values) = true
 adds_entry _ = false
 
--- Want of memory may stand in place of any other refusal; what else is given comes behind the rules of the tree.
+-- what is given, want of memory too, comes behind the rules of the tree
 abbrev pub chosen : Option EditFault → Option EditFault → Option EditFault
-chosen refusal (Some fault.NoMemory) = Some fault.NoMemory
 chosen (Some f) given = Some f
 chosen None given = given
 

@@ -1,6 +1,6 @@
 -- When an edit is refused: the lowest rule that holds. Beside these rules stand the image's and memory's (ImageAnswers).
 use Rattle.std.specs.Prelude.{ℕ, ◌*◌, ◌^◌, ◌==◌, ◌&&◌, ◌||◌, Bool, true, false, not, nat_lt, nat_le, if◌then◌else◌, Option, Some, None, List, [], ◌∷◌, length, is_some, is_none}
-use Rattle.std.specs.FinMap.{get, contains_key, len}
+use Rattle.std.specs.FinMap.{get, contains_key}
 use Rattle.std.specs.List.{list_any, list_all}
 use Rattle.std.specs.Option.{option_map_or, option_and_then}
 use Rattle.h5_bytes.specs.Bytes.{undefined}
@@ -114,10 +114,6 @@ not_a_dataset tree edit = list_any (λ p. is_here (located tree p) && is_none (d
 abbrev pub links_group : Tree → Edit → Bool
 links_group tree (HardLink target path) = is_some (links_at tree target)
 links_group tree _ = false
-
-abbrev pub unlinks_full : Tree → Edit → Bool
-unlinks_full tree (Unlink path) = option_map_or (λ links. nat_lt 0 (len links)) (links_at tree path) false
-unlinks_full tree _ = false
 
 -- ---- a new dataset or attribute
 
@@ -258,7 +254,6 @@ rules_of tree next edit =
     ∷ (fault.NameTooLong, is_long edit)
     ∷ (fault.NotADataset, not_a_dataset tree edit)
     ∷ (fault.GroupLink, links_group tree edit)
-    ∷ (fault.GroupNotEmpty, unlinks_full tree edit)
     ∷ (fault.BadSpec, is_bad_spec edit)
     ∷ (fault.RankMismatch, is_other_rank tree edit)
     ∷ (fault.StrideZero, some_axis (list_any has_no_stride) edit)

@@ -1,26 +1,22 @@
 //! Links taken out of a group where it stands, and objects that go with their last link (File Format Specification 3.0, sections III.A.1,
 //! III.C and IV.A.1.a).
 
-ghost use Rattle.std.specs.Prelude.{◌≡◌, ◌↔◌, ℕ, ◌+◌, ◌^◌, ◌<◌, ◌≤◌, IsTrue, OnErr, OnOk, length};
+ghost use Rattle.std.specs.Prelude.{◌≡◌, ◌^◌, ◌<◌, ◌≤◌, OnErr, OnOk, length};
 ghost use Rattle.std.specs.List.{Contains};
-ghost use Rattle.h5_model.specs.Format.Messages.{prefix_at, reference_count};
 ghost use Rattle.h5_model.specs.Format.Symbols.{Target};
-ghost use Rattle.h5_space.specs.Moves.{Moves};
-ghost use Rattle.h5_header.specs.Listed.{messages_in};
-ghost use Rattle.h5_header.specs.Standing.{IsStanding};
+ghost use Rattle.h5_space.specs.Whole.{IsApart};
 ghost use Rattle.h5_group.specs.LinkEdits.{IsGroupApart};
 ghost use Rattle.h5_group.specs.Told.{links_told};
+ghost use Rattle.h5_laws.specs.Trees.Unlinked.{tree_left};
 ghost use Rattle.h5_open.specs.ChangedInPlace.{IsChangedInPlace};
-ghost use Rattle.h5_open.specs.LinkAdded.{ends_of};
-ghost use Rattle.h5_open.specs.LinkTaken.{IsLinkTaken, MayGo, tree_without};
+ghost use Rattle.h5_open.specs.LinkTaken.{AreCountsLowered, AreHeadersStanding, IsLinkTaken, IsLinkTo, lowered_blocks, touched_below};
 ghost use Rattle.h5_open.specs.Opened.Sound.{IsSound};
 
-use super::Opened;
 use super::links::group_table;
-use crate::index::clear;
-use crate::object::claims_of;
+use super::losses::losses_of;
+use super::{Opened, OpenedObject};
+use crate::index::clear_all;
 use h5_group::{SymbolTable, remove_link};
-use h5_header::Messages;
 use h5_space::Image;
 use std::alloc::{AllocError, Global};
 
@@ -28,15 +24,15 @@ use std::alloc::{AllocError, Global};
 const CALLS: u64 = 16;
 
 impl Opened {
-    /// Takes a link out of a group. Where it was the last hard link to its object, the object goes too: its blocks are given back, and its
-    /// number is not used again. Else the header of an array counts one link less.
+    /// Takes a link out of a group. What no path reaches then goes too: the object to which it was the last hard link, and all below it. Its
+    /// blocks are given back, and its number is not used again. An array below to which other links lead stays; its header counts as many
+    /// less.
     ///
-    /// The link is taken where the group stands, by one way down its tree (`remove_link` of `h5_group`). Of an object that goes, the blocks
-    /// are looked up; nothing else is read. Takes memory for them, and for the free blocks that there may be then, before the first change.
-    /// The image keeps its length. A refusal changes nothing.
+    /// The link is taken where the group stands, by one way down its tree (`remove_link` of `h5_group`). Of what goes, the links and the
+    /// blocks are looked up; nothing else is read. Takes memory for them, and for the free blocks that there may be then, before the first
+    /// change. The image keeps its length. A refusal changes nothing.
     ///
-    /// These are the caller's conditions: the link leads to this object, or to a text where there is none; the object has no links of its
-    /// own; and the tree that is left is a sound one.
+    /// That the link leads to this object, or to a text where there is none, is the caller's condition.
     ///
     /// # Errors
     ///
@@ -48,40 +44,21 @@ impl Opened {
         name: &[u8],
         object: Option<u32>,
     ) -> Result<(), AllocError>
-        requires there { MayGo self.old.tree parent name.now object }
-        ensures changed { OnOk result ((gone : MayGo self.old.tree parent name.now object)
-            → IsChangedInPlace self.old self.new (tree_without self.old.tree parent name.now gone.link)
-            self.old.next (ends_of parent gone.link) 0) }
+        requires there { IsLinkTo self.old.tree parent name.now object }
+        ensures changed { OnOk result (IsChangedInPlace self.old self.new
+            (tree_left self.old.tree parent name.now) self.old.next
+            (touched_below self.old.tree parent object) 0) }
         ensures sound { IsSound self.new }
         ensures refused { OnErr result (self.new ≡ self.old) }
     {
         let table = group_table(&self.index.objects, parent);
-        let Some(number) = object else {
-            return take_link(&mut self.image, table, name, 0);
-        };
-        let target = self.index.objects[number as usize].as_ref().unwrap();
-        if has_other_links(&self.image, &target.messages) {
-            take_link(&mut self.image, table, name, 0)?;
-            count_less(&mut self.image, &target.messages);
-            return Ok(());
-        }
-        let blocks = claims_of(alloc, &self.image, target)?;
-        take_link(&mut self.image, table, name, blocks.len())?;
-        blocks.give_all(&mut self.image);
-        clear(&mut self.index, number);
+        let losses = losses_of(alloc, &self.image, &self.index, object)?;
+        take_link(&mut self.image, table, name, losses.blocks.len())?;
+        lower_counts(&mut self.image, &self.index.objects, &losses.less);
+        losses.blocks.give_all(&mut self.image);
+        clear_all(&mut self.index, &losses.gone);
         Ok(())
     }
-}
-
-/// Whether more than one hard link leads to the object of this header. Takes no memory.
-///
-/// That the header's prefix lies in the image is the caller's condition.
-fn has_other_links(image: &Image, messages: &Messages) -> bool
-    requires { messages.now.header + 16 ≤ length image.now.bytes }
-    ensures { IsTrue result
-        ↔ (1 < reference_count (prefix_at image.now.bytes messages.now.header)) }
-{
-    messages.links(image) > 1
 }
 
 /// Takes a link out of a group where it stands, and leaves room for so many calls of `give`. Takes memory for the free blocks that there may
@@ -109,18 +86,18 @@ fn take_link(
     Ok(())
 }
 
-/// Counts one link less in a header. Takes no memory.
-fn count_less(image: &mut Image, messages: &Messages)
-    requires standing { IsStanding image.old.bytes messages.now }
-    requires some { 1 ≤ reference_count (prefix_at image.old.bytes messages.now.header) }
-    ensures standing { IsStanding image.new.bytes messages.now }
-    ensures messages { messages_in image.new.bytes messages.now.list
-        ≡ messages_in image.old.bytes messages.now.list }
-    ensures count { reference_count (prefix_at image.new.bytes messages.now.header) + 1
-        ≡ reference_count (prefix_at image.old.bytes messages.now.header) }
-    ensures moves { Moves image.old image.new messages.now.blocks messages.now.blocks }
-    ensures length { length image.new.bytes ≡ length image.old.bytes }
+/// Sets the count of links in the header of each of these objects. Takes no memory.
+///
+/// These are the caller's conditions: the headers stand in the image, and no two of them share a byte, nor one and a free block.
+fn lower_counts(image: &mut Image, objects: &[Option<OpenedObject>], less: &[(u32, u32)])
+    requires standing { AreHeadersStanding image.old.bytes objects.now less.now }
+    requires apart { IsApart (lowered_blocks objects.now less.now) image.old.free
+        (length image.old.bytes) }
+    ensures lowered { AreCountsLowered image.old image.new objects.now less.now }
+    ensures room { image.new.room_blocks ≡ image.old.room_blocks }
 {
-    let links = messages.links(image);
-    messages.set_links(image, links - 1);
+    for &(number, left) in less {
+        let object = objects[number as usize].as_ref().unwrap();
+        object.messages.set_links(image, left);
+    }
 }

@@ -29,7 +29,7 @@ new_body-requires-clause-room c = (accepted_attribute _ _ _ c.args.attr.now c.in
 pub returns-in_err-body : goal.returns-in_err-body
 returns-in_err-body c =
     let p = err_from_is_err_and c.from_residual-in_err-body.result c.from_residual-in_err-body.ensures.1 in
-    rw (p.1, p.2) (short_of_memory c.args.opened.now (SetAttr c.args.path.now c.args.attr.now), refl)
+    rw (p.1, p.2) (short_of_memory c.args.opened.now (SetAttr c.args.path.now c.args.attr.now) c.in_ok-number.ensures.at.allowed, refl)
 
 pub set_attribute-requires-clause-there : goal.set_attribute-requires-clause-there
 set_attribute-requires-clause-there c =
@@ -82,6 +82,6 @@ returns-in-Err-ImageFull c =
 
 pub returns : goal.returns
 returns c = (
-  short_of_memory c.args.opened.now (SetAttr c.args.path.now c.args.attr.now),
+  short_of_memory c.args.opened.now (SetAttr c.args.path.now c.args.attr.now) c.in_ok-number.ensures.at.allowed,
   rw c.in-Err-NoMemory.is at c.set_attribute.ensures.refused,
 )

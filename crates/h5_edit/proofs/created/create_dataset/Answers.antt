@@ -94,7 +94,7 @@ push_array_header-requires-clause-address c =
 pub returns-in_err-push_array_header : goal.returns-in_err-push_array_header
 returns-in_err-push_array_header c =
     let p = err_from_is_err_and c.from_residual-in_err-push_array_header.result c.from_residual-in_err-push_array_header.ensures.1 in
-    rw (p.1, p.2) (short_of_memory c.args.opened.now (CreateDataset c.args.path.now c.args.spec.now), refl)
+    rw (p.1, p.2) (short_of_memory c.args.opened.now (CreateDataset c.args.path.now c.args.spec.now) c.in_ok-place.ensures.placed.allowed, refl)
 
 pub add_object-added-requires-clause-group : goal.add_object-added-requires-clause-group
 add_object-added-requires-clause-group c = group_asked c.args.opened.now c.next-number.ensures.sound c.in_ok-place.ensures.placed (inl refl)

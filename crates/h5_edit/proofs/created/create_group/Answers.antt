@@ -37,7 +37,7 @@ returns-in_default c =
 pub returns-in_err-push_bare_group : goal.returns-in_err-push_bare_group
 returns-in_err-push_bare_group c =
     let p = err_from_is_err_and c.from_residual-in_err-push_bare_group.result c.from_residual-in_err-push_bare_group.ensures.1 in
-    rw (p.1, p.2) (short_of_memory c.args.opened.now (CreateGroup c.args.path.now), refl)
+    rw (p.1, p.2) (short_of_memory c.args.opened.now (CreateGroup c.args.path.now) c.in_ok-place.ensures.allowed, refl)
 
 pub add_object-added-requires-clause-group : goal.add_object-added-requires-clause-group
 add_object-added-requires-clause-group c = group_asked c.args.opened.now c.next-number.ensures.sound c.in_ok-place.ensures (inl refl)

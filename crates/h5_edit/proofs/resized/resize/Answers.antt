@@ -49,6 +49,6 @@ returns-in-Err-ImageFull c =
 
 pub returns-in-Err-NoMemory : goal.returns-in-Err-NoMemory
 returns-in-Err-NoMemory c = (
-  short_of_memory c.args.opened.now (Resize c.args.path.now c.args.dims.now),
+  short_of_memory c.args.opened.now (Resize c.args.path.now c.args.dims.now) c.in_ok-number.ensures.at.0.allowed,
   rw c.in-Err-NoMemory.is at c.resize.ensures.refused,
 )

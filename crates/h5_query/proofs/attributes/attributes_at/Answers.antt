@@ -1,9 +1,16 @@
 use Rattle.std.proofs.Common.{◌∙◌, sym, ap}
+use Rattle.std.proofs.lemmas.Result.{err_from_is_err_and}
 use Rattle.std.specs.FinMap.{entries}
 use Rattle.h5_model.specs.Tree.Objects.{Attributes}
 use Rattle.h5_header.specs.Listed.{messages_in}
 use Rattle.h5_open.specs.Attributes.{attributes_of}
+use Rattle.h5_query.proofs.RefusedLaws.{unlisted}
 use Rattle.h5_query.proofs.attributes.attributes_at.Goals as goal
+
+pub returns-in_err-messages_at : goal.returns-in_err-messages_at
+returns-in_err-messages_at c =
+    let p = err_from_is_err_and c.from_residual.result c.from_residual.ensures.1 in
+    rw (p.1, p.2) (unlisted c.args.opened.now.tree c.args.path.now _ c.in_err-messages_at.ensures)
 
 pub returns-in-Ok : goal.returns-in-Ok
 returns-in-Ok c =

@@ -1,9 +1,22 @@
 use Rattle.std.proofs.Common.{refl}
+use Rattle.std.proofs.lemmas.Result.{err_from_is_err_and}
 use Rattle.h5_header.specs.Listed.{messages_in}
 use Rattle.h5_open.specs.Attributes.{attributes_of}
 use Rattle.h5_query.proofs.Calls.{group_found, array_found}
 use Rattle.h5_query.proofs.Indexed.{array_kept}
+use Rattle.h5_query.proofs.RefusedLaws.{unfound}
 use Rattle.h5_query.proofs.found.found_at.Goals as goal
+
+pub returns-in_err-number : goal.returns-in_err-number
+returns-in_err-number c =
+    let p = err_from_is_err_and c.from_residual.result c.from_residual.ensures.1 in
+    rw (p.1, p.2) (unfound c.args.opened.now.tree c.args.path.now _ c.in_err-number.ensures)
+
+pub returns-in_err-attributes : goal.returns-in_err-attributes
+returns-in_err-attributes c =
+    let place = rw c.in-Object.is at c.in_ok-number.ensures in
+    let p = err_from_is_err_and c.from_residual-in_err-attributes.result c.from_residual-in_err-attributes.ensures.1 in
+    rw (p.1, p.2) place.0.0
 
 pub stored_array-requires : goal.stored_array-requires
 stored_array-requires c =

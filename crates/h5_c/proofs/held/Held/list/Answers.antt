@@ -8,7 +8,7 @@ returns-in-Ok-push_names c =
     (λ i. map (λ (name : Bor (List ℕ)). name.now) (c.deref.ensures.value i)) c.in-Ok-push_names.ensures
 
 pub returns-in-Ok : goal.returns-in-Ok
-returns-in-Ok c = links_short c.args.self.now _ c.args.path.now refl
+returns-in-Ok c = links_short c.args.self.now _ c.args.path.now refl c.file.result.now c.file.ensures.file _ c.in-Ok.ensures
 
 pub returns : goal.returns
 returns c = links_refused c.args.self.now _ c.args.path.now refl c.file.result.now c.file.ensures.file c.in-Err.fault c.number.result c.in-Err.ensures c.number.ensures
