@@ -10,6 +10,7 @@ from concurrent.futures import ThreadPoolExecutor
 
 from .edits import edit_paths
 from .judge import REFUSED, Judge
+from .libraries import Libraries
 from .record import Judged, change_record, hash_of, read_record
 from .repository import crates_below, folder_of, read_crates
 from .rooms import Store
@@ -36,7 +37,10 @@ def arguments(words):
     parser.add_argument("crates", nargs="*", metavar="CRATE", help="judge these, also where the record has them")
     parser.add_argument("--all", action="store_true", help="judge all crates that have wrong bodies")
     parser.add_argument("--texts", action="store_true", help="look over the texts of the edits, and prove nothing")
-    parser.add_argument("--jobs", type=int, default=0, metavar="N", help="crates side by side (default: up to 3)")
+    parser.add_argument(
+        "--note-libraries", action="store_true", help="note that `rt ci` has just built the crates as they stand"
+    )
+    parser.add_argument("--jobs", type=int, default=0, metavar="N", help="crates side by side (default: up to 4)")
     parser.add_argument("--logs", metavar="DIR", help="keep what the checks print in this folder")
     parser.add_argument("--root", default=ROOT, help=argparse.SUPPRESS)
     return parser.parse_args(words)
@@ -79,20 +83,30 @@ class Run:
         """Records a crate all of whose edits were refused, if its files are still those that were judged."""
         if not outcomes or refused < len(outcomes):
             change_record(self.root, self.crates, remove=judge.name)
-        elif judge.hash != hash_of(folder_of(self.root, judge.name)):
-            say(f"{judge.name}: not recorded, since its files changed meanwhile")
+        elif not judge.is_current(self.root):
+            say(f"{judge.name}: not recorded, since its files or its libraries changed meanwhile")
             self.count(0, 1)
         else:
             change_record(self.root, self.crates, add=Judged(judge.name, judge.hash, refused))
 
+    def in_turn(self, store, names):
+        """The crates in the order in which they are begun: over built libraries those with the most edits, so that none of
+        them is left for last; and then the others, the lowest first, since they prove what those above them need."""
+
+        def turn(name):
+            if store.libraries.stand_below(name):
+                return 0, -len(edit_paths(folder_of(self.root, name))[0])
+            return 1, len(crates_below(self.crates, name))
+
+        return sorted(names, key=turn)
+
     def judge_all(self, names, side_by_side):
-        """Judges crates side by side, the lowest first, each in rooms of its own."""
+        """Judges crates side by side, each in rooms of its own."""
         jobs = max(1, processors() // max(1, min(side_by_side, len(names))))
         with tempfile.TemporaryDirectory(prefix="wrong-bodies-") as folder:
             store = Store(os.path.join(folder, "store"), self.root, self.crates)
-            lowest_first = sorted(names, key=lambda name: len(crates_below(self.crates, name)))
             with ThreadPoolExecutor(side_by_side) as pool:
-                ran = [pool.submit(self.judge, store, name, jobs) for name in lowest_first]
+                ran = [pool.submit(self.judge, store, name, jobs) for name in self.in_turn(store, names)]
                 for one in ran:
                     one.result()
 
@@ -119,6 +133,9 @@ def main(words):
     if unknown and not asked.crates:
         say(f"0 passed, {len(unknown)} failed")
         return 1
+    if asked.note_libraries:
+        Libraries(asked.root, crates).note()
+        return 0
     if asked.texts:
         passed, failed = look_at_all(asked.root, asked.crates or list(crates), say)
     else:
@@ -144,7 +161,7 @@ def judged(asked, crates):
     run = Run(asked.root, crates, asked.logs)
     run.count(known, 0)
     if names:
-        run.judge_all(names, asked.jobs if asked.jobs > 0 else min(3, processors()))
+        run.judge_all(names, asked.jobs if asked.jobs > 0 else min(4, processors()))
     return run.passed, run.failed
 
 

@@ -7,8 +7,7 @@ from dataclasses import dataclass
 from . import verdicts
 from .edits import BadEdit, apply, edit_paths, read_edit
 from .record import hash_of
-from .repository import crates_below, read_sources
-from .rooms import Room
+from .repository import folder_of, read_sources
 from .rounds import Planner, candidate
 from .source import scan
 
@@ -30,13 +29,18 @@ class Judge:
     """Judges a crate in rooms that are made from a base, in which the crate as it stands has been checked."""
 
     def __init__(self, store, name, jobs, logs=None):
-        self.crates, self.name, self.jobs, self.logs = store.crates, name, jobs, logs
+        self.name, self.jobs, self.logs = name, jobs, logs
         self.checks = 0
         self.outcomes = {}
         self.base, status, output = store.base(name, jobs)
         self.as_it_stands = self.log(status, output, {}, "as-it-stands")
         self.folder = self.base.crate(name)
         self.hash = hash_of(self.folder)
+
+    def is_current(self, root):
+        """Whether the crate is still what was judged, and stands on libraries that are those it was judged over."""
+        same = self.hash == hash_of(folder_of(root, self.name))
+        return same and (not self.base.libraries or self.base.libraries.stand_below(self.name))
 
     def judge(self):
         """An outcome for each of the crate's edits."""
@@ -180,11 +184,9 @@ class Judge:
 
     def check(self, texts, label):
         """Checks the crate with these texts, in a room of its own over what the base keeps."""
-        room = Room(f"{self.base.folder}-{self.name}-{self.checks}")
+        room = self.base.copy(f"{self.base.folder}-{self.name}-{self.checks}")
         self.checks += 1
         try:
-            for one in [*crates_below(self.crates, self.name), self.name]:
-                room.add(self.base.folder, self.crates[one])
             room.write(self.name, texts)
             return self.log(*room.check(self.name, self.jobs), texts, label)
         finally:

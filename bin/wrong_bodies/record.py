@@ -52,10 +52,11 @@ def essence(path, data):
     return data
 
 
-def hash_of(folder):
-    """The hash of a crate's sources, definitions, proofs and wrong bodies: paths and what counts in them, sorted."""
+def hash_of(folder, parts=PARTS):
+    """The hash of a crate's sources, definitions, proofs and wrong bodies, or of these parts: paths and what counts in them,
+    sorted."""
     paths = []
-    for part in PARTS:
+    for part in parts:
         for at, _, names in os.walk(os.path.join(folder, part)):
             paths += [os.path.relpath(os.path.join(at, name), folder) for name in names]
     total = hashlib.sha256()

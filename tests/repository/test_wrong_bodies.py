@@ -12,7 +12,7 @@ from unittest import mock
 BIN = os.path.join(os.path.dirname(os.path.abspath(__file__)), "..", "..", "bin")
 sys.path.insert(0, os.path.abspath(BIN))
 
-from wrong_bodies import command, edits, judge, record, repository, rooms, rounds, source, texts, verdicts  # noqa: E402
+from wrong_bodies import command, edits, judge, libraries, record, repository, rooms, rounds, source, texts, verdicts  # noqa: E402
 
 from .wrong_bodies_samples import CHECKED, LIB, NODE, NOT_COMPILED, NO_FIELD, UNREAD
 
@@ -292,6 +292,67 @@ class Record(Made):
         proved = hashed(law, "-- One.\nfn one : A\none = a\n    b\n")
         self.assertEqual(proved, hashed(law, "fn one : A\n\none = a\n    b  \n  -- the end\n"))
         self.assertNotEqual(proved, hashed(law, "fn one : A\none = a\nb\n"))
+
+
+class Built(Made):
+    """Libraries that the gate has built, with a toolchain that is made up."""
+
+    def setUp(self):
+        super().setUp()
+        self.kit = os.path.join(self.root, "kit")
+        self.write("kit/KIT-ID", "kit 1\n")
+        played = mock.patch.object(libraries, "kit", return_value=self.kit)
+        played.start()
+        self.addCleanup(played.stop)
+        self.write("crates/low/out/rlib/low.rlib/format", "built")
+        self.crates = repository.read_crates(self.root)
+        self.built = libraries.Libraries(self.root, self.crates)
+
+    def test_libraries_stand_as_long_as_what_they_are_built_of(self):
+        self.assertFalse(self.built.stand_below("top"))
+        self.assertEqual(self.run_main("--note-libraries"), (0, ""))
+        self.assertTrue(self.built.stand("low") and self.built.stand_below("top"))
+        self.assertFalse(self.built.stand("top"))
+        self.write("crates/low/wrong-bodies/one.edit", "x")
+        self.assertTrue(self.built.stand("low"))
+        for path, text in (("kit/KIT-ID", "kit 2\n"), ("crates/low/specs/More.antt", "x = x\n")):
+            self.write(path, text)
+            self.assertFalse(self.built.stand("low"), path)
+            self.built.note()
+            self.assertTrue(self.built.stand("low"), path)
+        shutil.rmtree(os.path.join(self.root, "crates", "low", "out", "rlib", "low.rlib"))
+        self.assertFalse(self.built.stand("low"))
+
+    def test_the_prover_is_called_over_them(self):
+        words = self.built.words("top", self.folder, 2)
+        self.assertEqual(words[:5], [os.path.join(self.kit, "bin", "rattle"), "check", "--crate-name", "top", "src/lib.rt"])
+        passed = [words[k + 1] for k, word in enumerate(words) if word == "--extern"]
+        low = os.path.join(self.root, "crates", "low", "out", "rlib", "low.rlib")
+        self.assertEqual(passed, [f"std={self.kit}/rlibs/std.rlib", f"low={low}"])
+        self.assertIn(f"dependency={os.path.dirname(low)}", words)
+        self.assertEqual(words[-4:], ["--incremental", os.path.join(self.folder, "out", "judged"), "--jobs", "2"])
+
+    def test_a_static_library_says_so(self):
+        self.write("crates.txt", "low: byteorder\ntop staticlib: low core\n")
+        words = libraries.Libraries(self.root, repository.read_crates(self.root)).words("top", self.folder, 1)
+        self.assertIn("staticlib", words)
+        for one in ("std", "core"):
+            self.assertIn(f"{one}={self.kit}/rlibs/{one}.rlib", words)
+
+    def test_a_room_over_them_has_one_crate(self):
+        self.built.note()
+        with mock.patch.object(rooms.Room, "check", return_value=(0, "logic=proved functions=1 sum=0\n")):
+            base, _, _ = rooms.Store(os.path.join(self.root, "store"), self.root, self.crates).base("top", 1)
+        self.assertEqual(os.listdir(os.path.join(base.folder, "crates")), ["top"])
+        copy = base.copy(os.path.join(self.root, "copy"))
+        self.assertEqual((list(copy.crates), copy.libraries), (["top"], base.libraries))
+
+    def test_what_is_not_proved_over_them_is_checked_as_without_them(self):
+        self.built.note()
+        said = [(2, "error: no such flag\n"), (0, "logic=proved functions=1 sum=0\n")]
+        with mock.patch.object(rooms.Room, "check", side_effect=said):
+            base, status, _ = rooms.Store(os.path.join(self.root, "store"), self.root, self.crates).base("top", 1)
+        self.assertEqual((sorted(base.crates), base.libraries, status), (["low", "top"], None, 0))
 
 
 class Cycles(Made):
