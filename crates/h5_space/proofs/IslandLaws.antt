@@ -16,7 +16,8 @@ use Rattle.std.proofs.lemmas.Map.Keys.{sorted_tail, IsDistinct-from_sorted}
 use Rattle.h5_bytes.specs.Blocks.{holds, cover}
 use Rattle.h5_bytes.proofs.BlockLaws.{holds_in, holds_before, holds_past, holds_join, holds-le, holds_none}
 use Rattle.h5_space.specs.Claimed.{Shares}
-use Rattle.h5_space.specs.Islands.{IsIslands, blocks_of, length_at}
+use Rattle.h5_bytes.specs.declared.Block.{Block}
+use Rattle.h5_space.specs.Islands.{IsIslands, IsLastBlock, blocks_of, length_at}
 
 -- the length at a place, among entries
 abbrev at_key : ℕ → List (ℕ × ℕ) → ℕ
@@ -133,7 +134,7 @@ module _ (held : BTreeMap ℕ ℕ) (end : ℕ) (s : IsIslands held end) where
           let one = holds-le-cover_entry at held.entries at n is in
           omega (arith, free at))
 
-module _ (held : BTreeMap ℕ ℕ) (end : ℕ) (s : IsIslands held end) (ordered : IsOrdered nat_cmp held) where
+module _ (held : BTreeMap ℕ ℕ) (end : ℕ) (s : IsIslands held end) where
   -- an earlier block ends where a later one begins, or before
   pub in_order : (j m k n : ℕ) → get nat_cmp held j ≡ Some m → get nat_cmp held k ≡ Some n → j < k → j + m ≤ k
   in_order j m k n at_j at_k low =
@@ -141,7 +142,7 @@ module _ (held : BTreeMap ℕ ℕ) (end : ℕ) (s : IsIslands held end) (ordered
         | inl over ↦ absurd (
             let first = holds_in k j m (omega arith) over in
             let second = holds_in k k n (omega arith) (omega (arith, s.filled k n at_k)) in
-            let both = holds-le-cover_two k held.entries j m k n ordered at_j at_k (omega arith) in
+            let both = holds-le-cover_two k held.entries j m k n s.ordered at_j at_k (omega arith) in
             let most = holds-le k 0 end in
             omega (arith, s.once k))
         | inr fine ↦ fine
@@ -158,7 +159,7 @@ module _ (held : BTreeMap ℕ ℕ) (end : ℕ) (s : IsIslands held end) (ordered
         | inl low ↦ let none = holds_before p at len low in omega arith
         | inr high ↦ elim (cases_lt p (at + len)) [
           | inl under ↦
-              let none : cover p (blocks_of held.entries) ≡ 0 = cover_none p held.entries (λ i k n is. elim (far k n (btree_map_get_place nat_cmp_total held i k n ordered is)) [
+              let none : cover p (blocks_of held.entries) ≡ 0 = cover_none p held.entries (λ i k n is. elim (far k n (btree_map_get_place nat_cmp_total held i k n s.ordered is)) [
                 | inl before ↦ holds_past p k n (omega arith)
                 | inr behind ↦ holds_before p k n (omega arith)
               ]) in
@@ -195,57 +196,121 @@ module _ (held : BTreeMap ℕ ℕ) (end : ℕ) (s : IsIslands held end) (ordered
   ])
 
 -- each block ends by the end
-pub all_end : (held : BTreeMap ℕ ℕ) (end : ℕ) → IsIslands held end → IsOrdered nat_cmp held → AllByRecursion (λ (e : ℕ × ℕ). e.0 + e.1 ≤ end) held.entries
-all_end held end s ordered = go held.entries (λ i k n is. inside_end held end s k n (btree_map_get_place nat_cmp_total held i k n ordered is)) where
+pub all_end : (held : BTreeMap ℕ ℕ) (end : ℕ) → IsIslands held end → AllByRecursion (λ (e : ℕ × ℕ). e.0 + e.1 ≤ end) held.entries
+all_end held end s = go held.entries (λ i k n is. inside_end held end s k n (btree_map_get_place nat_cmp_total held i k n s.ordered is)) where
   go : (es : List (ℕ × ℕ)) → ((i k n : ℕ) → slice_get es i ≡ Some (k, n) → k + n ≤ end) → AllByRecursion (λ (e : ℕ × ℕ). e.0 + e.1 ≤ end) es
   go [] each = tt
   go (e ∷ es) each = (each 0 e.0 e.1 refl, go es (λ i k n is. each (suc i) k n is))
 
--- ---- a block that takes in the one at its end
+-- ---- a block that takes in its neighbours
 
-module _ (old mid new : BTreeMap ℕ ℕ) (end place size after past : ℕ) (s : IsIslands old end) (ordered : IsOrdered nat_cmp old)
-    (put : mid.entries ≡ insert_entry nat_cmp old.entries place (size + after)) (puts : Updates nat_cmp old mid place (Some (size + after)))
-    (taken : new.entries ≡ remove_entry (is_at (nat_cmp past)) mid.entries) (takes : UpdatesBy nat_cmp (nat_cmp past) mid new None)
-    (filled : 0 < size) (ends : place + size ≡ past) (next : after ≡ length_at old past) where
-  after_stays : length_at mid past ≡ after
-  after_stays =
-      let other : is_at (nat_cmp place) past ≡ false = grind (arith, nat_tests) in
-      ap (λ (o : Option ℕ). unwrap_or o 0) (puts.2 past other) ∙ sym next
+module _ (held : BTreeMap ℕ ℕ) (end at len after : ℕ) (next : after ≡ length_at held (at + len)) (p : ℕ) where
+  -- the one behind it
+  pub joined_behind : IsIslands held end → 0 < len → ((q : ℕ) → cover q (blocks_of held.entries) + holds q at len ≤ 1)
+      → holds p at (len + after) ≡ holds p at (length_at held at) + holds p at len + holds p (at + len) (length_at held (at + len))
+  joined_behind s filled free =
+      let none : holds p at (length_at held at) ≡ 0 = rw (none_at held end s at len filled free) (holds_none p at) in
+      let both = holds_join p at len after in
+      let same = ap (holds p (at + len)) next in
+      omega (arith, none, both, same)
 
-  module _ (at len : ℕ) (joined : (p : ℕ) → holds p place size ≡ holds p place (length_at old place) + holds p at len) where
+  -- and the one before it
+  pub joined_before : (place n : ℕ) → get nat_cmp held place ≡ Some n → place + n ≡ at
+      → holds p place (n + (len + after)) ≡ holds p place (length_at held place) + holds p at len + holds p (at + len) (length_at held (at + len))
+  joined_before place n is ends =
+      let there : length_at held place ≡ n = ap (λ (o : Option ℕ). unwrap_or o 0) is in
+      let first = ap (holds p place) there in
+      let all = holds_join p place n (len + after) in
+      let behind = ap (λ q. holds p q (len + after)) ends in
+      let both = holds_join p at len after in
+      let same = ap (holds p (at + len)) next in
+      omega (arith, first, all, behind, both, same)
+
+module _ (old mid : BTreeMap ℕ ℕ) (end place size at len : ℕ) (s : IsIslands old end)
+    (put : mid.entries ≡ insert_entry nat_cmp old.entries place size) (puts : Updates nat_cmp old mid place (Some size))
+    (filled : 0 < len) (starts : place ≤ at) (ends : place + size ≡ at + len + length_at old (at + len))
+    (joined : (p : ℕ) → holds p place size ≡ holds p place (length_at old place) + holds p at len + holds p (at + len) (length_at old (at + len))) where
+  -- the block behind counts twice until it is taken out
+  grown : (p : ℕ) → cover p (blocks_of mid.entries) ≡ cover p (blocks_of old.entries) + holds p at len + holds p (at + len) (length_at old (at + len))
+  grown p =
+      let first : cover p (blocks_of mid.entries) + holds p place (length_at old place) ≡ cover p (blocks_of old.entries) + holds p place size
+      = rw put (cover-insert_entry p old.entries place size s.ordered) in
+      omega (arith, first, joined p)
+
+  some : (k n : ℕ) → get nat_cmp mid k ≡ Some n → 0 < n
+  some k n is = elim (cases_eq k place) [
+    | inl same ↦
+        let mine : unwrap_or (get nat_cmp mid k) 0 ≡ size = rw same (ap (λ (o : Option ℕ). unwrap_or o 0) puts.1) in
+        let its : unwrap_or (get nat_cmp mid k) 0 ≡ n = ap (λ (o : Option ℕ). unwrap_or o 0) is in
+        omega (arith, filled, starts, ends)
+    | inr apart ↦ s.filled k n (sym (puts.2 k (grind (arith, nat_tests, apart))) ∙ is)
+  ]
+
+  -- where none stands behind
+  pub claimed_last : length_at old (at + len) ≡ 0 → (p : ℕ) → cover p (blocks_of mid.entries) ≡ cover p (blocks_of old.entries) + holds p at len
+  claimed_last none p =
+      let nothing : holds p (at + len) (length_at old (at + len)) ≡ 0 = rw none (holds_none p (at + len)) in
+      omega (arith, grown p, nothing)
+
+  module _ (new : BTreeMap ℕ ℕ) (taken : new.entries ≡ remove_entry (is_at (nat_cmp (at + len))) mid.entries) (takes : UpdatesBy nat_cmp (nat_cmp (at + len)) mid new None) where
     pub claimed : (p : ℕ) → cover p (blocks_of new.entries) ≡ cover p (blocks_of old.entries) + holds p at len
     claimed p =
-        let first : cover p (blocks_of mid.entries) + holds p place (length_at old place) ≡ cover p (blocks_of old.entries) + holds p place (size + after)
-        = rw put (cover-insert_entry p old.entries place (size + after) ordered) in
-        let second : cover p (blocks_of new.entries) + holds p past (length_at mid past) ≡ cover p (blocks_of mid.entries)
-        = rw taken (cover-remove_entry p mid.entries past) in
-        let third : holds p past (length_at mid past) ≡ holds p past after = ap (holds p past) after_stays in
-        let whole : holds p place (size + after) ≡ holds p place size + holds p past after = rw ends at (holds_join p place size after) in
-        omega (arith, joined p)
+        let other : is_at (nat_cmp place) (at + len) ≡ false = grind (arith, nat_tests, filled, starts) in
+        let stays : length_at mid (at + len) ≡ length_at old (at + len) = ap (λ (o : Option ℕ). unwrap_or o 0) (puts.2 (at + len) other) in
+        let gone : cover p (blocks_of new.entries) + holds p (at + len) (length_at mid (at + len)) ≡ cover p (blocks_of mid.entries)
+        = rw taken (cover-remove_entry p mid.entries (at + len)) in
+        let same = ap (holds p (at + len)) stays in
+        omega (arith, grown p, gone, same)
 
-    pub islands : at + len ≤ end → ((p : ℕ) → cover p (blocks_of old.entries) + holds p at len ≤ 1) → IsIslands new end
-    islands inside free = record {
-      filled = λ k n is. some k n is;
-      once = λ p.
-          let all = claimed p in
-          elim (cases_lt p end) [
-            | inl low ↦ let one = holds_in p 0 end (omega arith) (omega arith) in omega (arith, free p)
-            | inr high ↦ let none = holds_past p at len (omega arith) in omega (arith, s.once p)
-          ];
-    }
-      where
-        some : (k n : ℕ) → get nat_cmp new k ≡ Some n → 0 < n
-        some k n is = elim (cases_eq k past) [
-          | inl same ↦
-              let found : get nat_cmp new past ≡ Some n = rw same at is in
-              absurd (true≢false (sym (ap is_some found) ∙ ap is_some takes.1))
-          | inr differ ↦
-              let kept : get nat_cmp mid k ≡ Some n = sym (takes.2 k (grind (arith, nat_tests, differ))) ∙ is in
-              elim (cases_eq k place) [
-                | inl same ↦
-                    let mine : unwrap_or (get nat_cmp mid k) 0 ≡ size + after = rw same (ap (λ (o : Option ℕ). unwrap_or o 0) puts.1) in
-                    let its : unwrap_or (get nat_cmp mid k) 0 ≡ n = ap (λ (o : Option ℕ). unwrap_or o 0) kept in
-                    omega (arith, filled)
-                | inr apart ↦ s.filled k n (sym (puts.2 k (grind (arith, nat_tests, apart))) ∙ kept)
-              ]
+    some_left : (k n : ℕ) → get nat_cmp new k ≡ Some n → 0 < n
+    some_left k n is = elim (cases_eq k (at + len)) [
+      | inl same ↦
+          let there : get nat_cmp new (at + len) ≡ Some n = rw same at is in
+          absurd (true≢false (sym (ap is_some there) ∙ ap is_some takes.1))
+      | inr differ ↦ some k n (sym (takes.2 k (grind (arith, nat_tests, differ))) ∙ is)
+    ]
+
+  module _ (inside : at + len ≤ end) (free : (p : ℕ) → cover p (blocks_of old.entries) + holds p at len ≤ 1) where
+    once : (new : BTreeMap ℕ ℕ) → ((p : ℕ) → cover p (blocks_of new.entries) ≡ cover p (blocks_of old.entries) + holds p at len)
+        → (p : ℕ) → cover p (blocks_of new.entries) ≤ holds p 0 end
+    once new now p =
+        let all = now p in
+        elim (cases_lt p end) [
+          | inl low ↦ let one = holds_in p 0 end (omega arith) (omega arith) in omega (arith, free p)
+          | inr high ↦ let none = holds_past p at len (omega arith) in omega (arith, s.once p)
         ]
+
+    pub islands_last : IsOrdered nat_cmp mid → length_at old (at + len) ≡ 0 → IsIslands mid end
+    islands_last ordered none = record { ordered = ordered; filled = some; once = once mid (claimed_last none) }
+
+    pub islands : (new : BTreeMap ℕ ℕ) → IsOrdered nat_cmp new → new.entries ≡ remove_entry (is_at (nat_cmp (at + len))) mid.entries
+        → UpdatesBy nat_cmp (nat_cmp (at + len)) mid new None → IsIslands new end
+    islands new ordered taken takes = record { ordered = ordered; filled = some_left new taken takes; once = once new (claimed new taken takes) }
+
+-- ---- the last block made longer
+
+module _ (old new : BTreeMap ℕ ℕ) (end : ℕ) (last : Block) (at len : ℕ) (s : IsIslands old end) (is : IsLastBlock old last)
+    (filled : 0 < len) (inside : at + len ≤ end) (ends : last.at + last.len ≡ at) where
+  pub apart_behind : (p : ℕ) → cover p (blocks_of old.entries) + holds p at len ≤ 1
+  apart_behind = apart_from_last old end s at len last.at last.len inside is.found (omega (arith, ends)) (λ j low some. is.greatest j some)
+
+  none_behind : length_at old (at + len) ≡ 0
+  none_behind = by (get nat_cmp old (at + len)) refl
+    where
+      by : (o : Option ℕ) → get nat_cmp old (at + len) ≡ o → unwrap_or o 0 ≡ 0
+      by None there = refl
+      by (Some n) there = absurd (let low = is.greatest (at + len) (ap is_some there) in omega (arith, low, filled, ends))
+
+  joined_last : (p : ℕ) → holds p last.at (last.len + len) ≡ holds p last.at (length_at old last.at) + holds p at len + holds p (at + len) (length_at old (at + len))
+  joined_last p =
+      let all = joined_before old end at len 0 (sym none_behind) p last.at last.len is.found ends in
+      let same : holds p last.at (last.len + len) ≡ holds p last.at (last.len + (len + 0)) = ap (holds p last.at) (omega arith) in
+      omega (arith, all, same)
+
+  module _ (put : new.entries ≡ insert_entry nat_cmp old.entries last.at (last.len + len)) (puts : Updates nat_cmp old new last.at (Some (last.len + len))) where
+    pub claimed_behind : (p : ℕ) → cover p (blocks_of new.entries) ≡ cover p (blocks_of old.entries) + holds p at len
+    claimed_behind = claimed_last old new end last.at (last.len + len) at len s put puts filled (omega (arith, ends)) (omega (arith, ends, none_behind)) joined_last none_behind
+
+    pub islands_behind : IsOrdered nat_cmp new → IsIslands new end
+    islands_behind ordered = islands_last old new end last.at (last.len + len) at len s put puts filled (omega (arith, ends)) (omega (arith, ends, none_behind)) joined_last
+        inside apart_behind ordered none_behind

@@ -1,9 +1,10 @@
 ghost use Rattle.std.specs.Prelude.{◌≡◌, ℕ, ◌+◌, ◌<◌, ◌≤◌, ◌^◌, [], ◌↔◌, OnOk, OnErr, IsOk, Err, IfSome, IfNone, IsSome, Some, None, length};
-ghost use Rattle.std.specs.BTreeMap.{get, IsOrdered};
+ghost use Rattle.std.specs.BTreeMap.{get, insert_entry, Updates, IsOrdered};
 ghost use Rattle.std.specs.Ordering.{nat_cmp};
 ghost use Rattle.h5_bytes.specs.Blocks.{holds, cover, Separate};
 ghost use Rattle.h5_space.specs.Claimed.{Shares};
-ghost use Rattle.h5_space.specs.Islands.{IsIslands, blocks_of, length_at};
+ghost use Rattle.h5_bytes.specs.declared.Block.{Block};
+ghost use Rattle.h5_space.specs.Islands.{IsIslands, IsLastBlock, blocks_of, length_at};
 
 use crate::image::Image;
 use h5_bytes::Block;
@@ -84,15 +85,25 @@ impl Claims {
         if len == 0 {
             return Ok(());
         }
-        let Some(joined) = joined_before(&self.held, at, len) else {
+        // Blocks mostly come in ascending order, one just behind another.
+        let last = last_block(&self.held);
+        if let Some(last) = last
+            && last.at + last.len == at
+        {
+            set_last(&mut self.held, last.len + len);
+            return Ok(());
+        }
+        let Some(island) = island_of(&self.held, last, at, len) else {
             return Err(ClaimFault::Overlap);
         };
-        let past = at + len;
-        let after = self.held.get(&past).copied().unwrap_or(0);
-        if self.held.insert(joined.at, joined.len + after).is_err() {
+        // Where a block ends at `at`, it grows in its place, which takes no memory.
+        if self.held.insert(island.at, island.len).is_err() {
             return Err(ClaimFault::NoMemory);
         }
-        self.held.remove(&past);
+        let past = at + len;
+        if past < island.at + island.len {
+            self.held.remove(&past);
+        }
         Ok(())
     }
 
@@ -124,44 +135,103 @@ impl Claims {
     }
 }
 
-/// The block that these bytes make, with the one that ends where they begin where there is one;
-/// `None` where one of them is held already.
-fn joined_before(held: &BTreeMap<u64, u64>, at: u64, len: u64) -> Option<Block>
+/// The block that these bytes make with those that end where they begin and begin where they end, where there are
+/// such; `None` where one of the bytes is held already.
+fn island_of(held: &BTreeMap<u64, u64>, last: Option<Block>, at: u64, len: u64) -> Option<Block>
+    requires last { IfSome last (IsLastBlock held.now) }
     requires filled { 0 < len }
     requires islands { (end : ℕ) × (end < 2 ^ 64) × (at + len ≤ end) × IsIslands held.now end }
     ensures shared { IfNone result (Shares (blocks_of held.now.entries) at len) }
     ensures apart { IfSome result (λ b. (p : ℕ)
         → cover p (blocks_of held.now.entries) + holds p at len ≤ 1) }
-    ensures ends { IfSome result (λ b. (b.at ≤ at) × (b.at + b.len ≡ at + len)) }
+    ensures ends { IfSome result (λ b. (b.at ≤ at)
+        × (b.at + b.len ≡ at + len + length_at held.now (at + len))) }
     ensures joined { IfSome result (λ b. (p : ℕ)
-        → holds p b.at b.len ≡ holds p b.at (length_at held.now b.at) + holds p at len) }
+        → holds p b.at b.len ≡ holds p b.at (length_at held.now b.at) + holds p at len
+        + holds p (at + len) (length_at held.now (at + len))) }
 {
-    let alone = Block { at, len };
-    match last_before(held, at + len) {
-        None => Some(alone),
-        Some(before) => {
-            let end = before.at + before.len;
-            if end > at {
-                None
-            } else if end == at {
-                Some(Block {
-                    at: before.at,
-                    len: before.len + len,
-                })
-            } else {
-                Some(alone)
-            }
-        }
+    let (before, after) = neighbours(held, last, at + len);
+    let alone = Block {
+        at,
+        len: len + after,
+    };
+    let Some(before) = before else {
+        return Some(alone);
+    };
+    let end = before.at + before.len;
+    if end > at {
+        None
+    } else if end == at {
+        Some(Block {
+            at: before.at,
+            len: before.len + alone.len,
+        })
+    } else {
+        Some(alone)
     }
 }
 
-/// The last block that begins before `past`.
-fn last_before(held: &BTreeMap<u64, u64>, past: u64) -> Option<Block>
-    ensures found { IfSome result (λ b. (b.at < past) × (get nat_cmp held.now b.at ≡ Some b.len)) }
-    ensures last { IfSome result (λ b. (k : ℕ) → k < past → IsSome (get nat_cmp held.now k) → k ≤ b.at) }
-    ensures none { IfNone result ((k : ℕ) → k < past → get nat_cmp held.now k ≡ None) }
-    ensures ordered { IsOrdered nat_cmp held.now }
+/// The last block that begins before `past`, and the length of the one that begins there, 0 where none does.
+fn neighbours(held: &BTreeMap<u64, u64>, last: Option<Block>, past: u64) -> (Option<Block>, u64)
+    requires last { IfSome last (IsLastBlock held.now) }
+    ensures found { IfSome result.0
+        (λ b. (b.at < past) × (get nat_cmp held.now b.at ≡ Some b.len)) }
+    ensures last { IfSome result.0
+        (λ b. (k : ℕ) → k < past → IsSome (get nat_cmp held.now k) → k ≤ b.at) }
+    ensures none { IfNone result.0 ((k : ℕ) → k < past → get nat_cmp held.now k ≡ None) }
+    ensures after { result.1 ≡ length_at held.now past }
 {
-    let (&at, &len) = held.range(..past).next_back()?;
+    match last {
+        // No block begins behind the last one.
+        Some(last) if last.at < past => (Some(last), 0),
+        _ => neighbours_among(held, past),
+    }
+}
+
+/// The same, looked for among all blocks.
+fn neighbours_among(held: &BTreeMap<u64, u64>, past: u64) -> (Option<Block>, u64)
+    ensures found { IfSome result.0
+        (λ b. (b.at < past) × (get nat_cmp held.now b.at ≡ Some b.len)) }
+    ensures last { IfSome result.0
+        (λ b. (k : ℕ) → k < past → IsSome (get nat_cmp held.now k) → k ≤ b.at) }
+    ensures none { IfNone result.0 ((k : ℕ) → k < past → get nat_cmp held.now k ≡ None) }
+    ensures after { result.1 ≡ length_at held.now past }
+{
+    let mut blocks = held.range(..=past);
+    let Some((&last, &last_len)) = blocks.next_back() else {
+        return (None, 0);
+    };
+    if last < past {
+        let before = Block {
+            at: last,
+            len: last_len,
+        };
+        return (Some(before), 0);
+    }
+    let Some((&at, &len)) = blocks.next_back() else {
+        return (None, last_len);
+    };
+    (Some(Block { at, len }), last_len)
+}
+
+/// The last block; `None` where nothing is held.
+fn last_block(held: &BTreeMap<u64, u64>) -> Option<Block>
+    ensures some { IsSome result ↔ (0 < length held.now.entries) }
+    ensures last { IfSome result (IsLastBlock held.now) }
+{
+    let (&at, &len) = held.last_key_value()?;
     Some(Block { at, len })
+}
+
+/// Gives the last block another length. Takes no memory.
+fn set_last(held: &mut BTreeMap<u64, u64>, len: u64)
+    ensures updates { (last : Block) → IsLastBlock held.old last
+        → Updates nat_cmp held.old held.new last.at (Some len) }
+    ensures entries { (last : Block) → IsLastBlock held.old last
+        → held.new.entries ≡ insert_entry nat_cmp held.old.entries last.at len }
+    ensures ordered { (last : Block) → IsLastBlock held.old last → IsOrdered nat_cmp held.new }
+{
+    if let Some(mut last) = held.last_entry() {
+        last.insert(len);
+    }
 }

@@ -1,14 +1,12 @@
-use Rattle.std.proofs.Common.{◌≡◌, ℕ, ◌+◌, ◌≤◌, List, Option, unwrap_or, Some, is_ok, not, true, true≢false, Result, Ok, Err, ap, sym, ◌∙◌, arith}
-use Rattle.std.specs.BTreeMap.{insert_entry, Updates}
-use Rattle.std.specs.Ordering.{nat_cmp}
+use Rattle.std.proofs.Common.{◌≡◌, ℕ, ◌+◌, ◌≤◌, List, is_ok, not, true, true≢false, Result, Ok, Err, ap, sym, ◌∙◌, arith}
 use Rattle.std.specs.Result.{OnOk}
 use Rattle.h5_bytes.specs.Blocks.{holds, cover}
 use Rattle.h5_bytes.proofs.BlockLaws.{holds_none, holds-le}
 use Rattle.h5_space.specs.Claimed.{Claimed}
 use Rattle.h5_space.specs.Islands.{blocks_of, length_at}
-use Rattle.h5_space.proofs.IslandLaws.{inside_end_at, claimed, islands}
+use Rattle.h5_space.proofs.IslandLaws.{inside_end, inside_end_at, apart_behind, claimed_behind, islands_behind, claimed, claimed_last, islands, islands_last}
 use Rattle.h5_space.proofs.claims.Claims.claim.Goals as goal
-use Rattle.h5_space.proofs.claims.Claims.claim.Goals.{After-unwrap_or-after, After-remove}
+use Rattle.h5_space.proofs.claims.Claims.claim.Goals.{After-set_last, After-remove, Else-past-island}
 
 on_ok : {T E P : Type 0} (r : Result T E) → is_ok r ≡ true → OnOk r P → P
 on_ok (Ok v) is fact = fact
@@ -40,34 +38,85 @@ returns-then-len-eq0-clause-overlap c = (
       omega (arith, shared.1.1)),
 )
 
--- the length that stands behind the new block
-next : (c : After-unwrap_or-after) → c.unwrap_or-after.result ≡ length_at c.self.inside.held (c.args.at + c.args.len)
-next c = c.unwrap_or-after.ensures ∙ ap (λ (o : Option ℕ). unwrap_or o 0) (c.copied.ensures ∙ c.get.ensures.value)
+pub overflow_add-last : goal.overflow_add-last
+overflow_add-last c =
+    let low = inside_end c.self.inside.held c.self.inside.end c.self.invariant c.in-Some.last.at c.in-Some.last.len c.in-Some.ensures.last.found in
+    omega (arith, low)
 
-pub overflow_add-joined : goal.overflow_add-joined
-overflow_add-joined c =
-    let n = next (goal.at.overflow_add-joined c).After-unwrap_or-after in
-    let fits = inside_end_at c.self.inside.held c.self.inside.end c.self.invariant (c.args.at + c.args.len) (omega arith) in
-    omega (arith, n, c.in-Some.ensures.ends)
+-- where the last block grows
+now_behind : (c : After-set_last) → (p : ℕ) → cover p (blocks_of c.set_last.new.held.entries) ≡ cover p (blocks_of c.self.inside.held.entries) + holds p c.args.at c.args.len
+now_behind c = claimed_behind c.self.inside.held c.set_last.new.held c.self.inside.end c.in-Some.last c.args.at c.args.len c.self.invariant c.in-Some.ensures.last
+    (omega arith) (omega arith) c.if-last-at.true (c.set_last.ensures.entries c.in-Some.last c.in-Some.ensures.last) (c.set_last.ensures.updates c.in-Some.last c.in-Some.ensures.last)
 
-put : (c : After-remove) → c.insert.new.self.entries ≡ insert_entry nat_cmp c.self.inside.held.entries c.in-Some.joined.at (c.in-Some.joined.len + c.unwrap_or-after.result)
-put c = on_ok c.insert.result (c.is_err.ensures.negation ∙ ap not c.if-is_err.false) c.insert.ensures.entries
-
-puts : (c : After-remove) → Updates nat_cmp c.self.inside.held c.insert.new.self c.in-Some.joined.at (Some (c.in-Some.joined.len + c.unwrap_or-after.result))
-puts c = on_ok c.insert.result (c.is_err.ensures.negation ∙ ap not c.if-is_err.false) c.insert.ensures.updates
-
-now : (c : After-remove) → c.unwrap_or-after.result ≡ length_at c.self.inside.held (c.args.at + c.args.len) → (p : ℕ) → cover p (blocks_of c.remove.new.self.entries) ≡ cover p (blocks_of c.self.inside.held.entries) + holds p c.args.at c.args.len
-now c n = claimed c.self.inside.held c.insert.new.self c.remove.new.self c.self.inside.end c.in-Some.joined.at c.in-Some.joined.len c.unwrap_or-after.result (c.args.at + c.args.len)
-    c.self.invariant c.insert.ensures.was_ordered (put c) (puts c) c.remove.ensures.entries c.remove.ensures.updates (omega (arith, c.in-Some.ensures.ends)) c.in-Some.ensures.ends.1 n
-    c.args.at c.args.len c.in-Some.ensures.joined
+apart : (c : After-set_last) → (p : ℕ) → cover p (blocks_of c.self.inside.held.entries) + holds p c.args.at c.args.len ≤ 1
+apart c = apart_behind c.self.inside.held c.set_last.new.held c.self.inside.end c.in-Some.last c.args.at c.args.len c.self.invariant c.in-Some.ensures.last
+    (omega arith) (omega arith) c.if-last-at.true
 
 pub returns-clause-claimed : goal.returns-clause-claimed
-returns-clause-claimed c p = rw (← c.self.view_is) (now c (next (goal.at.returns-clause-claimed c).After-unwrap_or-after) p)
+returns-clause-claimed c p = rw (← c.self.view_is) (now_behind (goal.at.returns-clause-claimed c).After-set_last p)
 
 pub returns-clause-separate : goal.returns-clause-separate
-returns-clause-separate c p = rw (now c (next (goal.at.returns-clause-separate c).After-unwrap_or-after) p) (c.in-Some.ensures.apart p)
+returns-clause-separate c p = rw (now_behind (goal.at.returns-clause-separate c).After-set_last p) (apart (goal.at.returns-clause-separate c).After-set_last p)
 
-pub invariant_of-self-2 : goal.invariant_of-self-2
-invariant_of-self-2 c = islands c.self.inside.held c.insert.new.self c.remove.new.self c.self.inside.end c.in-Some.joined.at c.in-Some.joined.len c.unwrap_or-after.result (c.args.at + c.args.len)
-    c.self.invariant c.insert.ensures.was_ordered (put c) (puts c) c.remove.ensures.entries c.remove.ensures.updates (omega (arith, c.in-Some.ensures.ends)) c.in-Some.ensures.ends.1 (next (goal.at.invariant_of-self-2 c).After-unwrap_or-after)
-    c.args.at c.args.len c.in-Some.ensures.joined (omega arith) c.in-Some.ensures.apart
+pub returns-clause-overlap : goal.returns-clause-overlap
+returns-clause-overlap c = (
+  λ e. absurd (true≢false (ap is_ok e)),
+  λ shared. absurd (
+      let free = apart (goal.at.returns-clause-overlap c).After-set_last shared.1.0 in
+      let same = ap (λ (s : Claimed). cover shared.1.0 s.held) c.self.view_is in
+      omega (arith, shared.1.1, shared.1.2, free, same)),
+)
+
+pub invariant_of-self : goal.invariant_of-self
+invariant_of-self c = islands_behind c.self.inside.held c.set_last.new.held c.self.inside.end c.in-Some.last c.args.at c.args.len c.self.invariant c.in-Some.ensures.last
+    (omega arith) (omega arith) c.if-last-at.true (c.set_last.ensures.entries c.in-Some.last c.in-Some.ensures.last) (c.set_last.ensures.updates c.in-Some.last c.in-Some.ensures.last)
+    (c.set_last.ensures.ordered c.in-Some.last c.in-Some.ensures.last)
+
+pub overflow_add-island : goal.overflow_add-island
+overflow_add-island c =
+    let low = inside_end_at c.self.inside.held c.self.inside.end c.self.invariant (c.args.at + c.args.len) (omega arith) in
+    omega (arith, low, c.in-Some-island_of.ensures.ends)
+
+-- where a block stands behind
+now : (c : After-remove) → (p : ℕ) → cover p (blocks_of c.remove.new.self.entries) ≡ cover p (blocks_of c.self.inside.held.entries) + holds p c.args.at c.args.len
+now c =
+    let ok = c.is_err.ensures.negation ∙ ap not c.if-is_err.false in
+    claimed c.self.inside.held c.insert.new.self c.self.inside.end c.in-Some-island_of.island.at c.in-Some-island_of.island.len c.args.at c.args.len
+    c.self.invariant (on_ok c.insert.result ok c.insert.ensures.entries) (on_ok c.insert.result ok c.insert.ensures.updates) (omega arith) c.in-Some-island_of.ensures.ends.0 c.in-Some-island_of.ensures.ends.1 c.in-Some-island_of.ensures.joined
+    c.remove.new.self c.remove.ensures.entries c.remove.ensures.updates
+
+pub returns-then-past-island-clause-claimed : goal.returns-then-past-island-clause-claimed
+returns-then-past-island-clause-claimed c p = rw (← c.self.view_is) (now (goal.at.returns-then-past-island-clause-claimed c).After-remove p)
+
+pub returns-then-past-island-clause-separate : goal.returns-then-past-island-clause-separate
+returns-then-past-island-clause-separate c p = rw (now (goal.at.returns-then-past-island-clause-separate c).After-remove p) (c.in-Some-island_of.ensures.apart p)
+
+pub invariant_of-self-then-past-island : goal.invariant_of-self-then-past-island
+invariant_of-self-then-past-island c =
+    let ok = c.is_err.ensures.negation ∙ ap not c.if-is_err.false in
+    islands c.self.inside.held c.insert.new.self c.self.inside.end c.in-Some-island_of.island.at c.in-Some-island_of.island.len c.args.at c.args.len
+    c.self.invariant (on_ok c.insert.result ok c.insert.ensures.entries) (on_ok c.insert.result ok c.insert.ensures.updates) (omega arith) c.in-Some-island_of.ensures.ends.0 c.in-Some-island_of.ensures.ends.1 c.in-Some-island_of.ensures.joined
+    (omega arith) c.in-Some-island_of.ensures.apart c.remove.new.self c.remove.ensures.ordered c.remove.ensures.entries c.remove.ensures.updates
+
+-- where none does
+none : (c : Else-past-island) → length_at c.self.inside.held (c.args.at + c.args.len) ≡ 0
+none c = omega (arith, c.in-Some-island_of.ensures.ends.1, c.if-past-island.false)
+
+now_last : (c : Else-past-island) → (p : ℕ) → cover p (blocks_of c.insert.new.self.entries) ≡ cover p (blocks_of c.self.inside.held.entries) + holds p c.args.at c.args.len
+now_last c =
+    let ok = c.is_err.ensures.negation ∙ ap not c.if-is_err.false in
+    claimed_last c.self.inside.held c.insert.new.self c.self.inside.end c.in-Some-island_of.island.at c.in-Some-island_of.island.len c.args.at c.args.len
+    c.self.invariant (on_ok c.insert.result ok c.insert.ensures.entries) (on_ok c.insert.result ok c.insert.ensures.updates) (omega arith) c.in-Some-island_of.ensures.ends.0 c.in-Some-island_of.ensures.ends.1 c.in-Some-island_of.ensures.joined (none c)
+
+pub returns-else-past-island-clause-claimed : goal.returns-else-past-island-clause-claimed
+returns-else-past-island-clause-claimed c p = rw (← c.self.view_is) (now_last (goal.at.returns-else-past-island-clause-claimed c).Else-past-island p)
+
+pub returns-else-past-island-clause-separate : goal.returns-else-past-island-clause-separate
+returns-else-past-island-clause-separate c p = rw (now_last (goal.at.returns-else-past-island-clause-separate c).Else-past-island p) (c.in-Some-island_of.ensures.apart p)
+
+pub invariant_of-self-else-past-island : goal.invariant_of-self-else-past-island
+invariant_of-self-else-past-island c =
+    let ok = c.is_err.ensures.negation ∙ ap not c.if-is_err.false in
+    islands_last c.self.inside.held c.insert.new.self c.self.inside.end c.in-Some-island_of.island.at c.in-Some-island_of.island.len c.args.at c.args.len
+    c.self.invariant (on_ok c.insert.result ok c.insert.ensures.entries) (on_ok c.insert.result ok c.insert.ensures.updates) (omega arith) c.in-Some-island_of.ensures.ends.0 c.in-Some-island_of.ensures.ends.1 c.in-Some-island_of.ensures.joined
+    (omega arith) c.in-Some-island_of.ensures.apart c.insert.ensures.ordered (none (goal.at.invariant_of-self-else-past-island c).Else-past-island)

@@ -23,7 +23,7 @@ loop-at-init c =
       bytes = refl;
       inside = subst (AllByRecursion (λ (e : ℕ × ℕ). e.0 + e.1 ≤ c.args.self.now.end)) (sym is)
           (subst (λ (end : ℕ). AllByRecursion (λ (e : ℕ × ℕ). e.0 + e.1 ≤ end) c.self.inside.held.entries) (ap (λ (s : Claimed). s.end) c.self.view_is)
-          (all_end c.self.inside.held c.self.inside.end c.self.invariant c.iter-at-items.ensures.ordered));
+          (all_end c.self.inside.held c.self.inside.end c.self.invariant));
       given = λ p. let same = ap (cover p) held in omega (arith, same);
       room_bytes = refl;
       room_blocks =
