@@ -62,13 +62,15 @@ module _ (image : List ℕ) (held : List Block) (followed : List Named) (first s
 
   pub heap_refused : (cause : Cause) (address : ℕ) → IsHeapRefused image table.heap held cause address → IsFault image cause address
   heap_refused Truncated address (inl (e, past)) = met_truncated image held followed met.walked heap_field met.heap refl address e past
-  heap_refused Truncated address (inr (there, e, past)) =
-      (segment_field, by_block {y = segment_field} (met.heap).reached refl (omega (arith, there)), sym e, rw segment_length past)
-  heap_refused Overlap address (inl (e, shares)) = met_overlaps image held followed met.walked heap_field met.heap refl address e shares
-  heap_refused Overlap address (inr (there, apart, e, shares)) =
+  heap_refused Truncated address (inr (next, e, past)) =
+      (segment_field, by_block {y = segment_field} (met.heap).reached refl (omega (arith, (next.header).inside)), sym e, rw segment_length past)
+  heap_refused Overlap address (inl (e, there, shares)) = met_overlaps image held followed met.walked heap_field met.heap refl address e shares
+  heap_refused Overlap address (inr (next, e, shares)) =
+      let there = (next.header).inside in
+      let apart = (next.header).apart in
       met_overlaps image (with_header there apart) (heap_field ∷ followed) (header_walked there apart) segment_field (segment_met there apart) refl address e
       (rw segment_length shares)
-  heap_refused HeapForm address (e, there, none) = (heap_field, (met.heap).reached, sym e, (there, none))
+  heap_refused HeapForm address (e, header, segment, none) = (heap_field, (met.heap).reached, sym e, (header.inside, none))
   heap_refused NoMemory address h = tt
   heap_refused _ address h = absurd h
 

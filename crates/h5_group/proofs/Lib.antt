@@ -8,6 +8,7 @@ pub mod Refusals
 pub mod Linked
 pub mod Readable
 pub mod Followed
+mod FirstFaults
 pub mod NodeLaws
 pub mod TextProofs
 pub mod OrderProofs

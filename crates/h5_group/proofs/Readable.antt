@@ -80,8 +80,8 @@ module _ (image : List ℕ) (table : SymbolTable) (held : List Block) (readable 
 
     pub order_memory : (cause : Cause) (address : ℕ) → IsOrderRefused image table owned symbol_nodes cause address → cause ≡ NoMemory
     order_memory NoMemory address refused = refl
-    order_memory NameOrder address (there, breach) = absurd (name_excluded image table.tree table.heap readable.links readable.blocks readable.has address breach)
-    order_memory KeyOrder address (there, breach) =
+    order_memory NameOrder address (there, first, breach) = absurd (name_excluded image table.tree table.heap readable.links readable.blocks readable.has address breach)
+    order_memory KeyOrder address (there, ascend, breach) =
         let row = own_row address (in_contains address owned there) in
         absurd (key_excluded image table.tree table.heap readable.links readable.blocks readable.has row.0 row.1 address row.2 row.3 breach)
     order_memory _ address refused = absurd refused

@@ -36,13 +36,13 @@ module _ (image : List ℕ) (now : List Block) (followed : List Named) (table : 
 
   pub order_refused : (cause : Cause) (address : ℕ) → IsOrderRefused image table nodes symbol_nodes cause address → IsFault image cause address
   order_refused NoMemory address refused = tt
-  order_refused NameOrder address (has, breach) =
+  order_refused NameOrder address (has, first, breach) =
       let there = in_contains address symbol_nodes has in
       let by = in_all (AreSymbolsReached image table.tree table.heap depth) address symbol_nodes tree.leaves_reached there in
       let block = in_all IsInside (symbol_block (leaf_k image) address) (map (symbol_block (leaf_k image)) symbol_nodes)
       (all_right IsInside (tree_blocks (kind_in image) nodes) (map (symbol_block (leaf_k image)) symbol_nodes) inside) (in_map (symbol_block (leaf_k image)) address symbol_nodes there) in
       (named by.0 (SymbolNode table.tree table.heap) address depth, by.1, refl, (block, breach))
-  order_refused KeyOrder address (has, breach) =
+  order_refused KeyOrder address (has, ascend, breach) =
       let there = in_contains address nodes has in
       let by = in_all (IsNodeReached image OfGroup table.tree table.heap depth) address nodes tree.nodes_reached there in
       let block = in_all IsInside (node_block (kind_in image) address) (tree_blocks (kind_in image) nodes)

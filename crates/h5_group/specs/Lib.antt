@@ -1,5 +1,6 @@
 pub mod Links
 pub mod Walk
+pub mod FirstFault
 pub mod Nodes
 pub mod Told
 pub mod Edited

@@ -4,6 +4,7 @@ ghost use Rattle.std.specs.Prelude.{◌≡◌, length, IfErr, OnOk};
 ghost use Rattle.h5_model.specs.Format.Superblock.{IsSuperblock};
 ghost use Rattle.h5_model.specs.declared.open_fault.Cause.TheVariants.{NoMemory};
 ghost use Rattle.h5_space.specs.Claimed.{HasClaimed};
+ghost use Rattle.h5_group.specs.FirstFault.{IsFirstGroupFault};
 ghost use Rattle.h5_group.specs.Links.{IsGroupRead, IsGroupReadable};
 ghost use Rattle.h5_group.specs.Told.{blocks_told};
 ghost use Rattle.h5_group.specs.Walk.{FollowsGroup, IsGroupFault};
@@ -30,7 +31,7 @@ use std::alloc::Global;
 /// - of the B-tree and the symbol nodes, depth first: `Truncated`, `Overlap`, `NodeForm`; then `Sibling`, at a node;
 /// - `HeapName` and `BadName`, at the header of the heap: a name or a soft link's text is not in the heap, or a name
 ///   is not allowed;
-/// - `NameOrder`, at a symbol node: the names do not ascend;
+/// - `NameOrder`, at the first symbol node with a name that is not above the one before it;
 /// - `KeyOrder`, at a node: the keys do not bound the names below them.
 ///
 /// `NoMemory` comes where memory is refused. It is the only refusal of a group that is as the format says, in blocks
@@ -49,6 +50,8 @@ pub fn read_group(
     ensures walked { OnOk result (FollowsGroup image.now.bytes claims.old.held claims.new.held table) }
     ensures refused { IfErr result (λ fault.
         IsGroupFault image.now.bytes claims.old.held table fault.cause fault.address) }
+    ensures first { IfErr result (λ fault.
+        IsFirstGroupFault image.now.bytes claims.old.held table fault.cause fault.address) }
     ensures only { IsGroupReadable image.now.bytes table claims.old.held
         → IfErr result (λ fault. fault.cause ≡ NoMemory) }
 {

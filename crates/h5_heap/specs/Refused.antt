@@ -14,25 +14,41 @@ pub record IsHeader (header : List ℕ) : Type 0 where
   pub version : byte_at header 4 ≡ 0
   pub size : 8 ≤ segment_size header
 
--- the header, or the segment that it names, passes the end
-abbrev pub IsCut : List ℕ → ℕ → ℕ → Type 0
-IsCut image heap address = ((address ≡ heap) × (length image < heap + 32))
-    ⊎ ((heap + 32 ≤ length image) × (address ≡ (segment_block image heap).at)
+-- a block can be claimed: it lies in the image, and shares no byte with what was claimed before
+pub record CanBeClaimed (image : List ℕ) (held : List Block) (b : Block) : Type 0 where
+  pub inside : b.at + b.len ≤ length image
+  pub apart : (p : ℕ) → cover p held + holds p b.at b.len ≤ 1
+
+-- the segment is looked at only now: the header can be claimed, and has its form
+pub record IsSegmentNext (image : List ℕ) (heap : ℕ) (held : List Block) : Type 0 where
+  pub header : CanBeClaimed image held (block heap 32)
+  pub form : IsHeader (heap_header image heap)
+
+-- the header passes the end; or the segment is next, and passes it
+abbrev pub IsCut : List ℕ → ℕ → List Block → ℕ → Type 0
+IsCut image heap held address = ((address ≡ heap) × (length image < heap + 32))
+    ⊎ (IsSegmentNext image heap held × (address ≡ (segment_block image heap).at)
     × (length image < (segment_block image heap).at + (segment_block image heap).len))
 
--- the header shares a byte with what was claimed before; or the header does not, and the segment shares one with that or with the
--- header
+-- the header lies in the image, and shares a byte with what was claimed before; or the segment is next, and shares one with that or
+-- with the header
 abbrev pub IsCrossed : List ℕ → ℕ → List Block → ℕ → Type 0
-IsCrossed image heap held address = ((address ≡ heap) × Shares held heap 32)
-    ⊎ ((heap + 32 ≤ length image) × ((p : ℕ) → cover p held + holds p heap 32 ≤ 1) × (address ≡ (segment_block image heap).at)
+IsCrossed image heap held address = ((address ≡ heap) × (heap + 32 ≤ length image) × Shares held heap 32)
+    ⊎ (IsSegmentNext image heap held × (address ≡ (segment_block image heap).at)
     × Shares (block heap 32 ∷ held) (segment_block image heap).at (segment_block image heap).len)
 
--- The cause holds of the heap at this address, and the second address is that of the header or of the segment.
-abbrev pub IsHeapRefused : List ℕ → ℕ → List Block → Cause → ℕ → Type 0
-IsHeapRefused image heap held Truncated address = IsCut image heap address
-IsHeapRefused image heap held Overlap address = IsCrossed image heap held address
-IsHeapRefused image heap held HeapForm address = (address ≡ heap) × (heap + 32 ≤ length image)
+-- the header can be claimed, and is none; or so can the segment too, and its free list is none
+abbrev pub IsMisformed : List ℕ → ℕ → List Block → ℕ → Type 0
+IsMisformed image heap held address = (address ≡ heap) × CanBeClaimed image held (block heap 32)
+    × (IsHeader (heap_header image heap) → CanBeClaimed image (block heap 32 ∷ held) (segment_block image heap))
     × ((free : List Block) → IsHeap (heap_header image heap) (segment_of image heap) free → ⊥)
+
+-- The cause holds of the heap at this address, that of the header or of the segment, and it is the first one: of the header's place,
+-- the header's form, the segment's place and the free list, all before it are right.
+abbrev pub IsHeapRefused : List ℕ → ℕ → List Block → Cause → ℕ → Type 0
+IsHeapRefused image heap held Truncated address = IsCut image heap held address
+IsHeapRefused image heap held Overlap address = IsCrossed image heap held address
+IsHeapRefused image heap held HeapForm address = IsMisformed image heap held address
 IsHeapRefused image heap held NoMemory address = Unit {0}
 IsHeapRefused image heap held _ address = ⊥
 

@@ -47,11 +47,14 @@ impl Model for Heap {
 ///
 /// # Errors
 ///
-/// - `Truncated`, `Overlap`, at the header or the segment: it passes the end, or shares a byte with a claimed block.
-/// - `HeapForm`, at the header: the header is not of version 0; the segment has fewer than 8 bytes; or a block of the
-///   free list begins at no multiple of 8, has fewer than 16 bytes, is not in the segment, or shares a byte with
-///   another one.
-/// - `NoMemory`: memory is refused.
+/// These are looked for in this order:
+///
+/// - `Truncated`, `Overlap`, at the header: it passes the end, or shares a byte with a claimed block.
+/// - `HeapForm`, at the header: it is not of version 0, or the segment has fewer than 8 bytes.
+/// - `Truncated`, `Overlap`, at the segment: it passes the end, or shares a byte with a claimed block or the header.
+/// - `HeapForm`, at the header: a block of the free list begins at no multiple of 8, has fewer than 16 bytes, is not
+///   in the segment, or shares a byte with another one.
+/// - `NoMemory`, at any time: memory is refused.
 ///
 /// After a refusal it is left open which of the two blocks are claimed.
 pub fn read_heap(

@@ -1,15 +1,16 @@
 -- The texts of a group are sound where all were taken and named, and else a rule of the group is broken (File Format Specification
 -- 3.0, sections III.A.1, III.B and III.D).
-use Rattle.std.proofs.Common.{◌≡◌, ℕ, ◌≤◌, zero, suc, List, [], ◌∷◌, ◌++◌, length, map, Bool, true, false, refl, sym, ap, ◌∙◌, subst, arith, append-nil}
+use Rattle.std.proofs.Common.{◌≡◌, ℕ, ◌≤◌, inl, inr, zero, suc, List, [], ◌∷◌, ◌++◌, length, map, Bool, true, false, refl, sym, ap, ◌∙◌, subst, arith, append-nil}
 use Rattle.std.specs.Prelude.{◌==◌, if◌then◌else◌, IsTrue, not}
 use Rattle.std.specs.List.{AllByRecursion, Contains, flat_map}
 use Rattle.std.specs.List.Sorted.{IsPermutation}
 use Rattle.std.proofs.lemmas.Grind.{flat_map-append}
 use Rattle.std.proofs.lemmas.List.Sorted.{IsPermutation-sym, Contains-permutation}
 use Rattle.std.proofs.lemmas.List.Elements.{Contains-append_left, Contains-append_right}
-use Rattle.h5_bytes.specs.Bytes.{part}
+use Rattle.h5_bytes.specs.Bytes.{byte_at, part}
 use Rattle.h5_bytes.specs.Texts.{text_at}
 use Rattle.h5_bytes.specs.declared.Block.{Block}
+use Rattle.h5_bytes.proofs.BlockLaws.{all_so}
 use Rattle.h5_bytes.proofs.PartLaws.{length-part}
 use Rattle.h5_model.specs.Format.Addresses.{SymbolTable}
 use Rattle.h5_model.specs.Format.Heap.{segment_of, HasNames}
@@ -25,14 +26,15 @@ use Rattle.h5_heap.specs.Kept.{HeapState, segment_in}
 use Rattle.h5_heap.specs.Spans.{IsNotEmpty, HasTaken}
 use Rattle.h5_heap.proofs.NameLaws.{link_offsets, walk_takes_all, has_names}
 use Rattle.h5_heap.proofs.BreachLaws.{begin_breach, name_breach}
+use Rattle.h5_snod.specs.Entries.{symbol_from}
 use Rattle.h5_snod.specs.declared.entry.SymbolTarget.TheVariants.{Header, Text}
 use Rattle.h5_btree.specs.Walk.Forms.{OfGroup}
 use Rattle.h5_btree.specs.Walk.Trees.{IsTree}
 use Rattle.h5_group.specs.Nodes.Trees.{kind_in}
 use Rattle.h5_group.specs.Texts.Named.{AreTexts, IsFreshHeap}
-use Rattle.h5_group.specs.Texts.Refused.{AreTextsRefused}
+use Rattle.h5_group.specs.Texts.Refused.{AreTextsRefused, IsFirstTextFault}
 use Rattle.h5_group.specs.Nodes.Stands.{entries_at, keys_at}
-use Rattle.h5_group.specs.Texts.Linked.{linked_by, linked_at, text_of, IsNamed, AreEntriesRefused}
+use Rattle.h5_group.specs.Texts.Linked.{linked_by, linked_at, text_of, IsNamed, IsEntrySound, AreEntriesSound, AreEntriesRefused}
 use Rattle.h5_group.specs.Texts.Taken.{IsSameHeap, TakesLinked, NamesKeys, AreKeysNamed, AreLinkedRefused, AreKeysRefused}
 use Rattle.h5_group.proofs.TextProofs.LinkedLaws.{same_both, segment_same}
 
@@ -119,17 +121,54 @@ module _ (image : List ℕ) (table : SymbolTable) (heap : HeapState) (nodes symb
   in_offsets e offset there names_it = Contains-permutation (link_offsets es) (names ++ texts_of es) offset (walk_takes_all es)
       (subst (λ (zs : List ℕ). Contains zs offset) (all_linked es) (in_linked es e offset there names_it))
 
+  among : (cause : Cause) (r : AreEntriesRefused (segment_in image heap) es cause) → Contains es r.entry
+  among cause r = subst (λ (xs : List Entry). Contains xs r.entry) (sym r.parts) (Contains-append_right r.before (r.entry ∷ r.after) r.entry (0, omega arith, refl))
+
   pub names_refused : (cause : Cause) → AreEntriesRefused (segment_in image heap) es cause → AreTextsRefused image table cause
-  names_refused HeapName (e, there, refused) =
-      name_breach image table.tree table.heap symbol_nodes has heap fresh.segment fresh.read refused.0 (in_offsets e refused.0 there refused.1) refused.2
-  names_refused BadName (e, there, bad) =
-      (symbol_nodes, e, has, there, subst (λ (s : List ℕ). IsTrue (not (is_name (text_at s e.name)))) segment_is bad)
-  names_refused _ (e, there, refused) = absurd refused
+  names_refused HeapName r =
+      let (offset, names_it, none, named) = r.refused in
+      name_breach image table.tree table.heap symbol_nodes has heap fresh.segment fresh.read offset (in_offsets r.entry offset (among HeapName r) names_it) none
+  names_refused BadName r =
+      (symbol_nodes, r.entry, has, among BadName r, subst (λ (s : List ℕ). IsTrue (not (is_name (text_at s (r.entry).name)))) segment_is (r.refused).1)
+  names_refused _ r = absurd r.refused
 
   pub empty_refused : (cause : Cause) → IsNotEmpty (segment_in image heap) heap.held cause → AreTextsRefused image table cause
   empty_refused HeapName refused = begin_breach image table.tree table.heap symbol_nodes has heap fresh.segment fresh.read fresh.held refused
   empty_refused NoMemory refused = tt
   empty_refused _ refused = absurd refused
+
+  -- ---- and it is the first fault
+
+  abbrev IsFirst : Cause → Type 0
+  IsFirst cause = IsFirstTextFault (segment_of image table.heap) es cause
+
+  pub none_first : (byte_at (segment_in image heap) 0 ≡ 0 → ⊥) → IsFirst HeapName
+  none_first none = inl (subst (λ (s : List ℕ). byte_at s 0 ≡ 0 → ⊥) segment_is none)
+
+  pub names_first : (cause : Cause) → byte_at (segment_in image heap) 0 ≡ 0 → AreEntriesRefused (segment_in image heap) es cause → IsFirst cause
+  names_first HeapName empty r = inr (inl (subst (λ (s : List ℕ). AreEntriesRefused s es HeapName) segment_is r))
+  names_first BadName empty r =
+      (subst (λ (s : List ℕ). byte_at s 0 ≡ 0) segment_is empty, subst (λ (s : List ℕ). AreEntriesRefused s es BadName) segment_is r)
+  names_first _ empty r = absurd r.refused
+
+  module _ (sound : AreEntriesSound (segment_in image heap) es) where
+    all_sound : AreEntriesSound (segment_of image table.heap) es
+    all_sound = subst (λ (s : List ℕ). AreEntriesSound s es) segment_is sound
+
+    pub empty_first : (cause : Cause) → IsNotEmpty (segment_in image heap) heap.held cause → IsFirst cause
+    empty_first HeapName refused = inr (inr all_sound)
+    empty_first NoMemory refused = tt
+    empty_first _ refused = absurd refused
+
+    pub linked_first : (now : HeapState) → HasTaken (segment_in image now) now [] [] → (cause : Cause) → AreLinkedRefused image now linked cause → IsFirst cause
+    linked_first now taken HeapName refused = inr (inr all_sound)
+    linked_first now taken NoMemory refused = tt
+    linked_first now taken _ refused = absurd (refused [] taken)
+
+    pub keys_first : (now : HeapState) → HasTaken (segment_in image now) now linked [] → (cause : Cause) → AreKeysRefused image now keys cause → IsFirst cause
+    keys_first now taken HeapName refused = inr (inr all_sound)
+    keys_first now taken NoMemory refused = tt
+    keys_first now taken _ refused = absurd (refused linked [] taken)
 
   -- the heap as it is now, after some texts were taken
   module _ (now : HeapState) (same : IsSameHeap heap now) where
@@ -177,13 +216,14 @@ module _ (image : List ℕ) (table : SymbolTable) (heap : HeapState) (nodes symb
       keys_refused _ refused = absurd (refused linked [] taken)
 
       -- and the keys name texts
-      pub are_texts : (new : HeapState) → NamesKeys image now new keys → AllByRecursion (IsNamed (segment_in image heap)) es
+      pub are_texts : (new : HeapState) → NamesKeys image now new keys → AreEntriesSound (segment_in image heap) es
           → AreTexts image (segment_of image table.heap) heap.free nodes symbol_nodes
       are_texts new named good =
           let all : AreKeysNamed (segment_in image now) new linked [] keys = named.named linked [] taken in
           let sound = has_names (segment_in image now) new linked all.loose' names (texts_of es) keys all.taken same_linked all.names in
           record {
-            named = subst (λ (s : List ℕ). AllByRecursion (IsNamed s) es) segment_is good;
+            named = subst (λ (s : List ℕ). AllByRecursion (IsNamed s) es) segment_is
+                (all_so (λ (e : Entry). IsEntrySound (segment_in image heap) (symbol_from e)) (IsNamed (segment_in image heap)) es (λ e s. s.named) good);
             loose = all.loose';
             spans = sound_then all.loose' (subst (λ (free : List Block). HasNames (segment_in image now) free names (texts_of es) keys all.loose') (named.same).free sound);
           }

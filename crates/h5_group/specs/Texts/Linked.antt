@@ -1,7 +1,7 @@
 -- The texts that the entries of symbol nodes name, and why they are refused (File Format Specification 3.0, sections III.B, III.C and
 -- III.D).
-use Rattle.std.specs.Prelude.{ℕ, IsTrue, not, List, [], ◌∷◌}
-use Rattle.std.specs.List.{Contains, flat_map}
+use Rattle.std.specs.Prelude.{◌≡◌, ℕ, IsTrue, not, List, [], ◌∷◌, ◌++◌}
+use Rattle.std.specs.List.{AllByRecursion, Contains, flat_map}
 use Rattle.h5_bytes.specs.Texts.{text_at}
 use Rattle.h5_model.specs.Tree.Paths.{is_name}
 use Rattle.h5_model.specs.Format.Symbols.{Entry}
@@ -34,12 +34,27 @@ linked_at image at = flat_map linked_by (entries_at image at)
 abbrev pub IsNamed : List ℕ → Entry → Type 0
 IsNamed segment e = IsTrue (is_name (text_at segment e.name))
 
--- no text of the heap stands where its name or its text should be; or a link may not have the name
+-- its name and its text stand in the heap, and the name is one that a link may have
+pub record IsEntrySound (segment : List ℕ) (symbol : SymbolEntry) : Type 0 where
+  pub stand : AllByRecursion (IsSpan segment) (linked_from symbol)
+  pub named : IsTrue (is_name (text_at segment symbol.name))
+
+abbrev pub AreEntriesSound : List ℕ → List Entry → Type 0
+AreEntriesSound segment es = AllByRecursion (λ (e : Entry). IsEntrySound segment (symbol_from e)) es
+
+-- The name or the text does not stand in the heap, and no name that stands there is bad; or the name stands in the heap, and a link may
+-- not have it.
 abbrev pub IsEntryRefused : List ℕ → SymbolEntry → Cause → Type 0
 IsEntryRefused segment symbol HeapName = (offset : ℕ) × Contains (linked_from symbol) offset × (IsSpan segment offset → ⊥)
-IsEntryRefused segment symbol BadName = IsTrue (not (is_name (text_at segment symbol.name)))
+    × (IsSpan segment symbol.name → IsTrue (is_name (text_at segment symbol.name)))
+IsEntryRefused segment symbol BadName = IsSpan segment symbol.name × IsTrue (not (is_name (text_at segment symbol.name)))
 IsEntryRefused segment symbol _ = ⊥
 
--- the same of one of these entries
-abbrev pub AreEntriesRefused : List ℕ → List Entry → Cause → Type 0
-AreEntriesRefused segment es cause = (e : Entry) × Contains es e × IsEntryRefused segment (symbol_from e) cause
+-- the same of the first of these entries that is not sound
+pub record AreEntriesRefused (segment : List ℕ) (es : List Entry) (cause : Cause) : Type 0 where
+  pub before : List Entry
+  pub entry : Entry
+  pub after : List Entry
+  pub parts : es ≡ before ++ entry ∷ after
+  pub sound : AreEntriesSound segment before
+  pub refused : IsEntryRefused segment (symbol_from entry) cause

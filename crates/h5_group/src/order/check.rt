@@ -25,7 +25,7 @@ use h5_space::Image;
 ///
 /// # Errors
 ///
-/// - `NameOrder`, at the symbol node with the later name: two names, one behind the other, do not ascend.
+/// - `NameOrder`, at the first symbol node with a name that is not above the one before it.
 /// - `KeyOrder`, at the first such node, depth first: the keys of the node fall, or a name below one of its children
 ///   is not above the key before that child, or is above the key behind it. It comes only where the names ascend.
 pub fn check_order(

@@ -9,6 +9,7 @@ ghost use Rattle.h5_model.specs.Faults.TreeFaults.{all_entries};
 ghost use Rattle.h5_group.specs.Nodes.Stands.{IsSymbolsAt};
 ghost use Rattle.h5_btree.specs.Rising.{FallAt, FallFrom, IsAbove, RiseFrom, last_value};
 ghost use Rattle.h5_group.specs.Order.Between.{name_of_entry};
+ghost use Rattle.h5_group.specs.Order.Ordered.{AscendsBefore};
 
 use crate::nodes::symbol_node;
 use crate::order::text::is_before;
@@ -30,6 +31,8 @@ pub(crate) fn check_names(
     ensures falls { IfErr result (λ fault.
         FallAt (name_of_entry segment.now) Before
         (symbols_at image.now.bytes (leaf_k image.now.bytes)) symbol_nodes.now fault.address) }
+    ensures first { IfErr result (λ fault.
+        AscendsBefore image.now.bytes segment.now symbol_nodes.now fault.address) }
 {
     let mut last = None;
     for at in symbol_nodes {

@@ -4,11 +4,12 @@ ghost use Rattle.std.specs.Prelude.{◌≡◌, length, IfErr, OnOk};
 ghost use Rattle.h5_bytes.specs.Blocks.{Inside};
 ghost use Rattle.h5_model.specs.Format.Superblock.{IsSuperblock};
 ghost use Rattle.h5_model.specs.Format.Heap.{segment_of};
+ghost use Rattle.h5_model.specs.Faults.TreeFaults.{all_entries};
 ghost use Rattle.h5_btree.specs.Walk.Forms.{OfGroup};
 ghost use Rattle.h5_btree.specs.Walk.Trees.{IsTree};
 ghost use Rattle.h5_group.specs.Nodes.Trees.{group_nodes_blocks};
 ghost use Rattle.h5_group.specs.Texts.Named.{AreTexts, IsFreshHeap};
-ghost use Rattle.h5_group.specs.Texts.Refused.{AreTextsRefused};
+ghost use Rattle.h5_group.specs.Texts.Refused.{AreTextsRefused, IsFirstTextFault};
 
 use crate::texts::keys::take_keys;
 use crate::texts::linked::take_linked;
@@ -50,6 +51,8 @@ pub fn check_texts(
         tree.now.leaves.items) }
     ensures address { IfErr result (λ fault. fault.address ≡ table.heap) }
     ensures refused { IfErr result (λ fault. AreTextsRefused image.now.bytes table fault.cause) }
+    ensures first { IfErr result (λ fault. IsFirstTextFault (segment_of image.now.bytes table.heap)
+        (all_entries image.now.bytes tree.now.leaves.items) fault.cause) }
 {
     if !has_empty_name(image, heap) {
         return Err(OpenFault {

@@ -8,7 +8,7 @@ ghost use Rattle.h5_model.specs.Format.Superblock.{IsSuperblock};
 ghost use Rattle.h5_model.specs.Tree.Paths.{is_name};
 ghost use Rattle.h5_heap.specs.Kept.{segment_in};
 ghost use Rattle.h5_group.specs.Nodes.Stands.{IsSymbolsAt, entries_at};
-ghost use Rattle.h5_group.specs.Texts.Linked.{IsNamed, IsEntryRefused, AreEntriesRefused};
+ghost use Rattle.h5_group.specs.Texts.Linked.{IsEntrySound, AreEntriesSound, IsEntryRefused, AreEntriesRefused};
 
 use crate::nodes::symbol_node;
 use h5_heap::Heap;
@@ -39,8 +39,8 @@ pub(crate) fn check_names(
     requires there { AllByRecursion (IsSymbolsAt image.now.bytes) symbol_nodes.now }
     requires within { heap.now.segment.at + heap.now.segment.len ≤ length image.now.bytes }
     requires address { heap.now.at ≡ address }
-    ensures named { OnOk result
-        (AllByRecursion (IsNamed (segment_in image.now.bytes heap.now))
+    ensures sound { OnOk result
+        (AreEntriesSound (segment_in image.now.bytes heap.now)
         (flat_map (entries_at image.now.bytes) symbol_nodes.now)) }
     ensures address { IfErr result (λ fault. fault.address ≡ address) }
     ensures refused { IfErr result (λ fault.
@@ -59,8 +59,8 @@ fn check_entries(image: &Image, heap: &Heap, address: u64, at: u64) -> Result<()
     requires there { IsSymbolsAt image.now.bytes at }
     requires within { heap.now.segment.at + heap.now.segment.len ≤ length image.now.bytes }
     requires address { heap.now.at ≡ address }
-    ensures named { OnOk result
-        (AllByRecursion (IsNamed (segment_in image.now.bytes heap.now)) (entries_at image.now.bytes at)) }
+    ensures sound { OnOk result
+        (AreEntriesSound (segment_in image.now.bytes heap.now) (entries_at image.now.bytes at)) }
     ensures address { IfErr result (λ fault. fault.address ≡ address) }
     ensures refused { IfErr result (λ fault.
         AreEntriesRefused (segment_in image.now.bytes heap.now) (entries_at image.now.bytes at) fault.cause) }
@@ -83,8 +83,7 @@ fn check_entry(
 ) -> Result<(), OpenFault>
     requires within { heap.now.segment.at + heap.now.segment.len ≤ length image.now.bytes }
     requires address { heap.now.at ≡ address }
-    ensures named { OnOk result
-        (IsTrue (is_name (text_at (segment_in image.now.bytes heap.now) entry.name))) }
+    ensures sound { OnOk result (IsEntrySound (segment_in image.now.bytes heap.now) entry) }
     ensures address { IfErr result (λ fault. fault.address ≡ address) }
     ensures refused { IfErr result (λ fault.
         IsEntryRefused (segment_in image.now.bytes heap.now) entry fault.cause) }

@@ -1,4 +1,4 @@
-use Rattle.std.proofs.Common.{◌≡◌, ℕ, ◌+◌, length}
+use Rattle.std.proofs.Common.{◌≡◌, ℕ, ◌+◌, inl, length}
 use Rattle.std.proofs.lemmas.Result.{err_from_is_err_and}
 use Rattle.h5_bytes.specs.Blocks.{cover, Inside}
 use Rattle.h5_model.specs.Format.Heap.{heap_header, segment_of, heap_blocks, IsHeap}
@@ -10,6 +10,7 @@ use Rattle.h5_group.proofs.HeapSteps.{heap_refused, at_tree}
 use Rattle.h5_group.proofs.Refusals.{texts_refused, order_refused}
 use Rattle.h5_group.proofs.Linked.{group_read, both_claimed, leaves_are}
 use Rattle.h5_group.proofs.Followed.{group_followed}
+use Rattle.h5_group.proofs.FirstFaults.{tree_first, texts_first, order_first}
 use Rattle.h5_group.proofs.Readable.{heap_readable, tree_readable, texts_memory, order_memory}
 use Rattle.h5_group.proofs.group.read_group.Goals as goal
 
@@ -122,3 +123,50 @@ returns-in_err-check_order-clause-only c = λ readable.
     let p = err_from_is_err_and c.from_residual-in_err-check_order.result c.from_residual-in_err-check_order.ensures.1 in
     rw (p.1, p.2) (order_memory image c.args.table c.args.claims.now.held readable c.in_ok-tree.tree.nodes.items c.in_ok-tree.tree.leaves.items tree _ _
     c.in_err-check_order.ensures.refused)
+
+pub returns-in_err-heap-clause-first : goal.returns-in_err-heap-clause-first
+returns-in_err-heap-clause-first c =
+    let p = err_from_is_err_and c.from_residual.result c.from_residual.ensures.1 in
+    rw (p.1, p.2) (inl (rw c.heap.ensures at c.in_err-heap.ensures.refused))
+
+pub returns-in_err-tree-clause-first : goal.returns-in_err-tree-clause-first
+returns-in_err-tree-clause-first c =
+    let image = c.args.image.now.bytes in
+    let form : IsHeap (heap_header image c.args.table.heap) (segment_of image c.args.table.heap) c.in_ok-heap.heap.free = rw c.heap.ensures at c.in_ok-heap.ensures.read in
+    let inside : Inside (length image) (heap_blocks image c.args.table.heap) = rw c.heap.ensures at c.in_ok-heap.ensures.inside in
+    let claimed : (p : ℕ) → cover p c.read_heap.new.claims.held ≡ cover p c.args.claims.now.held + cover p (heap_blocks image c.args.table.heap)
+    = λ q. rw c.heap.ensures at (c.in_ok-heap.ensures.claimed.covered q) in
+    let p = err_from_is_err_and c.from_residual-in_err-tree.result c.from_residual-in_err-tree.ensures.1 in
+    rw (p.1, p.2) (tree_first image c.args.table c.args.claims.now.held c.read_heap.new.claims.held c.in_ok-heap.heap.free form inside claimed
+    c.in_ok-heap.ensures.claimed.separate _ _ (rw c.tree.ensures at c.in_err-tree.ensures.refused) (rw c.tree.ensures at c.in_err-tree.ensures.only))
+
+pub returns-in_err-check_texts-clause-first : goal.returns-in_err-check_texts-clause-first
+returns-in_err-check_texts-clause-first c =
+    let image = c.args.image.now.bytes in
+    let nodes = c.in_ok-tree.tree.nodes.items in
+    let leaves = c.in_ok-tree.tree.leaves.items in
+    let form : IsHeap (heap_header image c.args.table.heap) (segment_of image c.args.table.heap) c.in_ok-heap.heap.free = rw c.heap.ensures at c.in_ok-heap.ensures.read in
+    let inside : Inside (length image) (heap_blocks image c.args.table.heap) = rw c.heap.ensures at c.in_ok-heap.ensures.inside in
+    let claimed : (p : ℕ) → cover p c.read_heap.new.claims.held ≡ cover p c.args.claims.now.held + cover p (heap_blocks image c.args.table.heap)
+    = λ q. rw c.heap.ensures at (c.in_ok-heap.ensures.claimed.covered q) in
+    let tree : IsTree image OfGroup c.args.table.tree nodes leaves = rw c.tree.ensures at c.in_ok-tree.ensures.tree in
+    let p = err_from_is_err_and c.from_residual-in_err-check_texts.result c.from_residual-in_err-check_texts.ensures.1 in
+    rw (p.1, p.2) (texts_first image c.args.table c.args.claims.now.held c.read_heap.new.claims.held c.in_ok-heap.heap.free form inside claimed
+    c.in_ok-heap.ensures.claimed.separate nodes leaves tree c.in_ok-tree.ensures.inside c.read_tree.new.claims.held c.in_ok-tree.ensures.claimed.covered
+    c.in_ok-tree.ensures.claimed.separate _ _ c.in_err-check_texts.ensures.address c.in_err-check_texts.ensures.refused
+    c.in_err-check_texts.ensures.first)
+
+pub returns-in_err-check_order-clause-first : goal.returns-in_err-check_order-clause-first
+returns-in_err-check_order-clause-first c =
+    let image = c.args.image.now.bytes in
+    let nodes = c.in_ok-tree.tree.nodes.items in
+    let leaves = c.in_ok-tree.tree.leaves.items in
+    let form : IsHeap (heap_header image c.args.table.heap) (segment_of image c.args.table.heap) c.in_ok-heap.heap.free = rw c.heap.ensures at c.in_ok-heap.ensures.read in
+    let inside : Inside (length image) (heap_blocks image c.args.table.heap) = rw c.heap.ensures at c.in_ok-heap.ensures.inside in
+    let claimed : (p : ℕ) → cover p c.read_heap.new.claims.held ≡ cover p c.args.claims.now.held + cover p (heap_blocks image c.args.table.heap)
+    = λ q. rw c.heap.ensures at (c.in_ok-heap.ensures.claimed.covered q) in
+    let tree : IsTree image OfGroup c.args.table.tree nodes leaves = rw c.tree.ensures at c.in_ok-tree.ensures.tree in
+    let p = err_from_is_err_and c.from_residual-in_err-check_order.result c.from_residual-in_err-check_order.ensures.1 in
+    rw (p.1, p.2) (order_first image c.args.table c.args.claims.now.held c.read_heap.new.claims.held c.in_ok-heap.heap.free form inside claimed
+    c.in_ok-heap.ensures.claimed.separate nodes leaves tree c.in_ok-tree.ensures.inside c.read_tree.new.claims.held c.in_ok-tree.ensures.claimed.covered
+    c.in_ok-tree.ensures.claimed.separate _ _ c.in_ok-check_texts.ensures.texts c.in_err-check_order.ensures.refused)

@@ -17,6 +17,7 @@ use Rattle.h5_btree.specs.Walk.Forms.{OfGroup}
 use Rattle.h5_btree.proofs.OrderLaws.RootLaws.{all_owned, root_stands}
 use Rattle.h5_btree.specs.Rising.{FallAt}
 use Rattle.h5_group.specs.Order.Between.{name_of_entry}
+use Rattle.h5_group.specs.Order.Ordered.{AscendsBefore}
 use Rattle.h5_group.proofs.OrderProofs.OrderFaults.{key_fault, name_fault}
 use Rattle.h5_group.proofs.order.check.check_order.Goals as goal
 
@@ -31,7 +32,8 @@ returns-in_err-check_names-clause-refused c =
     let falls = subst (λ (ns : List ℕ). FallAt (name_of_entry c.args.segment.now) Before (symbols_at c.args.image.now.bytes (leaf_k c.args.image.now.bytes)) ns c.in_err-check_names.field-0.0.address) c.deref.ensures.value c.in_err-check_names.ensures.falls in
     rw (p.1, p.2)
     (name_fault c.args.image.now.bytes c.args.segment.now c.args.table c.args.tree.now.nodes.items c.args.tree.now.leaves.items _ _ c.requires.segment
-    c.requires.tree c.in_err-check_names.ensures.cause falls)
+    c.requires.tree c.in_err-check_names.ensures.cause falls
+    (subst (λ (ns : List ℕ). AscendsBefore c.args.image.now.bytes c.args.segment.now ns c.in_err-check_names.field-0.0.address) c.deref.ensures.value c.in_err-check_names.ensures.first))
 
 pub check_keys-requires-clause-subtree : goal.check_keys-requires-clause-subtree
 check_keys-requires-clause-subtree c =
@@ -69,4 +71,6 @@ returns-clause-refused c =
     ∙ all_owned image OfGroup c.args.table.tree c.args.tree.now.nodes.items c.args.tree.now.leaves.items c.requires.tree c.requires.inside in
     IfErr-weaker c.check_keys.result _ _
     (λ fault refused. key_fault image c.args.segment.now c.args.table c.args.tree.now.nodes.items c.args.tree.now.leaves.items fault.address fault.cause
-    c.requires.segment refused.0 (subst (λ (ns : List ℕ). Contains ns fault.address) all refused.1) refused.2) c.check_keys.ensures.refused
+    c.requires.segment refused.0 (subst (λ (ns : List ℕ). Contains ns fault.address) all refused.1)
+    (subst (λ (ns : List ℕ). Ascend (map (link_of c.args.segment.now) (all_entries image ns))) c.deref.ensures.value c.in_ok-check_names.ensures.ascending)
+    refused.2) c.check_keys.ensures.refused

@@ -1,4 +1,4 @@
-use Rattle.std.proofs.Common.{◌<◌, ◌≤◌, ◌∙◌, List, ℕ, length, get_or, sym, ap, subst, arith}
+use Rattle.std.proofs.Common.{◌<◌, ◌≤◌, ◌∙◌, List, ℕ, ◌+◌, length, take, drop, get_or, sym, ap, subst, arith}
 use Rattle.std.specs.Prelude.{Option, None}
 use Rattle.std.proofs.lemmas.List.{take_all}
 use Rattle.std.proofs.lemmas.Result.{err_from_is_err_and}
@@ -10,6 +10,7 @@ use Rattle.h5_btree.specs.Rising.{FallFrom, RiseFrom, last_value}
 use Rattle.h5_btree.proofs.RisingLaws.{fall_next, last_next, rise_next}
 use Rattle.h5_group.specs.Order.Between.{name_of_entry}
 use Rattle.h5_group.proofs.OrderProofs.EntryNames.{itself}
+use Rattle.h5_group.proofs.TextProofs.ListLaws.{around}
 use Rattle.h5_group.proofs.OrderProofs.AscendLaws.{rise_ascend}
 use Rattle.h5_group.proofs.order.names.check_names.Goals as goal
 
@@ -23,6 +24,16 @@ returns-in_err-last-clause-falls c =
     let p = err_from_is_err_and c.from_residual.result c.from_residual.ensures.1 in
     rw (p.1, p.2, c.in_err-last.ensures.refused)
     (fall_next (name_of_entry c.args.segment.now) Before (symbols_at image (leaf_k image)) c.args.symbol_nodes.now c.loop-at.at-index at low here falls)
+
+pub returns-in_err-last-clause-first : goal.returns-in_err-last-clause-first
+returns-in_err-last-clause-first c =
+    let image : List ℕ = c.args.image.now.bytes in
+    let nodes : List ℕ = c.args.symbol_nodes.now in
+    let i : ℕ = c.loop-at.at-index in
+    let low : i < length nodes = omega arith in
+    let p = err_from_is_err_and c.from_residual.result c.from_residual.ensures.1 in
+    rw (p.1, p.2, c.in_err-last.ensures.refused)
+    (take i nodes, drop (i + 1) nodes, around nodes i 0 low, rise_ascend c.args.segment.now (all_entries image (take i nodes)) c.loop-at.invariant.0)
 
 pub loop-at-preserved : goal.loop-at-preserved
 loop-at-preserved c =

@@ -1,4 +1,4 @@
-use Rattle.std.proofs.Common.{◌≡◌, ℕ, List, ◌∷◌, [], sym, ap, ◌∙◌, subst}
+use Rattle.std.proofs.Common.{◌≡◌, ℕ, List, ◌∷◌, [], sym, ap, ◌∙◌, subst, rules}
 use Rattle.std.specs.List.{Contains}
 use Rattle.std.proofs.lemmas.Result.{err_from_is_err_and}
 use Rattle.h5_heap.proofs.TakenLaws.{contains_head, contains_tail}
@@ -14,4 +14,4 @@ returns-in_err-name-2-clause-refused c =
     = ap (λ (t : SymbolTarget). name ∷ text_of t) c.in-Text.is ∙ ap (λ (o : ℕ). name ∷ o ∷ []) (sym c.from.ensures) in
     let there : Contains (linked_from c.args.entry) offset = subst (λ (xs : List ℕ). Contains xs offset) (sym is) (contains_tail name (offset ∷ []) offset (contains_head offset [])) in
     let p = err_from_is_err_and c.from_residual-in_err-name-2.result c.from_residual-in_err-name-2.ensures.1 in
-    rw (p.1, p.2, c.in_err-name-2.ensures.fault) (offset, there, c.in_err-name-2.ensures.refused)
+    rw (p.1, p.2, c.in_err-name-2.ensures.fault) (offset, there, c.in_err-name-2.ensures.refused, λ span. search rules)

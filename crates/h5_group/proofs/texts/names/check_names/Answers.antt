@@ -15,4 +15,4 @@ returns-in_err-check_entries-clause-refused c =
     let p = err_from_is_err_and c.from_residual.result c.from_residual.ensures.1 in
     rw (p.1, p.2) (refused_between (segment_in image c.args.heap.now) (flat_map (entries_at image) nodes) (flat_map (entries_at image) (take i nodes))
     (entries_at image (get_or nodes i 0)) (flat_map (entries_at image) (drop (i + 1) nodes)) _ (flat_around (entries_at image) nodes i 0 (omega arith))
-    c.in_err-check_entries.ensures.refused)
+    c.loop-at.invariant c.in_err-check_entries.ensures.refused)
