@@ -1,12 +1,11 @@
 -- The blocks of a tree of chunks into which a chunk has come: they are apart, and the chunks that are told stand in them.
-use Rattle.std.proofs.Common.{◌≡◌, inl, inr, ℕ, ◌+◌, ◌-◌, ◌≤◌, List, [], ◌∷◌, ◌++◌, length, map, take, drop, sym, ap, ◌∙◌, subst, arith}
-use Rattle.std.proofs.lemmas.Bool.{cases_lt}
+use Rattle.std.proofs.Common.{◌≡◌, ℕ, ◌+◌, ◌≤◌, List, [], ◌∷◌, ◌++◌, length, map, take, drop, sym, ap, ◌∙◌, subst, arith}
 use Rattle.std.proofs.lemmas.List.{map-append, take-append-drop}
 use Rattle.std.specs.FinMap.{values}
-use Rattle.std.specs.List.{AllByRecursion, insert}
+use Rattle.std.specs.List.{insert}
 use Rattle.h5_bytes.specs.Blocks.{Inside, Keeps, block, cover, holds}
 use Rattle.h5_bytes.specs.declared.Block.{Block}
-use Rattle.h5_bytes.proofs.BlockLaws.{all_append, all_right, cover-append, holds_in, holds_past}
+use Rattle.h5_bytes.proofs.BlockLaws.{all_append, all_right, cover-append}
 use Rattle.h5_model.specs.Format.Nodes.{HasTree, Kind, node_block, tree_blocks}
 use Rattle.h5_model.specs.Format.Reached.{Shape, shape_kind}
 use Rattle.h5_laws.specs.KeyEdits.{IsPut}
@@ -88,15 +87,19 @@ module _ (s t : Space) (shape : Shape) (root chunk : ℕ) (beside : IsBlockBesid
   now_told : now ≡ chunk_blocks_told t.bytes shape root
   now_told = blocks_are t.bytes shape root all list' (ordered_tree t.bytes shape root height all list' has ordered)
 
-  -- the bytes of the others stay
+  -- its bytes stay, and those of the others
+  inside_new : Inside (length s.bytes) (new ∷ [])
+  inside_new = inside_held (length s.bytes) (new ∷ []) (λ p. omega (arith, beside.apart p)) (some, tt)
+
   inside_before : Inside (length s.bytes) chunks
   inside_before = all_right (λ (b : Block). b.at + b.len ≤ length s.bytes) (tree_blocks kind (beside.read.stored).owned) chunks
       (subst (λ (ns : List ℕ). Inside (length s.bytes) (tree_blocks kind (beside.read.stored).owned ++ map (λ (at : ℕ). block at shape.bytes) ns)) same
       (subst (Inside (length s.bytes)) (beside.read.stored).laid (beside.read).inside))
 
-  others_kept : Keeps s.bytes t.bytes (map (λ (at : ℕ). block at shape.bytes) (values (chunks_told s.bytes shape root)))
-  others_kept = subst (λ (ns : List ℕ). Keeps s.bytes t.bytes (map (λ (at : ℕ). block at shape.bytes) ns)) (sym same)
-      (moves_kept s t T T' chunks moved (λ p. omega (arith, apart_before p, cover-append p T (superblock ∷ new ∷ chunks), cover-append p T chunks)) inside_before)
+  all_kept : Keeps s.bytes t.bytes (block chunk shape.bytes ∷ map (λ (at : ℕ). block at shape.bytes) (values (chunks_told s.bytes shape root)))
+  all_kept = subst (λ (ns : List ℕ). Keeps s.bytes t.bytes (new ∷ map (λ (at : ℕ). block at shape.bytes) ns)) (sym same)
+      (moves_kept s t T T' (new ∷ chunks) moved (λ p. omega (arith, apart_before p, cover-append p T (superblock ∷ new ∷ chunks), cover-append p T (new ∷ chunks)))
+      (inside_new.0, inside_before))
 
   -- THE CHUNK IS PUT IN
   pub chunk_put : HasChunkPut s t shape root offsets chunk
@@ -110,5 +113,5 @@ module _ (s t : Space) (shape : Shape) (root chunk : ℕ) (beside : IsBlockBesid
     moves = subst (λ (bs : List Block). Moves s t (new ∷ chunk_blocks_told s.bytes shape root) bs) now_told
         (moves_same s t (T ++ new ∷ chunks) (T' ++ new ∷ chunks) (new ∷ chunk_blocks_told s.bytes shape root) now
         (λ p. omega (arith, laid p, cover-append p T chunks, cover-append p T (new ∷ chunks))) now_is (moves_beside s t T T' (new ∷ chunks) moved));
-    kept = others_kept;
+    kept = all_kept;
   }

@@ -146,6 +146,26 @@ module _ (image : List ℕ) (shape : Shape) (root : ℕ) (read : AreChunksRead i
       all_in (λ at. IsOrderedBy (rising_chunk_sides rank) V (chunk_lists rank) (V at)) owned (λ at there.
       keys_rise image shape root level owned (values chunks) stored_there at there (in_all (λ n. IsChunkOrdered V rank (V n)) at owned ordered there))
 
+  -- a chunk that stands at a node of level 0 is one of the tree
+  module _ (a : ℕ) (in_row : In a bottom) (node : Node) (is_node : node ≡ V a) (offsets : List ℕ) (same : length offsets ≡ rank) (i : ℕ) (low : i < length node.children)
+      (key : List ℕ) (got : slice_get node.keys i ≡ Some key) where
+    pub found_in_row : (child : ℕ) → slice_get node.children i ≡ Some child → key_is_chunk rank key offsets same → get chunks offsets ≡ Some child
+    found_in_row child child_got is =
+        let long = one_more_key image shape a node is_node in
+        let one = chunk_is rank node long i low ([], 0) in
+        let key_is : slice_index_or node.keys i [] ≡ key = get_or_from_slice_get node.keys i key [] got in
+        let child_is : slice_index_or node.children i 0 ≡ child = get_or_from_slice_get node.children i child 0 child_got in
+        let under : i < length (chunks_in rank node) = omega (arith, low, length-chunks rank node long) in
+        let member : In (offsets_in rank (slice_index_or node.keys i []), slice_index_or node.children i 0) (chunks_in rank node)
+        = subst (λ (c : List ℕ × ℕ). In c (chunks_in rank node)) one (index_in (chunks_in rank node) i ([], 0) under) in
+        let exact : In (offsets, child) (chunks_in rank node)
+        = subst (λ (n : ℕ). In (offsets, n) (chunks_in rank node)) child_is
+        (subst (λ (xs : List ℕ). In (xs, slice_index_or node.children i 0) (chunks_in rank node)) (ap (offsets_in rank) key_is ∙ heads rank key offsets same is) member) in
+        let there : In (offsets, child) (chunks_at V rank bottom)
+        = in_flat (λ n. chunks_in rank (V n)) a (offsets, child) bottom in_row
+        (subst (λ (n : Node). In (offsets, child) (chunks_in rank n)) is_node exact) in
+        get_of_entry nat_list_cmp_total chunks offsets child (subst (In (offsets, child)) (sym entries_are) there)
+
   module _ (offsets : List ℕ) where
     absent : ((at : ℕ) → In (offsets, at) (entries chunks) → ⊥) → get chunks offsets ≡ None
     absent none = by_answer (get chunks offsets) refl where
@@ -171,7 +191,7 @@ module _ (image : List ℕ) (shape : Shape) (root : ℕ) (read : AreChunksRead i
       pub place_low : i < length node.children
       place_low = ends_low V (chunk_behind offsets) level root node i ends_here
 
-      at_bottom : (a : ℕ) × In a bottom × (node ≡ V a)
+      pub at_bottom : (a : ℕ) × In a bottom × (node ≡ V a)
       at_bottom = ends_bottom V (chunk_behind offsets) level root node i ends_here
 
       long : length node.keys ≡ length node.children + 1
@@ -191,19 +211,7 @@ module _ (image : List ℕ) (shape : Shape) (root : ℕ) (read : AreChunksRead i
         key_is = get_or_from_slice_get node.keys i key [] got
 
         pub chunk_found : (child : ℕ) → slice_get node.children i ≡ Some child → key_is_chunk rank key offsets same → get chunks offsets ≡ Some child
-        chunk_found child child_got is =
-            let one = chunk_is rank node long i place_low ([], 0) in
-            let child_is : slice_index_or node.children i 0 ≡ child = get_or_from_slice_get node.children i child 0 child_got in
-            let under : i < length (chunks_in rank node) = omega (arith, place_low, length-chunks rank node long) in
-            let member : In (offsets_in rank (slice_index_or node.keys i []), slice_index_or node.children i 0) (chunks_in rank node)
-            = subst (λ (c : List ℕ × ℕ). In c (chunks_in rank node)) one (index_in (chunks_in rank node) i ([], 0) under) in
-            let exact : In (offsets, child) (chunks_in rank node)
-            = subst (λ (n : ℕ). In (offsets, n) (chunks_in rank node)) child_is
-            (subst (λ (xs : List ℕ). In (xs, slice_index_or node.children i 0) (chunks_in rank node)) (ap (offsets_in rank) key_is ∙ heads rank key offsets same is) member) in
-            let there : In (offsets, child) (chunks_at V rank bottom)
-            = in_flat (λ n. chunks_in rank (V n)) at_bottom.0 (offsets, child) bottom at_bottom.1
-            (subst (λ (n : Node). In (offsets, child) (chunks_in rank n)) at_bottom.2 exact) in
-            get_of_entry nat_list_cmp_total chunks offsets child (subst (In (offsets, child)) (sym entries_are) there)
+        chunk_found = found_in_row at_bottom.0 at_bottom.1 node at_bottom.2 offsets same i place_low key got
 
         pub chunk_absent : (key_is_chunk rank key offsets same → ⊥) → get chunks offsets ≡ None
         chunk_absent other = absent (λ at there.

@@ -1,15 +1,12 @@
 -- The first chunk of a tree of chunks that was read: the root's only child, between its own key and a key past it (File Format Specification
 -- 3.0, section III.A.1).
-use Rattle.std.proofs.Common.{◌≡◌, ℕ, zero, suc, ◌^◌, ◌<◌, ◌≤◌, Bool, true, false, List, [], ◌∷◌, ◌++◌, length, map, refl, sym, ap, ◌∙◌, subst, arith}
-use Rattle.std.specs.Prelude.{if◌then◌else◌, ◌==◌}
+use Rattle.std.proofs.Common.{◌≡◌, ℕ, ◌^◌, ◌<◌, ◌≤◌, List, [], ◌∷◌, ◌++◌, length, map, refl, sym, ap, ◌∙◌, subst, arith}
 use Rattle.std.specs.FinMap.{entries, values}
-use Rattle.std.specs.List.{AllByRecursion, list_any}
 use Rattle.h5_bytes.specs.Blocks.{block, cover}
 use Rattle.h5_model.specs.Format.Chunks.{IsChunkKey, all_offsets_in, offsets_in}
 use Rattle.h5_model.specs.Format.Links.{Before, NotAfter}
-use Rattle.h5_model.specs.Format.Nodes.{HasTree, Kind, entries_in, node_at, node_bytes, reading_of, tree_blocks}
+use Rattle.h5_model.specs.Format.Nodes.{HasTree, Kind, node_at, tree_blocks}
 use Rattle.h5_model.specs.Format.Reached.{Shape, shape_kind}
-use Rattle.h5_model.specs.Format.Rows.{blank, next_row}
 use Rattle.h5_model.proofs.TextOrder.{before_le, not_after_itself}
 use Rattle.h5_laws.specs.ChunkLadders.{rising_chunk_sides}
 use Rattle.h5_laws.specs.KeyEdits.{IsPut}

@@ -11,7 +11,10 @@ pub mod Stored
 pub mod Readable
 pub mod KeysRise
 pub mod ChunkFound
+pub mod ChunkThere
+pub mod EndOfWay
 pub mod ToldLaws
+pub mod CursorLaws
 pub mod ShapeLaws
 pub mod InsideLaws
 pub mod HeldLaws

@@ -20,11 +20,15 @@ module _ (image : List ℕ) (shape : Shape) (at : ℕ) (node : Node) (is : node 
       omega (arith, length-children kind (node_bytes image kind at) node (sym is), length-keys kind (node_bytes image kind at) node (sym is))
 
   -- and each has its numbers
-  pub key_long : IsNodeAt image (OfChunks shape) at → (i : ℕ) (key : List ℕ) → i < length node.keys → slice_get node.keys i ≡ Some key
-      → length key ≡ 8 + 8 * (length shape.sizes + 1)
-  key_long stands i key low read =
+  pub keys_are_long : IsNodeAt image (OfChunks shape) at → AllByRecursion (λ (key : List ℕ). length key ≡ 8 + 8 * (length shape.sizes + 1)) node.keys
+  keys_are_long stands =
       let kind = shape_kind image shape in
       let P : List ℕ → Type 0 = λ k. length k ≡ 8 + 8 * (length shape.sizes + 1) in
       let all : AllByRecursion P (reading_in image (OfChunks shape) at).keys
       = keys_long kind (node_bytes image kind at) (length-part at (node_length kind) image stands.inside) (stands.formed).roomy in
-      all_at P node.keys i key low (get_or_from_slice_get node.keys i key key read) (subst (λ (n : Node). AllByRecursion P n.keys) (sym is) all)
+      subst (λ (n : Node). AllByRecursion P n.keys) (sym is) all
+
+  pub key_long : IsNodeAt image (OfChunks shape) at → (i : ℕ) (key : List ℕ) → i < length node.keys → slice_get node.keys i ≡ Some key
+      → length key ≡ 8 + 8 * (length shape.sizes + 1)
+  key_long stands i key low read =
+      all_at (λ (k : List ℕ). length k ≡ 8 + 8 * (length shape.sizes + 1)) node.keys i key low (get_or_from_slice_get node.keys i key key read) (keys_are_long stands)

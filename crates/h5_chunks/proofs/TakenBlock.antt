@@ -1,7 +1,9 @@
 -- A block that was taken beside a tree of chunks that was read: the tree stands as it did, and has room where it had.
-use Rattle.std.proofs.Common.{◌≡◌, ℕ, ◌^◌, ◌<◌, ◌≤◌, List, [], ◌∷◌, length, map, refl, sym, ap, ◌∙◌, subst, arith}
+use Rattle.std.proofs.Common.{◌≡◌, ℕ, ◌+◌, ◌^◌, ◌<◌, ◌≤◌, List, [], ◌∷◌, ◌++◌, length, length-append, map, replicate, refl, sym, ap, ◌∙◌, subst, arith}
 use Rattle.std.specs.FinMap.{values}
 use Rattle.std.specs.List.{AllByRecursion}
+use Rattle.std.proofs.lemmas.List.{length-replicate, places, same_lists}
+use Rattle.h5_bytes.specs.Bytes.{part}
 use Rattle.h5_bytes.specs.Blocks.{block, Inside, IsKept, Keeps}
 use Rattle.h5_bytes.specs.declared.Block.{Block}
 use Rattle.h5_bytes.proofs.BlockLaws.{all_left, all_right}
@@ -35,6 +37,11 @@ use Rattle.h5_chunks.proofs.KeptChunks.{keeps_after}
 inside_longer : (m n : ℕ) (bs : List Block) → m ≤ n → Inside m bs → Inside n bs
 inside_longer m n [] more inside = tt
 inside_longer m n (b ∷ bs) more inside = (omega (arith, more, inside.0), inside_longer m n bs more inside.1)
+
+-- bytes behind an old end are zero
+pub zero_behind : (at len n : ℕ) (bytes : List ℕ) → length bytes ≤ at → at + len ≤ length bytes + n → part at len (bytes ++ replicate n 0) ≡ replicate len 0
+unfolding part
+zero_behind at len n bytes behind room = same_lists _ _ (grind (arith, places)) (λ k d l. grind (arith, places))
 
 module _ (s u : Space) (shape : Shape) (root new : ℕ) (stand : AreChunksApart s shape root) (taken : Moves s u [] (block new shape.bytes ∷ [])) where
   abbrev blocks : List Block
@@ -133,5 +140,12 @@ module _ (s u : Space) (shape : Shape) (root new : ℕ) (stand : AreChunksApart 
   others_stay t offsets put =
       let first = all_right (IsKept s.bytes u.bytes) (tree_blocks kind owned) (map (λ (at : ℕ). block at shape.bytes) list)
       (subst (Keeps s.bytes u.bytes) (stand.read.stored).laid kept) in
-      let second = subst (λ (chunks : Chunks). Keeps u.bytes t.bytes (map (λ (at : ℕ). block at shape.bytes) (values chunks))) told_still put.kept in
+      let second = subst (λ (chunks : Chunks). Keeps u.bytes t.bytes (map (λ (at : ℕ). block at shape.bytes) (values chunks))) told_still put.kept.1 in
       keeps_after s.bytes u.bytes t.bytes (map (λ (at : ℕ). block at shape.bytes) list) first second
+
+  -- and so do its own: behind the old end they are zero
+  pub zero_still : (n : ℕ) → u.bytes ≡ s.bytes ++ replicate n 0 → new + shape.bytes ≤ length u.bytes → length s.bytes ≤ new
+      → (t : Space) (offsets : List ℕ) → HasChunkPut u t shape root offsets new → part new shape.bytes t.bytes ≡ replicate shape.bytes 0
+  zero_still n bytes inside behind t offsets put =
+      let long = ap length bytes ∙ length-append s.bytes (replicate n 0) ∙ ap (λ (m : ℕ). length s.bytes + m) (length-replicate n 0) in
+      put.kept.0 ∙ ap (part new shape.bytes) bytes ∙ zero_behind new shape.bytes n s.bytes behind (omega (arith, long, inside))

@@ -4,6 +4,7 @@ pub mod Told
 pub mod Order
 pub mod Read
 pub mod Way
+pub mod Cursor
 pub mod Keys
 pub mod Held
 pub mod Edited

@@ -5,6 +5,7 @@
 //! Offsets and chunk sizes are in cells, addresses and lengths in bytes. Nodes are read where they stand.
 #![tactic(auto)]
 
+mod cursor;
 mod held;
 mod key;
 mod list;
@@ -20,6 +21,7 @@ mod shape;
 mod take;
 mod write;
 
+pub use cursor::{ChunkCursor, chunk_from};
 pub use h5_btree::InsertFault;
 pub use h5_space::CHUNK_K;
 pub use held::{ChunkPlace, held_places};

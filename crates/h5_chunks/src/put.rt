@@ -1,9 +1,10 @@
 //! A chunk stored in a tree, where the tree stands (File Format Specification 3.0, section III.A.1).
 
-ghost use Rattle.std.specs.Prelude.{◌≡◌, ◌↔◌, ℕ, ◌+◌, ◌*◌, ◌^◌, ◌<◌, ◌≤◌, Bool, true, IsTrue, List, [], ◌∷◌, None, length, map, slice_index_or, take};
+ghost use Rattle.std.specs.Prelude.{◌≡◌, ◌↔◌, ℕ, ◌+◌, ◌*◌, ◌^◌, ◌<◌, ◌≤◌, Bool, true, IsTrue, List, [], ◌∷◌, None, length, map, replicate, slice_index_or, take};
 ghost use Rattle.std.specs.FinMap.{get, insert, values};
 ghost use Rattle.std.specs.List.{AllByRecursion, AllZip};
 ghost use Rattle.h5_bytes.specs.Blocks.{Keeps, block};
+ghost use Rattle.h5_bytes.specs.Bytes.{part};
 ghost use Rattle.h5_model.specs.Format.Chunks.{IsChunkKey, IsOffset, offsets_in};
 ghost use Rattle.h5_model.specs.Format.Nodes.{node_at, node_length as length_of_node};
 ghost use Rattle.h5_model.specs.Format.Reached.{shape_kind};
@@ -60,7 +61,8 @@ pub fn is_full_at(image: &Image, shape: &ChunkShape<'_>, root: u64, key: &[u8]) 
     is_full_way(image, shape.kind(image), &way)
 }
 
-/// Stores the chunk with this key in a tree, in a new block, and gives its address. What stands in the block is left open.
+/// Stores the chunk with this key in a tree, in a new block, and gives its address. A block that stands behind the old end of
+/// the image is zero; what stands in any other one is left open.
 ///
 /// The chunk comes in by one way down the tree; nodes on it that are full are cut in two. All other chunks stay, with their
 /// bytes. Takes no memory.
@@ -86,6 +88,8 @@ pub fn store(image: &mut Image, shape: &ChunkShape<'_>, root: u64, key: &[u8]) -
         (offsets_in (length shape.now.sizes) key.now) result) }
     ensures kept { Keeps image.old.bytes image.new.bytes (map (λ at. block at shape.now.bytes)
         (values (chunks_told image.old.bytes shape.now root))) }
+    ensures zero { length image.old.bytes ≤ result
+        → part result shape.now.bytes image.new.bytes ≡ replicate shape.now.bytes 0 }
     ensures bushy { (low : ℕ) → IsBushy image.old.bytes shape.now root low
         → IsBushy image.new.bytes shape.now root low }
     ensures spends { Spends image.old image.new (room_of image.old.bytes shape.now) 18 }

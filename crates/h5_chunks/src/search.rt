@@ -1,19 +1,22 @@
 //! The way down to a chunk (File Format Specification 3.0, section III.A.1).
 
-ghost use Rattle.std.specs.Prelude.{◌≡◌, ◌+◌, ◌*◌, ◌≤◌, ℕ, None, List, [], length, IfNone, IfSome};
+ghost use Rattle.std.specs.Prelude.{◌≡◌, ◌+◌, ◌*◌, ◌≤◌, ℕ, None, List, [], ◌∷◌, length, IfNone, IfSome};
 ghost use Rattle.std.specs.FinMap.{get};
-ghost use Rattle.std.specs.List.{AllByRecursion};
+ghost use Rattle.std.specs.List.{AllByRecursion, Contains};
 ghost use Rattle.h5_model.specs.Format.Nodes.{chunk_kind, node_at};
 ghost use Rattle.h5_model.specs.Format.PlainSuperblock.{plain_chunk_k};
 ghost use Rattle.h5_model.specs.Format.Reached.{level_at, shape_kind};
-ghost use Rattle.h5_btree.specs.Descent.{IsWayTo};
+ghost use Rattle.h5_model.specs.Format.Rows.{row_below};
+ghost use Rattle.h5_btree.specs.Descent.{EndsAt, IsWayTo};
+ghost use Rattle.h5_chunks.specs.Cursor.{IsCursor};
 ghost use Rattle.h5_chunks.specs.Read.{AreChunksRead};
 ghost use Rattle.h5_chunks.specs.Told.{chunks_told};
-ghost use Rattle.h5_chunks.specs.Way.{EndsForChunk, chunk_behind};
+ghost use Rattle.h5_chunks.specs.Way.{EndsForChunk, IsChunkThere, IsInSomeRow, chunk_behind};
 
+use crate::cursor::{ChunkCursor, chunk_down};
 use crate::offsets::key_order;
 use crate::shape::ChunkShape;
-use h5_btree::{ChildPlace, NodeKind, Sought, Way, find_place, find_way};
+use h5_btree::{Node, NodeKind, Sought, Step, Way, child_for, find_way, tree_node};
 use h5_space::{CHUNK_K, Image};
 use std::marker::Model;
 
@@ -26,33 +29,68 @@ pub fn chunk_at(image: &Image, shape: &ChunkShape<'_>, root: u64, offsets: &[u64
     requires rank { length offsets.now ≡ length shape.now.sizes }
     ensures { result ≡ get (chunks_told image.now.bytes shape.now root) offsets.now }
 {
-    let Some(place) = place_of(image, shape, root, offsets) else {
-        return None;
-    };
-    if key_order(place.node.key(place.child), offsets).is_ne() {
+    chunk_down(image, shape, root, &mut ChunkCursor::new(), offsets)
+}
+
+/// The address of the chunk at these offsets, where it is child `i` of this node of level 0.
+pub(crate) fn chunk_here(node: &Node<'_>, i: usize, offsets: &[u64]) -> Option<u64>
+    requires keys { AllByRecursion (λ (key : List ℕ).
+        length key ≡ 8 + 8 * (length offsets.now + 1)) node.now.keys }
+    requires few { length offsets.now ≤ 32 }
+    ensures there { IfSome result (λ at. IsChunkThere offsets.now node.now i at) }
+    ensures none { IfNone result ((at : ℕ) → IsChunkThere offsets.now node.now i at → ⊥) }
+{
+    if i >= node.len() || key_order(node.key(i), offsets).is_ne() {
         return None;
     }
-    Some(place.node.child(place.child))
+    Some(node.child(i))
 }
 
 /// Where the way to the chunk at these offsets ends: it stands there, if it is stored; `None` where no chunk is stored.
-fn place_of<'a>(
-    image: &'a Image,
+pub(crate) fn end_of_way(
+    image: &Image,
     shape: &ChunkShape<'_>,
     root: u64,
     offsets: &[u64],
-) -> Option<ChildPlace<'a>>
+) -> Option<Step>
     requires chunks { AreChunksRead image.now.bytes shape.now root }
     requires rank { length offsets.now ≡ length shape.now.sizes }
-    ensures ends { IfSome result (λ p.
-        EndsForChunk image.now.bytes shape.now root offsets.now p.node p.child) }
-    ensures keys { IfSome result (λ p. AllByRecursion (λ (key : List ℕ).
-        length key ≡ 8 + 8 * (length offsets.now + 1)) p.node.keys) }
+    ensures ends { IfSome result (λ s. EndsForChunk image.now.bytes shape.now root offsets.now
+        (node_at image.now.bytes (shape_kind image.now.bytes shape.now) s.node) s.place) }
+    ensures bottom { IsCursor image.now.bytes shape.now root result }
     ensures few { length offsets.now ≤ 32 }
     ensures none { IfNone result (get (chunks_told image.now.bytes shape.now root) offsets.now ≡ None) }
 {
     let sought = SoughtChunk::new(shape, offsets);
-    find_place(image.bytes(), root, &sought).unwrap()
+    let top = tree_node(image, shape, root);
+    if top.is_empty() {
+        return None;
+    }
+    Some(end_below(image, shape, root, top.level(), &sought))
+}
+
+/// The same, below a node of this level, which has children.
+fn end_below(
+    image: &Image,
+    shape: &ChunkShape<'_>,
+    at: u64,
+    level: u8,
+    sought: &SoughtChunk<'_>,
+) -> Step
+    requires row { IsInSomeRow image.now.bytes (shape_kind image.now.bytes shape.now) level at }
+    requires rank { length sought.now ≡ length shape.now.sizes }
+    ensures ends { EndsAt (node_at image.now.bytes (shape_kind image.now.bytes shape.now))
+        (chunk_behind sought.now) level at
+        (node_at image.now.bytes (shape_kind image.now.bytes shape.now) result.node) result.place }
+    ensures bottom { Contains (row_below (node_at image.now.bytes (shape_kind image.now.bytes shape.now))
+        level (at ∷ [])) result.node }
+{
+    let node = tree_node(image, shape, at);
+    let place = child_for(&node, sought);
+    if level == 0 {
+        return Step { node: at, place };
+    }
+    end_below(image, shape, node.child(place), level - 1, sought)
 }
 
 /// The way down to the chunk at these offsets, or to where it would stand; `None` where no chunk is stored. Takes no

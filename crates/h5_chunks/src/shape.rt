@@ -1,8 +1,13 @@
 //! What the chunks of a dataset have in common, and their trees (File Format Specification 3.0, sections III.A.1 and
 //! IV.A.2.i).
 
-ghost use Rattle.std.specs.Prelude.{◌≡◌};
-ghost use Rattle.h5_btree.specs.Walk.Forms.{OfChunks};
+ghost use Rattle.std.specs.Prelude.{◌≡◌, ℕ, ◌+◌, ◌<◌, List, IfErr, OnOk, length, slice_index_or};
+ghost use Rattle.std.specs.List.{AllByRecursion};
+ghost use Rattle.h5_bytes.specs.Blocks.{Separate, cover, holds};
+ghost use Rattle.h5_model.specs.Format.Superblock.{IsSuperblock};
+ghost use Rattle.h5_btree.specs.Walk.Below.{IsBottom};
+ghost use Rattle.h5_btree.specs.Walk.Forms.{IsKeyedAt, OfChunks, kind_of, leaf_length};
+ghost use Rattle.h5_btree.specs.Walk.Refused.{IsLeafRefused};
 ghost use Rattle.h5_chunks.specs.Shapes.{AreChunkSizes};
 
 use crate::key::is_chunk_key;
@@ -58,7 +63,29 @@ impl Leaves for ChunkShape<'_> {
         at: u64,
         node: &Node<'_>,
         i: usize,
-    ) -> Result<(), OpenFault> {
+    ) -> Result<(), OpenFault>
+        requires end { claims.old.end ≡ length _image.now.bytes }
+        requires superblock { IsSuperblock _image.now.bytes }
+        requires keys { AllByRecursion (λ (key : List ℕ).
+            length key ≡ (kind_of _image.now.bytes (OfChunks self.now)).key_length) node.now.keys }
+        requires place { i < length node.now.children }
+        requires more { i < length node.now.keys }
+        ensures bottom { OnOk result (IsBottom _image.now.bytes (OfChunks self.now)
+            (slice_index_or node.now.children i 0)) }
+        ensures keyed { OnOk result (IsKeyedAt (OfChunks self.now) node.now i) }
+        ensures claimed { OnOk result
+            ((p : ℕ)
+            → cover p claims.new.held ≡ cover p claims.old.held
+            + holds p (slice_index_or node.now.children i 0)
+            (leaf_length _image.now.bytes (OfChunks self.now))) }
+        ensures separate { OnOk result (Separate claims.new.held) }
+        ensures end { claims.new.end ≡ claims.old.end }
+        ensures refused { IfErr result (λ fault. IsLeafRefused _image.now.bytes (OfChunks self.now)
+            claims.old.held at node.now i fault.cause fault.address) }
+        ensures key_first { (IsKeyedAt (OfChunks self.now) node.now i → ⊥)
+            → (result ≡ Err (record { cause = Cause.ChunkKey; address = at }))
+            × (claims.new ≡ claims.old) }
+    {
         if !is_chunk_key(self.sizes, self.bytes, node.key(i)) {
             return Err(fault(Cause::ChunkKey, at));
         }

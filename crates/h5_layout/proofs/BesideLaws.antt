@@ -1,5 +1,5 @@
 -- Cells beside one another in a row of a chunk: one chunk has them, one behind another.
-use Rattle.std.proofs.Common.{◌≡◌, ℕ, suc, ◌+◌, ◌-◌, ◌*◌, ◌/◌, ◌%◌, ◌<◌, ◌≤◌, List, [], ◌∷◌, refl, ap, ◌∙◌, arith, length, get_or, Bool, false}
+use Rattle.std.proofs.Common.{◌≡◌, ℕ, suc, ◌+◌, ◌-◌, ◌*◌, ◌/◌, ◌%◌, ◌<◌, ◌≤◌, List, [], ◌∷◌, min, refl, sym, ap, ◌∙◌, arith, length, get_or, Bool, false}
 use Rattle.std.specs.Prelude.{◌==◌}
 use Rattle.std.proofs.lemmas.Bool.Decides.{nat_tests}
 use Rattle.std.proofs.lemmas.Nat.{div-add-mod', div-mul-add, mod-mul-add, div_below}
@@ -65,7 +65,7 @@ same_column p q l some more =
     let column : p % l ≡ p % (q * l) % l = ap (λ n. n % l) all ∙ mod-mul-add (p / (q * l) * q + p % (q * l) / l) l (p % (q * l) % l) low in
     omega (arith, column)
 
-by_one : (n : ℕ) → n / 1 ≡ n
+pub by_one : (n : ℕ) → n / 1 ≡ n
 by_one n = omega (arith, div-add-mod' n 1)
 
 -- ---- their chunk
@@ -130,3 +130,46 @@ beside_one sizes chunk p = record {
 -- a list that is not empty
 pub not_empty : (n : ℕ) (empty : Bool) → empty ≡ (n == 0) → empty ≡ false → 0 < n
 not_empty n empty is has = grind (arith, nat_tests)
+
+-- ---- how many cells are left in a row of a chunk, where there are dimensions
+
+abbrev pub left_of : List ℕ → List ℕ → ℕ → ℕ
+left_of sizes chunk place =
+    min (get_or sizes (length sizes - 1) 0 - place % get_or sizes (length sizes - 1) 0)
+    (get_or chunk (length sizes - 1) 0 - place % get_or sizes (length sizes - 1) 0 % get_or chunk (length sizes - 1) 0)
+
+module _ (sizes chunk : List ℕ) (place : ℕ) (rank : length chunk ≡ length sizes) (each : (d : ℕ) → d < length chunk → 1 ≤ get_or chunk d 0) (below : place < cells sizes)
+    (some : 0 < length sizes) where
+  abbrev d : ℕ
+  d = get_or sizes (length sizes - 1) 0
+
+  abbrev k : ℕ
+  k = get_or chunk (length sizes - 1) 0
+
+  last : d ≡ last_of sizes
+  last = last-is sizes some
+
+  low : 0 < d
+  low = omega (arith, last, some_last sizes place some below)
+
+  box : 1 ≤ k
+  box = each (length sizes - 1) (omega (arith, rank, some))
+
+  pub some_left : 0 < left_of sizes chunk place
+  some_left =
+      let size = low in
+      let wide = box in
+      let column : place % d < d = omega arith in
+      let inner : place % d % k < k = omega arith in
+      omega arith
+
+  pub left_beside : (n : ℕ) → n ≡ left_of sizes chunk place → AreBeside sizes chunk place n
+  left_beside n all =
+      let size = low in
+      let wide = box in
+      let end : k ≡ last_of chunk = ap (λ n. get_or chunk (n - 1) 0) (sym rank) ∙ last-is chunk (omega (arith, rank, some)) in
+      let column : place % d < d = omega arith in
+      let inner : place % d % k < k = omega arith in
+      let row : place % d + n ≤ d = omega arith in
+      let rest : place % d % k + n ≤ k = omega arith in
+      beside_row sizes chunk place n rank some below (rw last at row) (rw (last, end) at rest)

@@ -19,6 +19,10 @@ pub mod WriteLaws
 pub mod StandsAt
 pub mod StandingLaws
 pub mod StandingWritten
+pub mod ZeroFill
+pub mod FoundRows
+pub mod PlacesAt
+pub mod PlacesWritten
 pub mod KeptLaws
 pub mod CornerLaws
 pub mod KeyWritten
@@ -53,6 +57,7 @@ pub mod ExtentPut
 pub mod ChosenPlaces
 pub mod LackingLaws
 pub mod LayoutBodies
+pub mod LayoutClass
 pub mod FilledLaws
 pub mod TurnLaws
 pub mod StorableLaws

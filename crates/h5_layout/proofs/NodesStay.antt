@@ -7,8 +7,11 @@ use Rattle.h5_model.specs.Format.Nodes.{chunk_kind, tree_blocks}
 use Rattle.h5_model.specs.Format.Reached.{Shape, shape_kind}
 use Rattle.h5_model.specs.Format.Superblock.{chunk_k}
 use Rattle.h5_model.proofs.Frames.{reading-same, tree-same}
+use Rattle.h5_chunks.specs.Cursor.{IsCursor}
 use Rattle.h5_chunks.specs.Read.{AreChunksRead}
 use Rattle.h5_chunks.specs.Told.{chunk_blocks_told, chunks_told}
+use Rattle.h5_chunks.specs.declared.cursor.ChunkCursor.{ChunkCursor}
+use Rattle.h5_chunks.proofs.CursorLaws.{cursor_stays}
 use Rattle.h5_chunks.proofs.ToldLaws.{blocks_are_told, chunks_are_told}
 
 module _ (image new : List ℕ) (shape : Shape) (root : ℕ) (read : AreChunksRead image shape root) (long : length new ≡ length image)
@@ -38,3 +41,6 @@ module _ (image new : List ℕ) (shape : Shape) (root : ℕ) (read : AreChunksRe
         (subst (λ (c : Chunks). HasChunks new (chunk_k new) shape.sizes shape.bytes root c (chunk_blocks_told image shape root)) (sym chunks_stay) still);
     inside = subst (Inside (length new)) (sym blocks_stay) (subst (λ (n : ℕ). Inside n (chunk_blocks_told image shape root)) (sym long) read.inside);
   }
+
+  pub cursors_stay : (cursor : ChunkCursor) → IsCursor image shape root cursor → IsCursor new shape root cursor
+  cursors_stay = cursor_stays image new shape root read kept

@@ -28,13 +28,15 @@ use Rattle.h5_header.proofs.FoundLaws.{among_some}
 use Rattle.h5_laws.proofs.Lists.{In, in_all, all_in}
 use Rattle.h5_laws.proofs.InPlace.CellWrites.{table_set}
 use Rattle.h5_msg.proofs.WordLaws.{and_left, and_right}
+use Rattle.h5_chunks.specs.Cursor.{IsCursor}
 use Rattle.h5_chunks.specs.Read.{AreChunksRead}
+use Rattle.h5_chunks.specs.declared.cursor.ChunkCursor.{ChunkCursor}
 use Rattle.h5_layout.specs.Data.{AreDataRead, chunk_shape, data_blocks, dataset_told, stored_chunks}
 use Rattle.h5_layout.specs.Described.{Described, HasArray}
 use Rattle.h5_layout.specs.Standing.{IsStandingAt, address_of, blocks_with_cells, cell_blocks}
 use Rattle.h5_layout.specs.Stored.{has_room}
 use Rattle.h5_layout.proofs.StandingLaws.{HasBoxes, IsHeld, box_blocks, boxed, boxes_of, cover_data, held_cell, node_blocks, nowhere, one_cell, stands}
-use Rattle.h5_layout.proofs.NodesStay.{blocks_stay, chunks_stay, read_stays}
+use Rattle.h5_layout.proofs.NodesStay.{blocks_stay, chunks_stay, cursors_stay, read_stays}
 use Rattle.h5_layout.proofs.RoomLaws.{room_of}
 use Rattle.h5_layout.proofs.WriteLaws.{with_part-append, with_part-none}
 
@@ -74,11 +76,19 @@ pub record AreApart (image : List ℕ) (t : Fixed) (sizes : List ℕ) (layout : 
   pub boxes : HasBoxes layout
   pub once : (p : ℕ) → cover p (data_blocks image t layout) ≤ 1
 
+-- where the tree of the chunks was left last
+abbrev pub IsCursorIn : List ℕ → Fixed → Layout → ChunkCursor → Type 0
+IsCursorIn image t (InMessage bytes) cursor = Unit {0}
+IsCursorIn image t (InBlock b) cursor = Unit {0}
+IsCursorIn image t (InChunks chunk None) cursor = Unit {0}
+IsCursorIn image t (InChunks chunk (Some root)) cursor = IsCursor image (chunk_shape t chunk) root cursor
+
 -- they stay in another image
 pub record DoStay (image new : List ℕ) (t : Fixed) (sizes : List ℕ) (layout : Layout) : Type 0 where
   pub apart : AreApart new t sizes layout
   pub chunks : stored_chunks new t layout ≡ stored_chunks image t layout
   pub blocks : data_blocks new t layout ≡ data_blocks image t layout
+  pub cursors : (cursor : ChunkCursor) → IsCursorIn image t layout cursor → IsCursorIn new t layout cursor
 
 module _ (image new : List ℕ) (t : Fixed) (sizes : List ℕ) (long : length new ≡ length image) (x : ℕ)
     (kept : (p : ℕ) → (p < x) ⊎ (x + t.size ≤ p) → byte_at new p ≡ byte_at image p) where
@@ -114,12 +124,12 @@ module _ (image new : List ℕ) (t : Fixed) (sizes : List ℕ) (long : length ne
   }
 
   pub do_stay : (layout : Layout) → AreApart image t sizes layout → (place : ℕ) → stands image t sizes layout place ≡ Some x → DoStay image new t sizes layout
-  do_stay (InMessage bytes) was place is = record { apart = apart_still (InMessage bytes) was tt refl; chunks = refl; blocks = refl }
-  do_stay (InBlock None) was place is = record { apart = apart_still (InBlock None) was tt refl; chunks = refl; blocks = refl }
+  do_stay (InMessage bytes) was place is = record { apart = apart_still (InMessage bytes) was tt refl; chunks = refl; blocks = refl; cursors = λ cursor is. tt }
+  do_stay (InBlock None) was place is = record { apart = apart_still (InBlock None) was tt refl; chunks = refl; blocks = refl; cursors = λ cursor is. tt }
   do_stay (InBlock (Some b)) was place is =
       let read : b.at + b.len ≤ length new = omega (arith, long, was.read) in
-      record { apart = apart_still (InBlock (Some b)) was read refl; chunks = refl; blocks = refl }
-  do_stay (InChunks chunk None) was place is = record { apart = apart_still (InChunks chunk None) was tt refl; chunks = refl; blocks = refl }
+      record { apart = apart_still (InBlock (Some b)) was read refl; chunks = refl; blocks = refl; cursors = λ cursor is. tt }
+  do_stay (InChunks chunk None) was place is = record { apart = apart_still (InChunks chunk None) was tt refl; chunks = refl; blocks = refl; cursors = λ cursor is. tt }
   do_stay (InChunks chunk (Some root)) was place is =
       let kept = nodes_kept chunk root was.read (grind (arith, was.room)) was.boxes was.once place is in
       let blocks = blocks_stay image new (chunk_shape t chunk) root was.read long kept in
@@ -127,6 +137,7 @@ module _ (image new : List ℕ) (t : Fixed) (sizes : List ℕ) (long : length ne
         apart = apart_still (InChunks chunk (Some root)) was (read_stays image new (chunk_shape t chunk) root was.read long kept) blocks;
         chunks = chunks_stay image new (chunk_shape t chunk) root was.read long kept;
         blocks = blocks;
+        cursors = cursors_stay image new (chunk_shape t chunk) root was.read long kept;
       }
 
   -- ---- one cell
@@ -194,7 +205,7 @@ module _ (t : Fixed) (is : IsFixed t) (fill : ℤ) (sizes : List ℕ) (layout : 
       → IsRunWritten image (with_part at (cells_bytes t values) image) t fill sizes layout place values
   run_written [] place at image was all room low stand =
       subst (λ (new : List ℕ). IsRunWritten image new t fill sizes layout place []) (sym (with_part-none at image (omega (arith, low))))
-      (record { stay = record { apart = was; chunks = refl; blocks = refl }; long = refl; cells = refl })
+      (record { stay = record { apart = was; chunks = refl; blocks = refl; cursors = λ cursor is. is }; long = refl; cells = refl })
   run_written (v ∷ vs) place at image was all room low stand =
       let first : List ℕ = with_part at (bytes_of t v) image in
       let wide = length-bytes_of t v in
@@ -223,6 +234,7 @@ module _ (t : Fixed) (is : IsFixed t) (fill : ℤ) (sizes : List ℕ) (layout : 
           apart = rest.stay.apart;
           chunks = rest.stay.chunks ∙ one.chunks;
           blocks = rest.stay.blocks ∙ one.blocks;
+          cursors = λ cursor is. rest.stay.cursors cursor (one.cursors cursor is);
         };
         long = rest.long ∙ long;
         cells = rest.cells ∙ ap (λ (cs : List ℤ). with_cells cs (range_with_len (place + 1) (length vs)) vs) set_one;
@@ -338,6 +350,9 @@ module _ (old : List ℕ) (a : Described) (ms : List Message) (has : HasArray ms
 
     pub stored_blocks_stay : data_blocks new a.fixed a.layout ≡ data_blocks old a.fixed a.layout
     stored_blocks_stay = run.stay.blocks
+
+    pub stored_cursors : (cursor : ChunkCursor) → IsCursorIn old a.fixed a.layout cursor → IsCursorIn new a.fixed a.layout cursor
+    stored_cursors = run.stay.cursors
 
     pub stored_told : dataset_told new a ≡ record (dataset_told old a) { cells = with_cells (dataset_told old a).cells (range_with_len place (length values)) values }
     stored_told = ap (λ (cs : List ℤ). record (dataset_told old a) { cells = cs }) run.cells

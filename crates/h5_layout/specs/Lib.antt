@@ -1,11 +1,13 @@
 pub mod ArrayEdits
 pub mod Buffers
 pub mod CellData
+pub mod CellPlaces
 pub mod Compact
 pub mod ChunkCells
 pub mod Data
 pub mod Described
 pub mod Extents
+pub mod GridKept
 pub mod HeldChunks
 pub mod Judged
 pub mod Kept
@@ -20,6 +22,7 @@ pub mod Spans
 pub mod Standing
 pub mod Stored
 pub mod StoredAt
+pub mod StoredExtent
 pub mod Storage
 pub mod Told
 pub mod Trimmed

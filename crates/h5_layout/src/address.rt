@@ -13,6 +13,7 @@ ghost use Rattle.h5_layout.specs.Standing.{IsStandingAt, address_at};
 use crate::array::ArrayRef;
 use crate::buffer::Buffer;
 use crate::grid::{GridRef, copy_sizes};
+use h5_chunks::ChunkCursor;
 use h5_model::Fixed;
 use h5_msg::{Layout, write_values};
 use h5_shape::MAX_RANK;
@@ -64,7 +65,8 @@ pub fn stored_from(image: &Image, array: &ArrayRef<'_>, place: u64, most: u64) -
             let chunk = &mut room[..sizes.rank()];
             copy_sizes(sizes, chunk);
             let grid = GridRef::new(image, array.dims().sizes(), chunk, size, *root);
-            let row = grid.row_at(place);
+            let mut corner = [0; MAX_RANK];
+            let row = grid.row_at(&mut ChunkCursor::new(), &mut corner[..sizes.rank()], place);
             let Some(at) = row.at else {
                 return None;
             };

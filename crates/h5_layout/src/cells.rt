@@ -68,19 +68,20 @@ impl<'a> StoredCells<'a> {
     }
 
     /// A piece of the cells from a place on, with at most so many, and how many it has.
-    pub(crate) fn piece(&self, place: u64, most: u64) -> (Piece<'a>, u64)
+    pub(crate) fn piece(&mut self, place: u64, most: u64) -> (Piece<'a>, u64)
         requires some { 0 < most }
-        requires below { place + most ≤ length self.now.values }
-        ensures piece { IsPieceAt self.now place most result.0 result.1 }
-        ensures small { length self.now.values ≤ 2 ^ 40 }
+        requires below { place + most ≤ length self.old.values }
+        ensures same { self.new ≡ self.old }
+        ensures piece { IsPieceAt self.old place most result.0 result.1 }
+        ensures small { length self.old.values ≤ 2 ^ 40 }
     {
-        match &self.held {
+        match &mut self.held {
             CellData::Filled => (Piece::Fill { cells: most }, most),
             CellData::InLine(bytes) => (whole_piece(&self.fixed, bytes, place, most), most),
             CellData::InChunks(grid) => {
-                let row = grid.lend().row_at(place);
+                let row = grid.row_at(place);
                 let cells = most.min(row.cells);
-                match row.bytes {
+                match grid.bytes_at(row.at) {
                     Some(bytes) => (whole_piece(&self.fixed, bytes, row.place, cells), cells),
                     None => (Piece::Fill { cells }, cells),
                 }

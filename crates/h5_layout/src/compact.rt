@@ -18,7 +18,7 @@ const FRONT: u64 = 4;
 ///
 /// That there is one such message, and that the messages lie in the image, are the caller's conditions. If the layout
 /// is not compact, no cell stands at the address.
-pub fn compact_place(image: &Image, messages: &Messages) -> u64
+pub(crate) fn compact_place(image: &Image, messages: &Messages) -> u64
     requires within { IsWithin (length image.now.bytes) messages.now.list }
     requires one { count_of data_layout_kind (messages_in image.now.bytes messages.now.list) ≡ 1 }
     ensures { compact_at messages.now.list ≡ Some result }

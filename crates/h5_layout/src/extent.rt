@@ -50,28 +50,46 @@ pub fn set_sizes(image: &mut Image, messages: &mut Messages, sizes: &[u64])
         (extent_room (messages_in image.old.bytes messages.old.list) sizes.now) 1 }
 {
     let mut room = [None; MAX_RANK];
-    let maxima = read_maxima(image, messages, &mut room);
-    if lacks_maxima(image, messages) {
+    let (lacks, maxima) = read_maxima(image, messages, &mut room);
+    if lacks {
         add_extent(image, messages, sizes, maxima);
     } else {
         write_extent(image, messages, sizes, maxima);
     }
 }
 
-/// The largest sizes of an array as its Dataspace message has them, written to the front of `room`; `None` is
-/// unlimited.
+/// Whether the Dataspace message of an array has no maxima, and the largest sizes as it has them, written to the front of
+/// `room`; `None` is unlimited.
 fn read_maxima<'a>(
     image: &Image,
     messages: &Messages,
     room: &'a mut [Option<u64>; MAX_RANK],
-) -> &'a [Option<u64>]
+) -> (bool, &'a [Option<u64>])
     requires array { IsArrayApart image.now messages.now }
-    ensures { result.now ≡ (described_in image.now.bytes messages.now).maxima }
+    ensures lacks { result.0 ≡ lacks_any (messages_in image.now.bytes messages.now.list) }
+    ensures maxima { result.1.now ≡ (described_in image.now.bytes messages.now).maxima }
+{
+    let body = one_body(image, messages, DATASPACE);
+    let extent = read_dataspace(body).unwrap();
+    let rank = extent.rank();
+    for k in 0..rank {
+        room[k] = extent.maximum(k);
+    }
+    (body[FLAGS] != HAS_MAXIMA, &room[..rank])
+}
+
+/// The sizes of an array as its Dataspace message has them, written to the front of `room`. No other message is read.
+/// Takes no memory.
+///
+/// That the array was read is the caller's condition.
+pub fn sizes_of<'r>(image: &Image, messages: &Messages, room: &'r mut [u64; MAX_RANK]) -> &'r [u64]
+    requires array { IsArrayApart image.now messages.now }
+    ensures { result.now ≡ (described_in image.now.bytes messages.now).sizes }
 {
     let extent = read_dataspace(one_body(image, messages, DATASPACE)).unwrap();
     let rank = extent.rank();
     for k in 0..rank {
-        room[k] = extent.maximum(k);
+        room[k] = extent.size(k);
     }
     &room[..rank]
 }

@@ -1,8 +1,12 @@
-//! Chunks stored where their tree stands, with each cell the fill (File Format Specification 3.0, section III.A.1).
+//! Blocks that were taken, with each cell the fill, and chunks stored so where their tree stands (File Format Specification
+//! 3.0, section III.A.1).
 
-ghost use Rattle.std.specs.Prelude.{◌≡◌, ℕ, ◌+◌, ◌*◌, ◌^◌, ◌≤◌, IfErr, None, OnOk, [], ◌∷◌, length};
+ghost use Rattle.std.specs.Prelude.{◌≡◌, ℕ, ◌+◌, ◌*◌, ◌^◌, ◌≤◌, IfErr, None, OnOk, [], ◌∷◌, length, replicate, true};
 ghost use Rattle.std.specs.FinMap.{get};
+ghost use Rattle.h5_bytes.specs.Bytes.{part};
 ghost use Rattle.h5_model.specs.Format.Chunks.{IsChunkKey, offsets_in};
+ghost use Rattle.h5_model.specs.Format.Fixed.{fits};
+ghost use Rattle.h5_space.specs.Lending.{with_bytes_at};
 ghost use Rattle.h5_space.specs.Moves.{Spends};
 ghost use Rattle.h5_chunks.specs.Told.{chunks_told};
 ghost use Rattle.h5_chunks.specs.Bushy.{IsBushy};
@@ -84,6 +88,23 @@ fn store_filled(
         (offsets_in (length shape.now.sizes) key.now ∷ []) }
     ensures spends { Spends image.old image.new (store_room image.old.bytes shape.now) 18 }
 {
+    let end = image.bytes().len() as u64;
     let at = store(image, shape, root, key);
+    fill_taken(image, cells, at, end);
+}
+
+/// Makes each cell of a block that was taken the fill. Behind the old end of the image the block is zero, so that a fill of 0
+/// is there already.
+pub(crate) fn fill_taken(image: &mut Image, cells: &CellsToFill, at: u64, end: u64)
+    requires inside { at + cells.now.count * cells.now.fixed.size ≤ length image.old.bytes }
+    requires of_type { fits cells.now.fixed cells.now.fill ≡ true }
+    requires zero { end ≤ at → part at (cells.now.count * cells.now.fixed.size) image.old.bytes
+        ≡ replicate (cells.now.count * cells.now.fixed.size) 0 }
+    ensures { image.new ≡ with_bytes_at image.old at
+        (cells_of_fill cells.now.fixed cells.now.fill cells.now.count) }
+{
+    if cells.fill == 0 && end <= at {
+        return;
+    }
     fill_stored(image, &cells.fixed, at, cells.fill, cells.count);
 }

@@ -5,14 +5,16 @@ ghost use Rattle.std.specs.FinMap.{get};
 ghost use Rattle.std.specs.List.{AllByRecursion};
 ghost use Rattle.h5_model.specs.Tree.Grid.{corner_of, inner_of};
 ghost use Rattle.h5_model.specs.Tree.Places.{cells as cells_of, index_of, place_of};
+ghost use Rattle.h5_chunks.specs.Cursor.{IsCursor};
 ghost use Rattle.h5_chunks.specs.Read.{AreChunksRead};
 ghost use Rattle.h5_chunks.specs.Shapes.{AreChunkSizes};
 ghost use Rattle.h5_chunks.specs.Told.{chunks_told};
-ghost use Rattle.h5_layout.specs.ChunkCells.{AreBeside, AreChunkBytes, chunk_of, place_in_chunk};
+ghost use Rattle.h5_layout.specs.ChunkCells.{AreBeside, AreChunkBytes, IsGrid, chunk_of, place_in_chunk};
 
-use h5_chunks::{ChunkShape, chunk_at};
+use crate::index::ChunkIndex;
+use h5_chunks::{ChunkCursor, ChunkShape, chunk_from};
 use h5_msg::ChunkSizes;
-use h5_shape::{Dims, MAX_RANK};
+use h5_shape::{CellRun, Dims};
 use h5_space::Image;
 use std::marker::Model;
 
@@ -21,32 +23,18 @@ use std::marker::Model;
 #[derive(Debug, Drop)]
 pub(crate) struct ChunkGrid<'a> {
     image: &'a Image,
-    root: u64,
-    rank: usize,
-    sizes: [u64; 32],
-    chunk: [u64; 32],
-    chunk_bytes: u64,
+    index: ChunkIndex,
 }
 
 impl<'a> Model for ChunkGrid<'a> {
-    ghost use Rattle.std.specs.Prelude.{◌≤◌, take};
-    ghost use Rattle.h5_layout.specs.ChunkCells.{Grid, IsGrid};
+    ghost use Rattle.h5_layout.specs.ChunkCells.{Grid};
+    ghost use Rattle.h5_layout.specs.GridKept.{IsGridKept, grid_in};
 
     ghost Value = { Grid };
 
-    ghost view = { λ g. record {
-      image = g.image.now.bytes;
-      sizes = take g.rank g.sizes;
-      shape = record { sizes = take g.rank g.chunk; bytes = g.chunk_bytes };
-      root = g.root;
-    } };
+    ghost view = { λ g. grid_in g.image.now.bytes g.index };
 
-    ghost invariant = { λ g. (g.rank ≤ 32) × IsGrid (record {
-      image = g.image.now.bytes;
-      sizes = take g.rank g.sizes;
-      shape = record { sizes = take g.rank g.chunk; bytes = g.chunk_bytes };
-      root = g.root;
-    }) };
+    ghost invariant = { λ g. IsGridKept g.image.now.bytes g.index };
 }
 
 /// An array in chunks, and the image in which they stand, with the sizes of both lent: where it is asked once, they need no
@@ -81,12 +69,10 @@ impl<'a, 'g> Model for GridRef<'a, 'g> {
 }
 
 /// Where some cells stand one behind the other in a chunk.
-#[derive(Drop)]
-pub(crate) struct ChunkRow<'a> {
+#[derive(Clone, Copy)]
+pub(crate) struct ChunkRow {
     /// The address of the chunk, where it is stored.
     pub(crate) at: Option<u64>,
-    /// Its bytes.
-    pub(crate) bytes: Option<&'a [u8]>,
     /// The place of the first cell in the chunk.
     pub(crate) place: u64,
     /// How many cells there are.
@@ -115,33 +101,37 @@ impl<'a> ChunkGrid<'a> {
           root = root;
         } }
     {
-        let rank = chunk_sizes.rank();
-        let mut sizes = [0; MAX_RANK];
-        sizes[..rank].copy_from_slice(dims.sizes());
-        let mut chunk = [0; MAX_RANK];
-        copy_sizes(chunk_sizes, &mut chunk[..rank]);
-        let chunk_bytes = bytes_of(&chunk[..rank], size);
         ChunkGrid {
             image,
-            root,
-            rank,
-            sizes,
-            chunk,
-            chunk_bytes,
+            index: ChunkIndex::new(dims, chunk_sizes, size, root),
         }
     }
 
-    /// The same array, with the sizes lent.
-    pub(crate) fn lend(&self) -> GridRef<'a, '_>
-        ensures { result ≡ self.now }
+    /// The cells from this place on that stand one behind the other in a row of a chunk.
+    pub(crate) fn row_at(&mut self, place: u64) -> ChunkRow
+        requires { place < cells_of self.old.sizes }
+        ensures same { self.new ≡ self.old }
+        ensures some { 0 < result.cells }
+        ensures beside { AreBeside self.old.sizes self.old.shape.sizes place result.cells }
+        ensures place { result.place ≡ place_in_chunk self.old place }
+        ensures room { result.place + result.cells ≤ cells_of self.old.shape.sizes }
+        ensures at { result.at ≡ chunk_of self.old place }
+        ensures inside { IfSome result.at (λ at. at + self.old.shape.bytes ≤ length self.old.image) }
     {
-        GridRef {
-            image: self.image,
-            root: self.root,
-            sizes: &self.sizes[..self.rank],
-            chunk: &self.chunk[..self.rank],
-            chunk_bytes: self.chunk_bytes,
-        }
+        self.index.row_at(self.image, place)
+    }
+
+    /// The bytes of the chunk at this address, where it is stored.
+    pub(crate) fn bytes_at(&self, at: Option<u64>) -> Option<&'a [u8]>
+        requires { IfSome at (λ at. at + self.now.shape.bytes ≤ length self.now.image) }
+        ensures { AreChunkBytes self.now at (option_map (λ b. b.now) result) }
+    {
+        let Some(at) = at else {
+            return None;
+        };
+        let bytes = self.image.bytes();
+        let end = at + self.index.chunk_bytes();
+        Some(&bytes[at as usize..end as usize])
     }
 }
 
@@ -178,50 +168,76 @@ impl<'a, 'g> GridRef<'a, 'g> {
         }
     }
 
-    /// The cells from this place on that stand one behind the other in a row of a chunk.
-    pub(crate) fn row_at(&self, place: u64) -> ChunkRow<'a>
-        requires { place < cells_of self.now.sizes }
+    /// The array of these sizes, in chunks of these sizes and of so many bytes, below this root.
+    ///
+    /// That it is one, whose chunks stand in the image, is the caller's condition.
+    pub(crate) fn lent(
+        image: &'a Image,
+        sizes: &'g [u64],
+        chunk: &'g [u64],
+        chunk_bytes: u64,
+        root: u64,
+    ) -> Self
+        requires { IsGrid (record {
+          image = image.now.bytes;
+          sizes = sizes.now;
+          shape = record { sizes = chunk.now; bytes = chunk_bytes };
+          root = root;
+        }) }
+        ensures { result ≡ record {
+          image = image.now.bytes;
+          sizes = sizes.now;
+          shape = record { sizes = chunk.now; bytes = chunk_bytes };
+          root = root;
+        } }
+    {
+        GridRef {
+            image,
+            root,
+            sizes,
+            chunk,
+            chunk_bytes,
+        }
+    }
+
+    /// The cells from this place on that stand one behind the other in a row of a chunk. The cursor of the tree is then
+    /// where the chunk was sought, and `corner` has the chunk's first index.
+    pub(crate) fn row_at(
+        &self,
+        cursor: &mut ChunkCursor,
+        corner: &mut [u64],
+        place: u64,
+    ) -> ChunkRow
+        requires below { place < cells_of self.now.sizes }
+        requires cursor { IsCursor self.now.image self.now.shape self.now.root cursor.old }
+        requires corner { length corner.old ≡ length self.now.sizes }
+        ensures cursor { IsCursor self.now.image self.now.shape self.now.root cursor.new }
         ensures some { 0 < result.cells }
         ensures beside { AreBeside self.now.sizes self.now.shape.sizes place result.cells }
         ensures place { result.place ≡ place_in_chunk self.now place }
         ensures room { result.place + result.cells ≤ cells_of self.now.shape.sizes }
         ensures at { result.at ≡ chunk_of self.now place }
-        ensures bytes { AreChunkBytes self.now (chunk_of self.now place)
-            (option_map (λ b. b.now) result.bytes) }
         ensures inside { IfSome result.at (λ at. at + self.now.shape.bytes ≤ length self.now.image) }
     {
-        let mut room = [0; MAX_RANK];
-        let corner = &mut room[..self.sizes.len()];
-        let inner = locate(self.sizes, self.chunk, place, corner);
-        let at = self.address_of(corner);
+        let row = locate(self.sizes, self.chunk, place, corner);
         ChunkRow {
-            at,
-            bytes: self.bytes_at(at),
-            place: inner,
-            cells: row_left(self.sizes, self.chunk, place),
+            at: self.address_of(cursor, corner),
+            place: row.place,
+            cells: row.length,
         }
     }
 
     /// The address of the chunk with this first index, where it is stored.
-    fn address_of(&self, corner: &[u64]) -> Option<u64>
-        requires { length corner.now ≡ length self.now.shape.sizes }
+    fn address_of(&self, cursor: &mut ChunkCursor, corner: &[u64]) -> Option<u64>
+        requires rank { length corner.now ≡ length self.now.shape.sizes }
+        requires cursor { IsCursor self.now.image self.now.shape self.now.root cursor.old }
         ensures exact { result
             ≡ get (chunks_told self.now.image self.now.shape self.now.root) corner.now }
         ensures inside { IfSome result (λ at. at + self.now.shape.bytes ≤ length self.now.image) }
+        ensures cursor { IsCursor self.now.image self.now.shape self.now.root cursor.new }
     {
         let shape = ChunkShape::new(self.chunk, self.chunk_bytes);
-        chunk_at(self.image, &shape, self.root, corner)
-    }
-
-    /// The bytes of the chunk at this address, where it is stored.
-    fn bytes_at(&self, at: Option<u64>) -> Option<&'a [u8]>
-        requires { IfSome at (λ at. at + self.now.shape.bytes ≤ length self.now.image) }
-        ensures { AreChunkBytes self.now at (option_map (λ b. b.now) result) }
-    {
-        let Some(at) = at else {
-            return None;
-        };
-        Some(&self.image.bytes()[at as usize..(at + self.chunk_bytes) as usize])
+        chunk_from(self.image, &shape, self.root, cursor, corner)
     }
 }
 
@@ -251,44 +267,39 @@ pub(crate) fn bytes_of(chunk: &[u64], size: u64) -> u64
     first * bytes_of(rest, size)
 }
 
-/// Writes the first index of the chunk that has the cell at a place. Returns the cell's place in the chunk.
-fn locate(sizes: &[u64], chunk: &[u64], place: u64, corner: &mut [u64]) -> u64
+/// Writes the first index of the chunk that has the cell at a place. Returns the cell's place in the chunk, and how many cells
+/// from it on stay in its row of the chunk.
+fn locate(sizes: &[u64], chunk: &[u64], place: u64, corner: &mut [u64]) -> CellRun
     requires rank { length chunk.now ≡ length sizes.now }
     requires room { length corner.old ≡ length sizes.now }
     requires sizes { AreChunkSizes chunk.now }
     requires small { cells_of chunk.now ≤ 2 ^ 30 }
     requires below { place < cells_of sizes.now }
     ensures corner { corner.new ≡ corner_of chunk.now (index_of sizes.now place) }
-    ensures inner { result ≡ place_of chunk.now (inner_of chunk.now (index_of sizes.now place)) }
+    ensures inner { result.place
+        ≡ place_of chunk.now (inner_of chunk.now (index_of sizes.now place)) }
+    ensures some { 0 < result.length }
+    ensures beside { AreBeside sizes.now chunk.now place result.length }
 {
     let mut rest = place;
     let mut inner = 0;
     let mut stride = 1;
+    let mut left = 1;
     let mut k = sizes.len();
     while k > 0 {
         k -= 1;
         let index = rest % sizes[k];
         rest /= sizes[k];
         let within = index % chunk[k];
+        if k + 1 == sizes.len() {
+            left = (sizes[k] - index).min(chunk[k] - within);
+        }
         corner[k] = index - within;
         inner += within * stride;
         stride *= chunk[k];
     }
-    inner
-}
-
-/// How many cells from a place on stay in its row of its chunk.
-fn row_left(sizes: &[u64], chunk: &[u64], place: u64) -> u64
-    requires rank { length chunk.now ≡ length sizes.now }
-    requires sizes { AreChunkSizes chunk.now }
-    requires below { place < cells_of sizes.now }
-    ensures some { 0 < result }
-    ensures beside { AreBeside sizes.now chunk.now place result }
-{
-    if sizes.is_empty() {
-        return 1;
+    CellRun {
+        place: inner,
+        length: left,
     }
-    let last = sizes.len() - 1;
-    let index = place % sizes[last];
-    (sizes[last] - index).min(chunk[last] - index % chunk[last])
 }

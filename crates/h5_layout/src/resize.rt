@@ -10,9 +10,8 @@ ghost use Rattle.h5_layout.specs.Kept.{smaller_sizes};
 ghost use Rattle.h5_layout.specs.Resized.{IsArrayResized, IsLookedAt, calls_outside};
 ghost use Rattle.h5_layout.specs.Trimmed.{AreOutside, IsTrimmedTo};
 
-use crate::extent::set_sizes;
+use crate::extent::{set_sizes, sizes_of};
 use crate::held::copy_smaller;
-use crate::read::known_array;
 use crate::trimmed::{Outside, trim};
 use h5_header::Messages;
 use h5_shape::MAX_RANK;
@@ -72,25 +71,19 @@ fn trim_to_smaller(
 {
     let mut room = [0; MAX_RANK];
     let smaller = &mut room[..sizes.len()];
-    write_smaller(alloc, image, messages, sizes, smaller);
+    write_smaller(image, messages, sizes, smaller);
     trim(alloc, image, messages, smaller, outside);
 }
 
 /// Writes the smaller of the size that an array has and the one here in each dimension.
 ///
 /// That the array was read, and that there are as many sizes as it has, are the caller's conditions.
-fn write_smaller(
-    alloc: Global,
-    image: &Image,
-    messages: &Messages,
-    sizes: &[u64],
-    smaller: &mut [u64],
-)
+fn write_smaller(image: &Image, messages: &Messages, sizes: &[u64], smaller: &mut [u64])
     requires array { IsArrayApart image.now messages.now }
     requires rank { length sizes.now ≡ length (described_in image.now.bytes messages.now).sizes }
     requires room { length smaller.old ≡ length sizes.now }
     ensures { smaller.new ≡ smaller_sizes (described_in image.now.bytes messages.now).sizes sizes.now }
 {
-    let array = known_array(alloc, image, messages);
-    copy_smaller(array.dims().sizes(), sizes, smaller);
+    let mut room = [0; MAX_RANK];
+    copy_smaller(sizes_of(image, messages, &mut room), sizes, smaller);
 }

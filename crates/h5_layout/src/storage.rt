@@ -22,10 +22,9 @@ ghost use Rattle.h5_layout.specs.NewTrees.{IsTreeMade, IsTreeNamed};
 ghost use Rattle.h5_layout.specs.Storage.{IsDeepFor, IsFullInTurn, IsStorageMade, chunks_room, is_low_root, is_refused_first as refuses_first, storage_bytes};
 ghost use Rattle.h5_layout.specs.declared.lacking.Missing.TheVariants as missing;
 
-use crate::address::fill_stored;
 use crate::chunked::ChunkedArray;
 use crate::copied::{CellsToFill, copied_cells};
-use crate::filled::store_all;
+use crate::filled::{fill_taken, store_all};
 use crate::header::{set_block, set_root};
 use crate::lacking::Missing;
 use crate::read::known_array;
@@ -217,8 +216,9 @@ fn make_block(
     if let Err(fault) = image.reserve(length, 1) {
         return Err(InsertFault::Space(fault));
     }
+    let end = image.bytes().len() as u64;
     let at = image.take(length);
-    fill_stored(image, &cells.fixed, at, cells.fill, cells.count);
+    fill_taken(image, cells, at, end);
     set_block(image, messages, at, length);
     Ok(())
 }

@@ -11,7 +11,11 @@ use Rattle.h5_model.specs.Tree.Objects.{Dataset}
 use Rattle.h5_space.specs.Lending.{with_bytes_at}
 use Rattle.h5_space.specs.Space.{Space}
 use Rattle.h5_header.specs.declared.message.Message.{Message as Listed}
+use Rattle.h5_header.specs.Listed.{messages_in}
+use Rattle.h5_layout.specs.CellPlaces.{ArePlacesOf, KeptPlaces}
 use Rattle.h5_layout.specs.Compact.{compact_at}
+use Rattle.h5_layout.specs.Told.{array_told}
+use Rattle.h5_layout.proofs.PlacesWritten.{compact_places}
 use Rattle.h5_layout.specs.Data.{stored_chunks}
 use Rattle.h5_layout.specs.Described.{Described}
 use Rattle.h5_layout.proofs.CompactWritten.{compact_message}
@@ -86,3 +90,9 @@ module _ (old : Space) (slots : List (Option OpenedObject)) (numbers : BTreeMap 
           let now = array_there new slots numbers run_opened number p stands array in
           (b, now, blocks_new now.blocks ∙ blocks_are new slots numbers run_opened number p stands b now ∙ sym same);
     }
+
+    -- the cells stand where they stood
+    pub run_places : (places : KeptPlaces) → ArePlacesOf old.bytes p.messages.list a places
+        → ArePlacesOf new.bytes p.messages.list (array_told (messages_in new.bytes p.messages.list)) places
+    run_places places was =
+        compact_places old.bytes new.bytes p.messages.list a b places bytes all_written.bytes all_written.local.long laid all_written.laid all_written.fixed all_written.sizes was

@@ -90,6 +90,8 @@ pub record IsCompactWritten (old new : Space) (slots : List (Option OpenedObject
   pub local : IsKeptOutside old.bytes new.bytes p.messages.blocks
   pub bytes : List ℕ
   pub laid : layout_told (messages_in new.bytes p.messages.list) ≡ InMessage bytes
+  pub fixed : (array_told (messages_in new.bytes p.messages.list)).fixed ≡ (array_told (messages_in old.bytes p.messages.list)).fixed
+  pub sizes : (array_told (messages_in new.bytes p.messages.list)).sizes ≡ (array_told (messages_in old.bytes p.messages.list)).sizes
 
 module _ (old : Space) (slots : List (Option OpenedObject)) (numbers : BTreeMap ℕ ℕ) (opened : IsOpened old slots numbers) (number : ℕ) (p : OpenedObject) (at : slice_get slots number ≡ Some (Some p))
     (is_array : p.content ≡ content.Array) (bytes : List ℕ) (laid : layout_told (messages_in old.bytes p.messages.list) ≡ InMessage bytes)
@@ -250,4 +252,6 @@ module _ (old : Space) (slots : List (Option OpenedObject)) (numbers : BTreeMap 
         local = kept_outside old.bytes new.bytes start w p.messages.blocks fit refl covered;
         bytes = part (x.at + 4) (cells a.sizes * a.fixed.size) new.bytes;
         laid = ap (λ (d : Described). d.layout) told_is;
+        fixed = ap (λ (d : Described). d.fixed) told_is;
+        sizes = ap (λ (d : Described). d.sizes) told_is;
       }

@@ -9,7 +9,10 @@ use Rattle.h5_model.specs.Format.Plain.{cells_bytes}
 use Rattle.h5_model.specs.Tree.Objects.{Dataset}
 use Rattle.h5_space.specs.Lending.{with_bytes_at}
 use Rattle.h5_space.specs.Space.{Space}
+use Rattle.h5_header.specs.Listed.{messages_in}
+use Rattle.h5_layout.specs.CellPlaces.{ArePlacesOf, KeptPlaces}
 use Rattle.h5_layout.specs.Compact.{IsRunAt}
+use Rattle.h5_layout.specs.Told.{array_told}
 use Rattle.h5_layout.specs.Described.{Described}
 use Rattle.h5_layout.specs.Standing.{is_stored_cell}
 use Rattle.h5_layout.proofs.StandingWritten.{parts_of_type}
@@ -17,8 +20,8 @@ use Rattle.h5_open.specs.declared.opened.object.OpenedObject.{OpenedObject}
 use Rattle.h5_open.specs.Opened.Kept.{IsOpened}
 use Rattle.h5_open.specs.Opened.State.{FileState, opened_state}
 use Rattle.h5_open.specs.Written.{AreCellsWritten, IsStoredRun}
-use Rattle.h5_open.proofs.CompactFirst.{run_inside, run_opened, run_written}
-use Rattle.h5_open.proofs.StandingOpened.{all_of_type, array_there, first_inside, first_written, it, kind}
+use Rattle.h5_open.proofs.CompactFirst.{run_inside, run_opened, run_places, run_written}
+use Rattle.h5_open.proofs.StandingOpened.{all_of_type, array_there, first_inside, first_places, first_written, it, kind}
 
 -- the first of the values can be written too
 run_before : (f : FileState) (number place : ℕ) (values : List ℤ) (n : ℕ) → n ≤ length values → (d : Dataset) → IsStoredRun f number place values d → IsStoredRun f number place (take n values) d
@@ -75,3 +78,13 @@ module _ (old : Space) (slots : List (Option OpenedObject)) (numbers : BTreeMap 
         go (inr standing) =
             let all = first_written old slots numbers opened number p stands d place values run n at some few standing fixed new wrote in
             (all.opened_now, all.written)
+
+      -- and the cells stand where they stood
+      pub any_places : (places : KeptPlaces) → ArePlacesOf old.bytes p.messages.list (it old slots numbers opened number p stands d place values run) places
+          → ArePlacesOf new.bytes p.messages.list (array_told (messages_in new.bytes p.messages.list)) places
+      any_places places was = go stand where
+        go : IsRunAt old.bytes p.messages.list a place n at → ArePlacesOf new.bytes p.messages.list (array_told (messages_in new.bytes p.messages.list)) places
+        go (inl (bytes, laid, (base, there, is))) =
+            let put = wrote ∙ ap (λ (i : ℕ). with_bytes_at old i (cells_bytes a.fixed first)) is in
+            run_places old slots numbers opened number p stands d place first its bytes laid base there fixed new put places was
+        go (inr standing) = first_places old slots numbers opened number p stands d place values run n at some few standing fixed new wrote places was

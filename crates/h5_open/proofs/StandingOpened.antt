@@ -23,11 +23,14 @@ use Rattle.h5_model.proofs.OneReading.{one_messages}
 use Rattle.h5_space.specs.Lending.{with_bytes_at}
 use Rattle.h5_space.specs.Moves.{Moves}
 use Rattle.h5_space.specs.Space.{Space}
+use Rattle.h5_header.specs.Listed.{messages_in}
+use Rattle.h5_layout.specs.CellPlaces.{ArePlacesOf, KeptPlaces}
 use Rattle.h5_layout.specs.Data.{dataset_told, stored_chunks}
 use Rattle.h5_layout.specs.Described.{Described, HasArray}
 use Rattle.h5_layout.specs.Standing.{IsStandingAt, blocks_with_cells, cell_blocks, is_stored_cell, is_stored_in}
 use Rattle.h5_layout.specs.Told.{array_told}
 use Rattle.h5_layout.proofs.ArrayLaws.{one_array}
+use Rattle.h5_layout.proofs.PlacesWritten.{stored_places}
 use Rattle.h5_layout.proofs.StandingWritten.{byte_beside, moves_within, parts_of_type, stored_among, stored_blocks_stay, stored_chunks_stay, stored_covered, stored_fit, stored_inside, stored_long, stored_read, stored_told}
 use Rattle.h5_layout.proofs.StandsAt.{cells_low}
 use Rattle.h5_open.specs.declared.opened.object.OpenedObject.{OpenedObject}
@@ -166,6 +169,7 @@ module _ (old : Space) (slots : List (Option OpenedObject)) (numbers : BTreeMap 
       pub record IsFirstWritten : Type 0 where
         pub opened_now : IsOpened new slots numbers
         pub written : AreCellsWritten (opened_state old slots) number place first (opened_state new slots)
+        pub described : array_told (messages_in new.bytes p.messages.list) ≡ it
 
       pub first_written : IsFirstWritten
       first_written =
@@ -221,4 +225,16 @@ module _ (old : Space) (slots : List (Option OpenedObject)) (numbers : BTreeMap 
                     ap (λ (c : Chunks). blocks_with_cells a.fixed a.layout c there.blocks) chunks_there,
                   );
             };
+            described = told_again;
           }
+
+      -- and where the cells stand
+      pub first_places : (places : KeptPlaces) → ArePlacesOf old.bytes p.messages.list it places
+          → ArePlacesOf new.bytes p.messages.list (array_told (messages_in new.bytes p.messages.list)) places
+      first_places places was =
+          let messages = list old slots numbers opened number p stands in
+          let has = (array_content old slots numbers opened number p stands kind).0.array in
+          let read = (array_content old slots numbers opened number p stands kind).1 in
+          let once = data_once old slots numbers opened number p stands kind in
+          subst (λ (a : Described). ArePlacesOf new.bytes p.messages.list a places) (sym first_written.described)
+          (stored_places old.bytes it messages has fixed read once place at first first_some first_stand first_room first_of_type new.bytes bytes_are p.messages.list places was)

@@ -19,6 +19,7 @@ pub mod Attributed
 pub use Rattle.h5_layout.specs.Data
 pub use Rattle.h5_layout.specs.Pieces
 pub use Rattle.h5_layout.specs.Stored
+pub use Rattle.h5_layout.specs.StoredExtent
 pub use Rattle.h5_layout.specs.Described
 pub use Rattle.h5_layout.specs.Told
 pub use Rattle.h5_layout.specs.Layouts

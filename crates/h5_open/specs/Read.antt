@@ -1,21 +1,24 @@
 -- An object that was read in a walk (File Format Specification 3.0, sections III.C and IV.A).
-use Rattle.std.specs.Prelude.{◌≡◌, ◌≢◌, ℕ, ◌+◌, ◌-◌, ◌≤◌, ◌⊎◌, true, IsTrue, List, [], ◌∷◌, ◌++◌, length}
+use Rattle.std.specs.Prelude.{◌≡◌, ◌≢◌, ℕ, ◌+◌, ◌-◌, ◌≤◌, ◌⊎◌, true, IsTrue, Option, None, List, [], ◌∷◌, ◌++◌, length}
 use Rattle.std.specs.List.{AllByRecursion, Contains}
 use Rattle.h5_bytes.specs.Blocks.{cover, Inside}
 use Rattle.h5_bytes.specs.declared.Block.{Block}
 use Rattle.h5_model.specs.Format.Addresses.{SymbolTable}
-use Rattle.h5_model.specs.Format.Messages.{HasMessages}
+use Rattle.h5_model.specs.Format.Messages.{HasMessages, Message}
 use Rattle.h5_model.specs.Format.Reached.{Named, named, ObjectHeader}
 use Rattle.h5_model.specs.Format.Symbols.{Target, Header, Text, symbol_bytes, symbols_in}
 use Rattle.h5_model.specs.Faults.Breaches.{is_header}
 use Rattle.h5_model.specs.Format.Superblock.{leaf_k}
 use Rattle.h5_model.specs.declared.open_fault.Cause.{Cause}
+use Rattle.h5_attr.specs.Attributes.{HasNamesOnce}
 use Rattle.h5_header.specs.Heads.{is_read}
+use Rattle.h5_header.specs.Kinds.{IsOfGroup, IsOfDataset}
 use Rattle.h5_header.specs.Listed.{Listed, messages_in, IsWithin}
 use Rattle.h5_group.specs.Told.{symbol_nodes_told}
 use Rattle.h5_header.specs.Walk.Walked.{IsWalked}
 use Rattle.h5_header.specs.Walk.Met.{IsMet, IsHeaderMet}
 use Rattle.h5_open.specs.declared.opened.object.OpenedObject.{OpenedObject}
+use Rattle.h5_open.specs.Opened.Judged.{IsFirstBreach, array_breach, group_breach}
 use Rattle.h5_open.specs.Opened.Kept.{IsObjectKept}
 use Rattle.h5_open.specs.Opened.Refused.{IsOpenRefusedAt}
 use Rattle.h5_open.specs.Opened.Objects.{content_links, object_blocks}
@@ -84,6 +87,15 @@ FollowsObject image old now header depth o = (followed : List Named) (field : �
 abbrev pub IsObjectFault : List ℕ → List Block → ℕ → ℕ → Cause → ℕ → Type 0
 IsObjectFault image old header depth cause address = (followed : List Named) (field : ℕ)
     → IsHeaderMet image old followed field header depth → IsOpenRefusedAt image cause address
+
+-- what is named comes first of what is wrong with the names of attributes and the bodies; or nothing is wrong with them
+abbrev pub IsFirstIfSome : List Message → Option Cause → Cause → Type 0
+IsFirstIfSome ms bodies cause = IsFirstBreach ms bodies cause ⊎ (HasNamesOnce ms × (bodies ≡ None))
+
+-- so it is where the header has messages of a group, or of an array below the root
+abbrev pub NamesFirst : List Message → ℕ → Cause → Type 0
+NamesFirst ms depth cause = (IsOfGroup ms → IsFirstIfSome ms (group_breach ms) cause)
+    × (1 ≤ depth → IsOfDataset ms → IsFirstIfSome ms (array_breach ms) cause)
 
 -- ---- the same step, when the messages of the header are read
 

@@ -1,13 +1,13 @@
 //! What the messages of an object's header have to be.
 
-ghost use Rattle.std.specs.Prelude.{◌≡◌, ◌≤◌, Ok, IfOk, IfErr, OnOk, MatchBool, length};
+ghost use Rattle.std.specs.Prelude.{◌≡◌, ◌≤◌, ◌↔◌, None, Ok, IfOk, IfErr, OnOk, MatchBool, MatchResult, length};
 ghost use Rattle.h5_attr.specs.Attributes.{HasNamesOnce};
 ghost use Rattle.h5_header.specs.Kinds.{IsOfGroup, IsOfDataset};
 ghost use Rattle.h5_header.specs.Listed.{messages_in, IsWithin};
 ghost use Rattle.h5_layout.specs.Told.{array_told};
 ghost use Rattle.h5_model.specs.Format.MessageTypes.{symbol_table_kind};
 ghost use Rattle.h5_model.specs.Format.Messages.{count_of};
-ghost use Rattle.h5_open.specs.Opened.Judged.{IsGroupList, IsArrayList, IsKindBreach, IsBodiesBreach};
+ghost use Rattle.h5_open.specs.Opened.Judged.{IsGroupList, IsArrayList, IsKindBreach, IsBodiesBreach, IsFirstBreach, array_breach, group_breach};
 
 use h5_attr::{check_bodies, check_names};
 use h5_group::{SymbolTable, read_symbol_table};
@@ -28,11 +28,10 @@ pub(crate) fn judge_kind(
     depth: u8,
 ) -> Result<ObjectKind, OpenFault>
     requires { IsWithin (length image.now.bytes) messages.now.list }
-    ensures group { result ≡ Ok ObjectKind.Group
-        → IsOfGroup (messages_in image.now.bytes messages.now.list) }
-    ensures dataset { result ≡ Ok ObjectKind.Dataset
-        → IsOfDataset (messages_in image.now.bytes messages.now.list) }
-    ensures inner { result ≡ Ok ObjectKind.Dataset → 1 ≤ depth }
+    ensures group { (result ≡ Ok ObjectKind.Group)
+        ↔ IsOfGroup (messages_in image.now.bytes messages.now.list) }
+    ensures dataset { (result ≡ Ok ObjectKind.Dataset)
+        ↔ ((1 ≤ depth) × IsOfDataset (messages_in image.now.bytes messages.now.list)) }
     ensures address { IfErr result (λ fault. fault.address ≡ messages.now.header) }
     ensures refused { IfErr result (λ fault.
         IsKindBreach image.now.bytes messages.now.header depth (messages_in image.now.bytes messages.now.list)
@@ -69,6 +68,9 @@ pub(crate) fn judge_group(
     ensures read { IfOk result (λ table. IsGroupList (messages_in image.now.bytes messages.now.list) table) }
     ensures names { OnOk result (HasNamesOnce (messages_in image.now.bytes messages.now.list)) }
     ensures address { IfErr result (λ fault. fault.address ≡ messages.now.header) }
+    ensures first { let ms = messages_in image.now.bytes messages.now.list in
+        MatchResult result (λ table. group_breach ms ≡ None)
+        (λ fault. IsFirstBreach ms (group_breach ms) fault.cause) }
     ensures refused { IfErr result (λ fault.
         IsBodiesBreach image.now.bytes messages.now.header (messages_in image.now.bytes messages.now.list)
         fault.cause) }
@@ -97,6 +99,9 @@ pub(crate) fn judge_array<'a>(
     ensures read { OnOk result (IsArrayList (messages_in image.now.bytes messages.now.list)) }
     ensures names { OnOk result (HasNamesOnce (messages_in image.now.bytes messages.now.list)) }
     ensures address { IfErr result (λ fault. fault.address ≡ messages.now.header) }
+    ensures first { let ms = messages_in image.now.bytes messages.now.list in
+        MatchResult result (λ array. array_breach ms ≡ None)
+        (λ fault. IsFirstBreach ms (array_breach ms) fault.cause) }
     ensures refused { IfErr result (λ fault.
         IsBodiesBreach image.now.bytes messages.now.header (messages_in image.now.bytes messages.now.list)
         fault.cause) }

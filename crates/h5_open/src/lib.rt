@@ -13,6 +13,7 @@ mod steps;
 pub use h5_attr::{AttrRef, get, list, new_body, sorted};
 pub use h5_group::{SymbolTable, entries, lookup};
 pub use h5_layout::{
-    ArrayRef, Dims, Layout, MAX_RANK, Piece, Runs, StoredArray, Values, known_array,
+    ArrayExtent, ArrayRef, Dims, Layout, MAX_RANK, Piece, Runs, StoredArray, Values, known_array,
+    known_extent,
 };
 pub use opened::{ContentBytes, ObjectBytes, Opened, OpenedContent, OpenedObject, StandingCells};

@@ -10,13 +10,15 @@ ghost use Rattle.h5_chunks.specs.Shapes.{AreChunkSizes};
 ghost use Rattle.h5_layout.specs.Data.{AreDataRead, data_blocks};
 ghost use Rattle.h5_header.specs.Kinds.{IsOfGroup, IsOfDataset};
 ghost use Rattle.h5_header.specs.Listed.{messages_in};
+ghost use Rattle.h5_header.specs.Refused.{IsHeaderReadable};
 ghost use Rattle.h5_group.specs.Links.{IsGroupRead, lent_link};
 ghost use Rattle.h5_group.specs.Told.{links_told};
 ghost use Rattle.h5_model.specs.Format.Layout.{InChunks};
 ghost use Rattle.h5_open.specs.Followed.{FollowsData, IsDataFault};
+ghost use Rattle.h5_open.specs.Opened.Judged.{array_breach, group_breach};
 ghost use Rattle.h5_open.specs.Opened.Kept.{IsObjectKept};
 ghost use Rattle.h5_open.specs.Opened.Objects.{content_links as object_links, object_blocks};
-ghost use Rattle.h5_open.specs.Read.{IsHeaderRead, IsObjectRead, FollowsObject, IsObjectFault, IsContentRead, FollowsContent, IsContentFault, IsDeepAt};
+ghost use Rattle.h5_open.specs.Read.{IsHeaderRead, IsObjectRead, FollowsObject, IsFirstIfSome, IsObjectFault, NamesFirst, IsContentRead, FollowsContent, IsContentFault, IsDeepAt};
 
 use crate::judge::{judge_array, judge_group, judge_kind};
 use crate::opened::{OpenedContent, OpenedObject};
@@ -52,6 +54,8 @@ pub(crate) fn read_object(
     ensures end { claims.new.end ≡ claims.old.end }
     ensures followed { IfOk result
         (FollowsObject image.now.bytes claims.old.held claims.new.held header depth) }
+    ensures first { (header_read : IsHeaderReadable image.now.bytes header claims.old.held)
+        → IfErr result (λ fault. NamesFirst header_read.messages depth fault.cause) }
     ensures refused { IfErr result (λ fault.
         IsObjectFault image.now.bytes claims.old.held header depth fault.cause fault.address) }
 {
@@ -81,6 +85,8 @@ fn read_group_object(
     ensures end { claims.new.end ≡ claims.old.end }
     ensures followed { IfOk result
         (FollowsContent image.now.bytes claims.old.held claims.new.held messages depth) }
+    ensures first { let ms = messages_in image.now.bytes messages.list in
+        IfErr result (λ fault. IsFirstIfSome ms (group_breach ms) fault.cause) }
     ensures refused { IfErr result (λ fault.
         IsContentFault image.now.bytes claims.old.held messages depth fault.cause fault.address) }
 {
@@ -112,6 +118,8 @@ fn read_array_object(
     ensures end { claims.new.end ≡ claims.old.end }
     ensures followed { IfOk result (λ o. (depth : ℕ)
         → FollowsContent image.now.bytes claims.old.held claims.new.held messages depth o) }
+    ensures first { let ms = messages_in image.now.bytes messages.list in
+        IfErr result (λ fault. IsFirstIfSome ms (array_breach ms) fault.cause) }
     ensures refused { IfErr result (λ fault. (depth : ℕ)
         → IsContentFault image.now.bytes claims.old.held messages depth fault.cause fault.address) }
 {

@@ -4,7 +4,7 @@ use Rattle.std.specs.FinMap.{get}
 use Rattle.std.specs.Option.{option_and_then}
 use Rattle.h5_model.specs.Tree.Objects.{Tree, Object, Dataset}
 use Rattle.h5_model.specs.Tree.Paths.{object_at, dataset_at}
-use Rattle.h5_model.specs.Edits.Refusal.{first_holding}
+use Rattle.h5_model.specs.Edits.Refusal.{first_holding, is_chunked}
 use Rattle.h5_model.specs.Scripts.Reading.{object_rules, dataset_rules}
 use Rattle.h5_model.specs.Format.Messages.{Message}
 use Rattle.h5_model.specs.Format.Symbols.{Target}
@@ -13,6 +13,7 @@ use Rattle.h5_open.specs.GroupTold.{links_told}
 use Rattle.h5_model.specs.Format.Addresses.{SymbolTable}
 use Rattle.h5_model.specs.declared.link.Link.{Link}
 use Rattle.h5_open.specs.Data.{AreDataRead, dataset_told}
+use Rattle.h5_open.specs.StoredExtent.{StoredExtent, stored_extent}
 use Rattle.h5_open.specs.Opened.Judged.{IsArrayList}
 use Rattle.h5_header.specs.Listed.{Listed, messages_in, IsWithin}
 use Rattle.h5_open.specs.Attributes.{attributes_of}
@@ -41,6 +42,12 @@ pub record IsArrayAt (tree : Tree) (path : List ℕ) (at : ℕ × Dataset) : Typ
   pub accepted : first_holding (dataset_rules tree path) ≡ None
   pub number : object_at tree path ≡ Some at.0
   pub found : dataset_at tree path ≡ Some at.1
+
+-- a dataset of this extent stands there, and has this number
+pub record IsExtentAt (tree : Tree) (path : List ℕ) (at : ℕ × StoredExtent) : Type 0 where
+  pub dataset : Dataset
+  pub there : IsArrayAt tree path (at.0, dataset)
+  pub extent : at.1 ≡ stored_extent dataset.sizes dataset.maxima (is_chunked dataset.storage)
 
 -- the names of a group's links, and of one that was lent
 abbrev pub names_of_group : List ℕ → SymbolTable → List (List ℕ)

@@ -18,6 +18,7 @@ pub use Rattle.h5_open.specs.ChangedInPlace
 pub use Rattle.h5_open.specs.declared.opened.object.OpenedContent as OpenedContentType
 pub use Rattle.h5_open.specs.declared.opened.write.StandingCells as StandingCellsType
 pub use Rattle.h5_open.specs.Stored
+pub use Rattle.h5_open.specs.StoredExtent
 pub use Rattle.h5_open.specs.Data
 pub use Rattle.h5_open.specs.Pieces
 pub use Rattle.h5_open.specs.GroupTold

@@ -6,15 +6,18 @@ ghost use Rattle.h5_model.specs.Edits.Refusal.{first_holding};
 ghost use Rattle.h5_model.specs.Scripts.Reading.{dataset_rules};
 ghost use Rattle.h5_model.specs.Tree.Objects.{Dataset, dataset_of};
 ghost use Rattle.h5_query.specs.Data.{AreDataRead};
-ghost use Rattle.h5_query.specs.Kept.{IsArrayAt, IsArrayKept, array_dataset};
+ghost use Rattle.h5_query.specs.Kept.{IsArrayAt, IsArrayKept, IsExtentAt, array_dataset};
 ghost use Rattle.h5_query.specs.Look.{IsNoDataset};
 ghost use Rattle.h5_query.specs.Opened.Sound.{IsSound};
+ghost use Rattle.h5_query.specs.Told.{array_told};
 ghost use Rattle.h5_query.specs.Written.{IsArrayThere};
 
 use crate::place::{Place, look};
 use h5_header::Messages;
 use h5_model::{EditFault, ObjectNo};
-use h5_open::{ArrayRef, Opened, OpenedContent, StoredArray, known_array};
+use h5_open::{
+    ArrayExtent, ArrayRef, Opened, OpenedContent, StoredArray, known_array, known_extent,
+};
 use h5_space::Image;
 use std::alloc::Global;
 
@@ -59,6 +62,24 @@ pub fn array_number(opened: &Opened, path: &[u8]) -> Result<u32, EditFault>
     }
 }
 
+/// How large the array at the path is and may become and whether it is in chunks, with its number. Nothing else of its
+/// header is read. Takes no memory.
+///
+/// # Errors
+///
+/// Those of [`array_at`].
+pub fn extent_at<'a>(opened: &'a Opened, path: &[u8]) -> Result<(u32, ArrayExtent<'a>), EditFault>
+    ensures there { let tree = opened.now.tree in
+        MatchResult result (IsExtentAt tree path.now) (λ e.
+        first_holding (dataset_rules tree path.now) ≡ Some e) }
+    ensures sound { IsSound opened.now }
+{
+    let image = opened.image();
+    let number = array_number(opened, path)?;
+    let extent = known_extent(image, array_messages(opened, number));
+    Ok((number, extent))
+}
+
 /// The array with this number, as its header describes it. Its data stand in the image. Takes no memory.
 ///
 /// That an array has the number is the caller's condition.
@@ -67,8 +88,20 @@ pub fn described_of<'a>(alloc: Global, opened: &'a Opened, number: u32) -> Array
     ensures there { IsArrayThere opened.now number result }
     ensures stored { AreDataRead opened.now.image result.fixed result.layout }
 {
-    let object = opened.object(number).unwrap();
-    known_array(alloc, opened.image(), &object.messages)
+    known_array(alloc, opened.image(), array_messages(opened, number))
+}
+
+/// The messages of the array with this number.
+///
+/// That an array has the number is the caller's condition.
+fn array_messages(opened: &Opened, number: u32) -> &Messages
+    requires { (d : Dataset) × dataset_of opened.now.tree number ≡ Some d }
+    ensures kept { IsArrayKept opened.now.image result.now }
+    ensures there { let ms = messages_in opened.now.image result.now.list in
+        IsArrayThere opened.now number (array_told ms) }
+    ensures sound { IsSound opened.now }
+{
+    &opened.object(number).unwrap().messages
 }
 
 /// The array with this number, or `None` where no array has it. Takes no memory.

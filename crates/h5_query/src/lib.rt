@@ -15,15 +15,15 @@ mod place;
 mod selection;
 mod step;
 
-pub use array::{array_at, array_number, array_of, described_of};
+pub use array::{array_at, array_number, array_of, described_of, extent_at};
 pub use attributes::{attributes_at, names_of_attributes, one_attribute};
 pub use cells::one_cell;
 pub use found::{Found, found_at};
 pub use group::{links_of, tree_links};
 pub use h5_open::{
-    ArrayRef, AttrRef, ContentBytes, Dims, Layout, MAX_RANK, ObjectBytes, Opened, OpenedContent,
-    OpenedObject, Piece, Runs, StandingCells, StoredArray, SymbolTable, Values, entries, get,
-    known_array, new_body, sorted,
+    ArrayExtent, ArrayRef, AttrRef, ContentBytes, Dims, Layout, MAX_RANK, ObjectBytes, Opened,
+    OpenedContent, OpenedObject, Piece, Runs, StandingCells, StoredArray, SymbolTable, Values,
+    entries, get, known_array, new_body, sorted,
 };
 pub use h5_shape::{Slab, SlabFault};
 pub use kind::{Kind, StoreKind};

@@ -1,6 +1,8 @@
 -- Why a resize is refused, or that it is not: by its path, the array there, and its sizes.
-use Rattle.std.proofs.Common.{◌≡◌, ◌≢◌, ℕ, ◌^◌, List, [], ◌∷◌, ◌++◌, length, refl, sym, ap, ◌∙◌, Bool, true, false, not, Option, Some, None, nat_le, nat_lt, arith}
+use Rattle.std.proofs.Common.{◌≡◌, ◌≢◌, ℕ, ◌+◌, ◌-◌, ◌^◌, ◌≤◌, ◌||◌, List, [], ◌∷◌, ◌++◌, drop, get_or, length, slice_get, take, take_all, refl, sym, ap, ◌∙◌, Bool, true, false, not, Option, Some, None, nat_le, nat_lt, arith}
 use Rattle.std.proofs.lemmas.Bool.Decides.{nat_tests}
+use Rattle.std.proofs.lemmas.List.{drop_more}
+use Rattle.std.proofs.lemmas.Option.{get_or_from_slice_get, slice_get_within}
 use Rattle.std.specs.Prelude.{◌==◌, if◌then◌else◌}
 use Rattle.std.specs.Option.{option_map_or}
 use Rattle.h5_layout.specs.Described.{Described}
@@ -32,6 +34,18 @@ many_of dims sizes small same is =
       by_test : (b : Bool) → b ≡ nat_le (extent_cells dims) (2 ^ 40) → nat_lt (2 ^ 40) (extent_cells dims) ≡ not b
       by_test true told = grind (arith, nat_tests)
       by_test false told = grind (arith, nat_tests)
+
+-- the maxima from a dimension on are its maximum and those behind it
+maxima_from : (k : ℕ) (ms : List (Option ℕ)) (m : Option ℕ) → slice_get ms k ≡ Some m → drop k ms ≡ m ∷ drop (k + 1) ms
+maxima_from k ms m is = drop_more ms k m (slice_get_within ms k m is) ∙ ap (λ x. x ∷ drop (k + 1) ms) (get_or_from_slice_get ms k m m is)
+
+-- the first of some sizes is above its maximum, or one of the others is
+pub above_step : (sizes : List ℕ) (k : ℕ) (ms : List (Option ℕ)) (m : Option ℕ) → 1 ≤ length sizes → slice_get ms k ≡ Some m
+    → some_above sizes (drop k ms) ≡ (option_map_or (λ n. nat_lt n (get_or sizes 0 0)) m false || some_above (take (length sizes - 1) (drop 1 sizes)) (drop (k + 1) ms))
+above_step [] k ms m some is = absurd (omega (arith, some))
+above_step (d ∷ ds) k ms m some is =
+    ap (some_above (d ∷ ds)) (maxima_from k ms m is)
+    ∙ ap (λ (xs : List ℕ). option_map_or (λ n. nat_lt n d) m false || some_above xs (drop (k + 1) ms)) (sym (take_all (length (d ∷ ds) - 1) ds (omega arith)))
 
 module _ (tree : Tree) (next : ℕ) (path dims : List ℕ) where
   -- the rules behind those of the path, as the table asks them

@@ -1,15 +1,14 @@
 //! Arrays that are to get other sizes (File Format Specification 3.0, sections IV.A.2.b and IV.A.2.i).
 
-ghost use Rattle.std.specs.Prelude.{◌≡◌, false, nat_lt, MatchResult};
+ghost use Rattle.std.specs.Prelude.{◌≡◌, ◌+◌, ◌≤◌, drop, false, length, nat_lt, MatchResult};
 ghost use Rattle.std.specs.Option.{option_map_or};
 ghost use Rattle.h5_model.specs.declared.edits.Edit.TheVariants.{Resize};
 ghost use Rattle.h5_model.specs.Edits.Refusal as rule;
-ghost use Rattle.h5_model.specs.Format.Reads.{storage_of};
 ghost use Rattle.h5_query.specs.Opened.Sound.{IsSound};
 ghost use Rattle.h5_edit.specs.Refusals.Allowed.{IsResizeAt, IsRuledOut};
 
 use h5_model::EditFault;
-use h5_query::{ArrayRef, Dims, Layout, MAX_RANK, Opened, array_at};
+use h5_query::{ArrayExtent, Dims, Opened, extent_at};
 use std::alloc::Global;
 
 /// The number of the array that is to have these sizes.
@@ -29,15 +28,14 @@ pub(crate) fn check_resize(
         (IsRuledOut tree next (Resize path.now dims.now)) }
     ensures sound { IsSound opened.now }
 {
-    let (number, stored) = array_at(alloc, opened, path)?;
-    let array = stored.array();
-    if dims.len() != array.dims().sizes().len() {
+    let (number, extent) = extent_at(opened, path)?;
+    if dims.len() != extent.rank() {
         return Err(EditFault::RankMismatch);
     }
-    if !is_chunked(array) {
+    if !extent.is_chunked() {
         return Err(EditFault::NotChunked);
     }
-    if is_above(array, dims) {
+    if is_above(&extent, 0, dims) {
         return Err(EditFault::AboveMaximum);
     }
     if !Dims::new(alloc, dims).unwrap().is_small() {
@@ -46,35 +44,16 @@ pub(crate) fn check_resize(
     Ok(number)
 }
 
-/// Whether the cells are in chunks.
-fn is_chunked(array: &ArrayRef<'_>) -> bool
-    ensures { result ≡ rule.is_chunked (storage_of array.now.sizes array.now.layout) }
-{
-    match array.layout() {
-        Layout::Chunked { .. } => true,
-        Layout::Compact(_) | Layout::Contiguous(_) => false,
-    }
-}
-
-/// Whether a size is above its maximum.
-fn is_above(array: &ArrayRef<'_>, sizes: &[u64]) -> bool
-    ensures { result ≡ rule.some_above sizes.now array.now.maxima }
-{
-    let mut room = [None; MAX_RANK];
-    some_above(sizes, array.maxima(&mut room))
-}
-
-/// Whether a size is above its maximum, of sizes and maxima that go together.
-fn some_above(sizes: &[u64], maxima: &[Option<u64>]) -> bool
-    ensures { result ≡ rule.some_above sizes.now maxima.now }
+/// Whether a size is above its maximum, of the sizes from dimension `k` on.
+fn is_above(extent: &ArrayExtent<'_>, k: usize, sizes: &[u64]) -> bool
+    requires ranked { length extent.now.sizes ≡ k + length sizes.now }
+    requires few { length extent.now.sizes ≤ 32 }
+    ensures { result ≡ rule.some_above sizes.now (drop k extent.now.maxima) }
 {
     let [size, sizes @ ..] = sizes else {
         return false;
     };
-    let [maximum, maxima @ ..] = maxima else {
-        return false;
-    };
-    is_size_above(*size, *maximum) || some_above(sizes, maxima)
+    is_size_above(*size, extent.maximum(k)) || is_above(extent, k + 1, sizes)
 }
 
 /// Whether the size is above the maximum, where there is one.

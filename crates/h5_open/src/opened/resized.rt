@@ -22,7 +22,7 @@ use super::end::write_end;
 use super::{Opened, OpenedObject};
 use h5_header::{AddFault, Messages};
 use h5_layout::{
-    MAX_RANK, Outside, copy_smaller, known_array, lacks_maxima, outside_of, resize_array,
+    MAX_RANK, Outside, copy_smaller, lacks_maxima, outside_of, resize_array, sizes_of,
 };
 use h5_space::{Image, MAXIMUM_IMAGE};
 use std::alloc::{AllocError, Global};
@@ -172,8 +172,8 @@ fn look_outside(
     ensures { IfOk result (λ outside.
         IsLookedAt image.now.bytes (described_in image.now.bytes messages.now) sizes.now outside) }
 {
-    let array = known_array(alloc, image, messages);
-    let old = array.dims().sizes();
+    let mut sizes_room = [0; MAX_RANK];
+    let old = sizes_of(image, messages, &mut sizes_room);
     let mut room = [0; MAX_RANK];
     let smaller = &mut room[..old.len()];
     copy_smaller(old, sizes, smaller);

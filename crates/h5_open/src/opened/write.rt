@@ -1,24 +1,20 @@
 //! Cells written where they stand (File Format Specification 3.0, section IV.A.2.i).
 
-ghost use Rattle.std.specs.Prelude.{◌≡◌, ℕ, ◌+◌, ◌<◌, ◌≤◌, ◌∷◌, [], true, length, take};
+ghost use Rattle.std.specs.Prelude.{◌≡◌, ℕ, ◌<◌, ◌∷◌, [], length};
 ghost use Rattle.h5_model.specs.Edits.Applied.{with_dataset};
 ghost use Rattle.h5_model.specs.Format.Superblock.{leaf_k, internal_k};
 ghost use Rattle.h5_model.specs.Tree.Objects.{Dataset, with_object};
-ghost use Rattle.h5_model.specs.Tree.Places.{cells};
-ghost use Rattle.h5_header.specs.Listed.{messages_in, IsWithin};
-ghost use Rattle.h5_layout.specs.Data.{AreDataRead};
 ghost use Rattle.h5_layout.specs.Described.{Described};
-ghost use Rattle.h5_layout.specs.Compact.{IsRunAt};
-ghost use Rattle.h5_layout.specs.Standing.{cell_blocks, is_stored_cell};
-ghost use Rattle.h5_layout.specs.Told.{array_told};
+ghost use Rattle.h5_layout.specs.Standing.{cell_blocks};
 ghost use Rattle.h5_open.specs.ChangedInPlace.{IsChangedInPlace};
-ghost use Rattle.h5_open.specs.Opened.Judged.{IsArrayList};
+ghost use Rattle.h5_open.specs.Opened.Kept.{IsOpened};
+ghost use Rattle.h5_open.specs.Opened.State.{opened_state};
 ghost use Rattle.h5_open.specs.Opened.Sound.{IsSound, IsWholeFile};
 ghost use Rattle.h5_open.specs.Written.{AreCellsWritten, AreStanding, IsArrayThere, IsCellStored, IsKeptOutside, IsStoredRun, with_run};
 
 use super::Opened;
-use h5_header::Messages;
-use h5_layout::{Buffer, Layout, StoredRun, compact_place, known_array, stored_from, write_stored};
+use crate::index::Index;
+use h5_layout::{Buffer, CellPlaces, write_stored};
 use h5_model::Fixed;
 use h5_space::Image;
 use std::alloc::Global;
@@ -58,13 +54,7 @@ impl Opened {
         ensures local { (a : Described) (there : IsArrayThere self.old number a)
             → IsKeptOutside self.old.image self.new.image (cell_blocks self.old.image a there.blocks) }
     {
-        // An opened image is sound.
-        let _image = &self.image;
-        let mut done = 0;
-        while done < values.len() {
-            let (_written, left) = values.split_at(done);
-            done += self.write_first(alloc, number, place + done as u64, &left);
-        }
+        write_runs(alloc, &mut self.image, &self.index, number, place, values);
     }
 
     /// Writes values into cells of an array that are known to stand one behind another. No byte changes outside the
@@ -94,65 +84,35 @@ impl Opened {
     {
         write_stored(&mut self.image, &cells.fixed, cells.at, values);
     }
-
-    /// Writes the first of these values, into cells that stand one behind another. Returns how many it wrote.
-    fn write_first(&mut self, alloc: Global, number: u32, place: u64, values: &Buffer<'_>) -> usize
-        requires run { (d : Dataset) × IsStoredRun self.old number place values.now d }
-        requires some { 0 < length values.now }
-        ensures some { 0 < result }
-        ensures few { result ≤ length values.now }
-        ensures written { AreCellsWritten self.old number place (take result values.now) self.new }
-        ensures sound { IsSound self.new }
-    {
-        let object = self.index.objects[number as usize].as_ref().unwrap();
-        let (fixed, run) = standing_from(
-            alloc,
-            &self.image,
-            &object.messages,
-            place,
-            values.len() as u64,
-        );
-        let count = run.cells as usize;
-        let (first, _left) = values.split_at(count);
-        write_stored(&mut self.image, &fixed, run.at, &first);
-        count
-    }
 }
 
-/// The type of an array, and where its cells from a place on stand one behind another, in the header's message, in a block or in a
-/// chunk, with at most so many.
-fn standing_from(
+/// Writes values into the cells of an array of an opened image where they stand, one run after another, from this place on. The array's
+/// header is read once, and what is kept of the objects stays right.
+///
+/// These are the caller's conditions: the index is the image's, and those of `Opened::write_cells`.
+fn write_runs(
     alloc: Global,
-    image: &Image,
-    messages: &Messages,
+    image: &mut Image,
+    index: &Index,
+    number: u32,
     place: u64,
-    most: u64,
-) -> (Fixed, StoredRun)
-    requires within { IsWithin (length image.now.bytes) messages.now.list }
-    requires list { IsArrayList (messages_in image.now.bytes messages.now.list) }
-    requires read { AreDataRead image.now.bytes
-        (array_told (messages_in image.now.bytes messages.now.list)).fixed
-        (array_told (messages_in image.now.bytes messages.now.list)).layout }
-    requires some { 0 < most }
-    requires below { place + most ≤ cells (array_told (messages_in image.now.bytes messages.now.list)).sizes }
-    requires stored { is_stored_cell image.now.bytes
-        (array_told (messages_in image.now.bytes messages.now.list)) place ≡ true }
-    ensures fixed { result.0 ≡ (array_told (messages_in image.now.bytes messages.now.list)).fixed }
-    ensures some { 0 < result.1.cells }
-    ensures few { result.1.cells ≤ most }
-    ensures stand { IsRunAt image.now.bytes messages.now.list
-        (array_told (messages_in image.now.bytes messages.now.list)) place result.1.cells result.1.at }
+    values: &Buffer<'_>,
+)
+    requires opened { IsOpened image.old index.now.objects.items index.now.numbers }
+    requires run { (d : Dataset)
+        × IsStoredRun (opened_state image.old index.now.objects.items) number place values.now d }
+    ensures opened { IsOpened image.new index.now.objects.items index.now.numbers }
+    ensures written { AreCellsWritten (opened_state image.old index.now.objects.items) number place values.now
+        (opened_state image.new index.now.objects.items) }
 {
-    // The image is not longer than memory.
-    let _bytes = image.bytes();
-    let array = known_array(alloc, image, messages);
-    let fixed = array.fixed();
-    if let Layout::Compact(_) = array.layout() {
-        let at = compact_place(image, messages) + place * fixed.size() as u64;
-        return (fixed, StoredRun { at, cells: most });
-    }
-    match stored_from(image, &array, place, most) {
-        Some(run) => (fixed, run),
-        None => unreachable!(),
+    let object = index.objects[number as usize].as_ref().unwrap();
+    let mut places = CellPlaces::new(alloc, image, &object.messages);
+    let mut done = 0;
+    while done < values.len() {
+        let (_written, left) = values.split_at(done);
+        let run = places.run_at(image, place + done as u64, left.len() as u64);
+        let (first, _behind) = left.split_at(run.cells as usize);
+        write_stored(image, &places.fixed(), run.at, &first);
+        done += run.cells as usize;
     }
 }

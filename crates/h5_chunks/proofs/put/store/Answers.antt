@@ -1,4 +1,4 @@
-use Rattle.std.proofs.Common.{◌≡◌, ℕ, ◌^◌, ◌<◌, [], ◌∷◌, length, ap, ◌∙◌, subst, arith}
+use Rattle.std.proofs.Common.{◌≡◌, ℕ, ◌+◌, ◌^◌, ◌<◌, ◌≤◌, [], ◌∷◌, length, ap, ◌∙◌, subst, arith}
 use Rattle.std.specs.FinMap.{get}
 use Rattle.h5_bytes.specs.Blocks.{block}
 use Rattle.h5_model.specs.Format.Chunks.{Chunks, offsets_in}
@@ -8,7 +8,7 @@ use Rattle.h5_space.specs.Space.{growth}
 use Rattle.h5_space.proofs.MovesLaws.{moves_take, spends_take}
 use Rattle.h5_chunks.proofs.BehindLaws.{length-offsets}
 use Rattle.h5_chunks.proofs.BushyTrees.{bushy_beside}
-use Rattle.h5_chunks.proofs.TakenBlock.{beside_now, full_before, others_stay, stored_now, told_still}
+use Rattle.h5_chunks.proofs.TakenBlock.{beside_now, full_before, others_stay, stored_now, told_still, zero_still}
 use Rattle.h5_chunks.proofs.put.store.Goals as goal
 use Rattle.h5_chunks.proofs.put.store.Goals.{After-take-chunk}
 
@@ -60,3 +60,11 @@ pub returns-clause-kept : goal.returns-clause-kept
 returns-clause-kept c =
     others_stay c.args.image.now c.take-chunk.new.self c.args.shape.now c.args.root c.take-chunk.result c.requires.chunks
     (taken (goal.at.returns-clause-kept c).After-take-chunk) c.put_chunk.new.image (offsets_in (length c.args.shape.now.sizes) c.args.key.now) c.put_chunk.ensures.put
+
+pub returns-clause-zero : goal.returns-clause-zero
+returns-clause-zero c = λ behind.
+    let b = (goal.at.returns-clause-zero c).After-take-chunk in
+    zero_still c.args.image.now c.take-chunk.new.self c.args.shape.now c.args.root c.take-chunk.result c.requires.chunks (taken b)
+    (growth c.shape.inside.bytes c.args.image.now.free) c.take-chunk.ensures.bytes
+    (subst (λ (n : ℕ). c.take-chunk.result + n ≤ length c.take-chunk.new.self.bytes) (bytes_are b) c.take-chunk.ensures.inside) behind
+    c.put_chunk.new.image (offsets_in (length c.args.shape.now.sizes) c.args.key.now) c.put_chunk.ensures.put

@@ -1,8 +1,8 @@
-use Rattle.std.proofs.Common.{rules, ◌≡◌, ◌+◌, ◌*◌, ◌/◌, ◌<◌, ◌≤◌, ℤ, pos, List, length, take, get_or, true, false, ap, sym, ◌∙◌, subst, arith, to_z, of_z}
+use Rattle.std.proofs.Common.{rules, ◌≡◌, ◌*◌, ◌/◌, ◌<◌, pos, length, take, get_or, true, false, ap, sym, ◌∙◌, arith, to_z, of_z}
 use mir.Syntax.{w128}
 use Rattle.std.specs.List.{list_all}
 use Rattle.std.proofs.lemmas.List.{take_all}
-use Rattle.h5_model.specs.Format.Fixed.{IsFixed, fits, value_at}
+use Rattle.h5_model.specs.Format.Fixed.{fits, value_at}
 use Rattle.h5_model.specs.Scripts.Answers.{stored_values}
 use Rattle.h5_model.proofs.PlainValues.{size-low}
 use Rattle.h5_model.proofs.StoredValues.{index-stored, length-stored}

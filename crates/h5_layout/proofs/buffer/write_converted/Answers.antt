@@ -1,4 +1,4 @@
-use Rattle.std.proofs.Common.{rules, ◌≡◌, ◌+◌, ◌-◌, ◌*◌, ◌/◌, ◌^◌, ◌<◌, ◌≤◌, ℕ, ℤ, pos, List, ◌++◌, append-nil, length, take, drop, get_or, true, ◌&&◌, ap, sym, ◌∙◌, arith, to_z, of_z}
+use Rattle.std.proofs.Common.{rules, ◌≡◌, ◌+◌, ◌-◌, ◌*◌, ◌/◌, ◌^◌, ◌<◌, ◌≤◌, ℕ, ℤ, pos, ◌++◌, append-nil, length, take, drop, get_or, true, ◌&&◌, ap, sym, ◌∙◌, arith, to_z, of_z}
 use mir.Syntax.{w128}
 use borrow.Rule.Slice.PartMut.{put_mid}
 use Rattle.h5_model.specs.Format.Fixed.{bytes_of, fits, value_at}

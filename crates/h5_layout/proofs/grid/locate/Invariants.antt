@@ -1,5 +1,6 @@
-use Rattle.std.proofs.Common.{◌≡◌, ◌/◌, ◌≤◌, length, drop}
+use Rattle.std.proofs.Common.{◌≡◌, ◌/◌, ◌<◌, ◌≤◌, length, drop}
 use Rattle.h5_model.specs.Tree.Places.{cells}
+use Rattle.h5_layout.proofs.BesideLaws.{left_of}
 use Rattle.h5_layout.proofs.LocateLaws.{corner_from, inner_from}
 use Rattle.h5_layout.proofs.grid.locate.Given as goal
 
@@ -11,6 +12,8 @@ invariant-loop-k l = record {
   rest : l.rest ≡ l.place / cells (drop l.k l.sizes);
   stride : l.stride ≡ cells (drop l.k l.chunk);
   inner : l.inner ≡ inner_from l.sizes l.chunk l.place l.k;
+  alone : l.k ≡ length l.sizes → l.left ≡ 1;
+  left : l.k < length l.sizes → l.left ≡ left_of l.sizes l.chunk l.place;
   corner : drop l.k l.corner ≡ corner_from l.sizes l.chunk l.place l.k;
 }
 

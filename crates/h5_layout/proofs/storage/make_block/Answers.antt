@@ -1,14 +1,15 @@
-use Rattle.std.proofs.Common.{rules, ◌≡◌, ℕ, ◌+◌, ◌*◌, ◌^◌, ◌≤◌, ℤ, [], ◌∷◌, length, true, inl, inr, to_z, of_z, sym, ap, ◌∙◌, subst, arith}
-use mir.Syntax.{w128}
+use Rattle.std.proofs.Common.{◌≡◌, ℕ, ◌+◌, ◌*◌, ◌^◌, ◌≤◌, List, ℤ, [], ◌∷◌, length, length-append, replicate, true, inl, inr, sym, ap, ◌∙◌, subst, arith}
 use Rattle.std.proofs.Math.Nat.{mul-le-mul_right}
 use Rattle.std.proofs.lemmas.Bool.{cases_lt}
+use Rattle.std.proofs.lemmas.List.{length-replicate}
+use Rattle.h5_bytes.specs.Bytes.{part}
 use Rattle.h5_bytes.specs.Blocks.{block}
 use Rattle.h5_header.specs.Listed.{messages_in}
 use Rattle.h5_model.specs.Format.Fixed.{Fixed, fits}
 use Rattle.h5_model.specs.Tree.Places.{cells}
 use Rattle.h5_model.proofs.PlainValues.{size-high}
-use Rattle.h5_space.specs.Lending.{with_bytes_at}
-use Rattle.h5_space.specs.Space.{Space}
+use Rattle.h5_space.specs.Space.{Space, growth}
+use Rattle.h5_chunks.proofs.TakenBlock.{zero_behind}
 use Rattle.h5_shape.proofs.Products.{cells_le}
 use Rattle.h5_layout.specs.ArrayEdits.{described_in}
 use Rattle.h5_layout.specs.Data.{data_blocks}
@@ -21,7 +22,7 @@ use Rattle.h5_layout.proofs.FilledLaws.{fill_count}
 use Rattle.h5_layout.proofs.NewTreeLaws.{block_place}
 use Rattle.h5_layout.proofs.StorableLaws.{fixed_told}
 use Rattle.h5_layout.proofs.storage.make_block.Goals as goal
-use Rattle.h5_layout.proofs.storage.make_block.Goals.{After-fill_stored}
+use Rattle.h5_layout.proofs.storage.make_block.Goals.{After-fill_taken}
 
 pub overflow_mul-length : goal.overflow_mul-length
 overflow_mul-length c =
@@ -33,13 +34,25 @@ overflow_mul-length c =
     let most = mul-le-mul_right c.size.result count in
     omega (arith, most, low, c.size.ensures.size)
 
+pub fill_taken-requires-clause-zero : goal.fill_taken-requires-clause-zero
+fill_taken-requires-clause-zero c = λ behind.
+    let was : List ℕ = c.reserve.new.self.bytes in
+    let to = c.args.cells.now in
+    let at : ℕ = c.take-at.result in
+    let len : ℕ = to.count * c.size.result in
+    let n : ℕ = growth len c.reserve.new.self.free in
+    let past : length was ≤ at = subst (λ (bs : List ℕ). length bs ≤ at) c.bytes.ensures behind in
+    let long = ap length c.take-at.ensures.bytes ∙ length-append was (replicate n 0) ∙ ap (λ (m : ℕ). length was + m) (length-replicate n 0) in
+    subst (λ (s : ℕ). part at (to.count * s) c.take-at.new.self.bytes ≡ replicate (to.count * s) 0) c.size.ensures.size
+    (ap (part at len) c.take-at.ensures.bytes ∙ zero_behind at len n was past (omega (arith, long, c.take-at.ensures.inside)))
+
 -- once its cells are written
-module _ (c : After-fill_stored) where
+module _ (c : After-fill_taken) where
   abbrev old : Space
   old = c.args.image.now
 
   abbrev now : Space
-  now = c.fill_stored.new.image
+  now = c.fill_taken.new.image
 
   abbrev to : CellsToFill
   to = c.args.cells.now
@@ -56,13 +69,12 @@ module _ (c : After-fill_stored) where
   filled : IsBlockFilled old now at len (cells_of_fill to.fixed to.fill to.count)
   filled =
       let long = fill_count to.fixed to.fill to.count ∙ ap (λ (n : ℕ). to.count * n) (sym c.size.ensures.size) in
-      let passed : to_z w128 (of_z w128 to.fill) ≡ to.fill = search rules in
       block_filled old c.reserve.new.self c.take-at.new.self now _ _ c.in_default.ensures.ok at len c.take-at.ensures.bytes c.take-at.ensures.taken c.take-at.ensures.inside
-      (cells_of_fill to.fixed to.fill to.count) long (c.fill_stored.ensures ∙ ap (λ (v : ℤ). with_bytes_at c.take-at.new.self at (cells_of_fill to.fixed v to.count)) passed)
+      (cells_of_fill to.fixed to.fill to.count) long c.fill_taken.ensures
 
 pub set_block-requires-clause-within : goal.set_block-requires-clause-within
 set_block-requires-clause-within c =
-    let d = (goal.at.set_block-requires-clause-within c).After-fill_stored in
+    let d = (goal.at.set_block-requires-clause-within c).After-fill_taken in
     (header_stands (old d) (now d) c.args.messages.now c.requires.array [] (block (at d) (len d) ∷ []) (ap (data_blocks (old d).bytes (a d).fixed) c.requires.none) (filled d).moves).within
 
 pub set_block-requires-clause-room : goal.set_block-requires-clause-room
@@ -73,7 +85,7 @@ set_block-requires-clause-room c =
 
 pub returns-clause-made : goal.returns-clause-made
 returns-clause-made c =
-    let d = (goal.at.returns-clause-made c).After-fill_stored in
+    let d = (goal.at.returns-clause-made c).After-fill_taken in
     let f = filled d in
     let few : length (old d).bytes + len d ≤ 2 ^ 31 = elim (cases_lt (2 ^ 31) (length (old d).bytes + len d)) [
       | inl more ↦ absurd (c.in_default.not-Err _ (c.reserve.ensures.full.1 more))
@@ -88,7 +100,7 @@ returns-clause-made c =
 
 pub returns-clause-spends : goal.returns-clause-spends
 returns-clause-spends c =
-    let d = (goal.at.returns-clause-spends c).After-fill_stored in
+    let d = (goal.at.returns-clause-spends c).After-fill_taken in
     let f = filled d in
     let same = block_long (old d) (now d) c.set_block.new.image c.args.messages.now c.requires.array c.requires.none (at d) (len d) f.inside f.moves c.set_block.ensures in
     let size = ap (λ (n : ℕ). (to d).count * n) c.size.ensures.size in

@@ -1,4 +1,4 @@
-use Rattle.std.proofs.Common.{rules, ◌≡◌, ap, sym, ◌∙◌, subst, true}
+use Rattle.std.proofs.Common.{◌≡◌, ap, sym, ◌∙◌, subst, true}
 use Rattle.std.specs.List.{list_all}
 use Rattle.h5_model.specs.Format.Fixed.{fits}
 use Rattle.h5_model.specs.Scripts.Answers.{stored_values}

@@ -1,4 +1,4 @@
-use Rattle.std.proofs.Common.{◌≡◌, ◌/◌, length, ap, sym, ◌∙◌}
+use Rattle.std.proofs.Common.{◌/◌, length, ap, sym, ◌∙◌}
 use Rattle.h5_model.proofs.StoredValues.{length-stored}
 use Rattle.h5_layout.specs.Buffers.{values_lent}
 use Rattle.h5_layout.proofs.buffer.Buffer.len.Goals as goal

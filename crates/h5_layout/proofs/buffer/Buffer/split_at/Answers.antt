@@ -1,4 +1,4 @@
-use Rattle.std.proofs.Common.{◌≡◌, ◌*◌, ◌≤◌, List, ℕ, length, take, drop, ap, sym, ◌∙◌, subst, arith}
+use Rattle.std.proofs.Common.{◌≡◌, ◌*◌, take, drop, ap, sym, ◌∙◌, subst, arith}
 use Rattle.h5_model.specs.Scripts.Answers.{stored_values}
 use Rattle.h5_model.proofs.PlainValues.{size-low}
 use Rattle.h5_layout.specs.Buffers.{AreValuesLent, values_lent}

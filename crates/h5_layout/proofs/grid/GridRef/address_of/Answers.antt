@@ -12,6 +12,6 @@ returns-clause-inside c =
     let image = f.image.now.bytes in
     let shape : Shape = record { sizes = f.chunk.now; bytes = f.chunk_bytes } in
     let same = same_shape c.new-shape.result shape.sizes shape.bytes c.new-shape.ensures.sizes c.new-shape.ensures.bytes in
-    subst (λ (g : Grid). IfSome c.chunk_at.result (λ at. at + g.shape.bytes ≤ length g.image)) c.self.view_is
-    (found_inside image shape f.root c.self.invariant.stored c.args.corner.now c.chunk_at.result
-    (c.chunk_at.ensures ∙ ap (λ (s : Shape). get (chunks_told image s f.root) c.args.corner.now) same))
+    subst (λ (g : Grid). IfSome c.chunk_from.result (λ at. at + g.shape.bytes ≤ length g.image)) c.self.view_is
+    (found_inside image shape f.root c.self.invariant.stored c.args.corner.now c.chunk_from.result
+    (c.chunk_from.ensures.found ∙ ap (λ (s : Shape). get (chunks_told image s f.root) c.args.corner.now) same))

@@ -1,16 +1,31 @@
-use Rattle.std.proofs.Common.{◌≡◌, ℕ, List, length, sym, ap, ◌∙◌, subst}
-use Rattle.h5_layout.specs.Described.{Described}
+use Rattle.std.proofs.Common.{◌≡◌, ◌≤◌, ℕ, List, length, sym, ap, ◌∙◌, subst, arith}
+use Rattle.std.proofs.lemmas.List.{length-take-le}
+use Rattle.h5_header.specs.Listed.{Listed, messages_in}
+use Rattle.h5_layout.specs.Described.{Described, HasArray}
 use Rattle.h5_layout.proofs.KeptLaws.{length-smaller}
 use Rattle.h5_layout.specs.ArrayEdits.{described_in}
 use Rattle.h5_layout.specs.Kept.{smaller_sizes}
 use Rattle.h5_layout.specs.Trimmed.{AreOutside}
+use Rattle.h5_open.proofs.ResizedCalls.{few_sizes}
 use Rattle.h5_open.proofs.opened.resized.look_outside.Goals as goal
+
+-- there are as many sizes as a message has
+few : (image : List ℕ) (m : Listed) (ms : HasArray (messages_in image m.list) (described_in image m)) (old : List ℕ) → old ≡ (described_in image m).sizes → length old ≤ 32
+few image m has old same = omega (arith, few_sizes (messages_in image m.list) (described_in image m) has, ap length same)
+
+pub slice_bounds-room-end : goal.slice_bounds-room-end
+slice_bounds-room-end c = few c.args.image.now.bytes c.args.messages.now c.requires.array.array c.sizes_of-old.result.now c.sizes_of-old.ensures
+
+pub slice_bounds-smaller-end : goal.slice_bounds-smaller-end
+slice_bounds-smaller-end c = sym (length-take-le (length c.sizes_of-old.result.now) _ (few c.args.image.now.bytes c.args.messages.now c.requires.array.array c.sizes_of-old.result.now c.sizes_of-old.ensures))
+
+pub copy_smaller-requires-clause-room : goal.copy_smaller-requires-clause-room
+copy_smaller-requires-clause-room c = length-take-le (length c.sizes_of-old.result.now) _ (few c.args.image.now.bytes c.args.messages.now c.requires.array.array c.sizes_of-old.result.now c.sizes_of-old.ensures)
 
 pub outside_of-requires-clause-rank : goal.outside_of-requires-clause-rank
 outside_of-requires-clause-rank c =
-    let old : List ℕ = c.sizes-old.result.now in
-    let same : old ≡ (described_in c.args.image.now.bytes c.args.messages.now).sizes
-    = c.sizes-old.ensures.numbers ∙ c.dims.ensures.sizes ∙ ap (λ (a : Described). a.sizes) c.known_array-array.ensures in
+    let old : List ℕ = c.sizes_of-old.result.now in
+    let same = c.sizes_of-old.ensures in
     let rank : length c.args.sizes.now ≡ length old = c.requires.sizes.ranked ∙ ap length (sym same) in
     ap length c.copy_smaller.ensures ∙ length-smaller old c.args.sizes.now rank ∙ ap length same
 
@@ -19,7 +34,5 @@ returns c =
     let image : List ℕ = c.args.image.now.bytes in
     let a : Described = described_in image c.args.messages.now in
     let sizes : List ℕ = c.args.sizes.now in
-    let same : c.sizes-old.result.now ≡ a.sizes
-    = c.sizes-old.ensures.numbers ∙ c.dims.ensures.sizes ∙ ap (λ (x : Described). x.sizes) c.known_array-array.ensures in
     subst (λ (ns : List ℕ). AreOutside image a ns c.in_ok-outside.outside)
-    (c.copy_smaller.ensures ∙ ap (λ (old : List ℕ). smaller_sizes old sizes) same) (c.in_ok-outside.ensures.lost, c.in_ok-outside.ensures.edge)
+    (c.copy_smaller.ensures ∙ ap (λ (old : List ℕ). smaller_sizes old sizes) c.sizes_of-old.ensures) (c.in_ok-outside.ensures.lost, c.in_ok-outside.ensures.edge)

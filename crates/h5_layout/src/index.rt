@@ -1,0 +1,171 @@
+//! The chunks of an array by its sizes, those of a chunk, and their tree (File Format Specification 3.0, section III.A.1).
+
+ghost use Rattle.std.specs.Prelude.{◌≡◌, ◌+◌, ◌*◌, ◌^◌, ◌<◌, ◌≤◌, IfSome, None, length};
+ghost use Rattle.h5_model.specs.Tree.Places.{cells as cells_of};
+ghost use Rattle.h5_chunks.specs.Shapes.{AreChunkSizes};
+ghost use Rattle.h5_layout.specs.ChunkCells.{AreBeside, chunk_of, place_in_chunk};
+ghost use Rattle.h5_layout.specs.GridKept.{IsGridKept, grid_in};
+
+use crate::grid::{ChunkRow, GridRef, bytes_of, copy_sizes};
+use h5_chunks::ChunkCursor;
+use h5_msg::ChunkSizes;
+use h5_shape::{Dims, MAX_RANK};
+use h5_space::Image;
+use std::marker::Model;
+
+/// Cells of an array that stand one behind another in a row of a chunk.
+#[derive(Clone, Copy, Debug)]
+pub(crate) struct FoundRow {
+    /// The place of the first of them in the array.
+    start: u64,
+    /// How many there are.
+    cells: u64,
+    /// The place of the first of them in the chunk.
+    inner: u64,
+    /// The address of the chunk, where it is stored.
+    at: Option<u64>,
+}
+
+/// An array in chunks: its sizes, those of a chunk, how many bytes a chunk has, the root of the tree, where the last chunk was
+/// found, and the last row of a chunk, which has no cell at first. It borrows nothing, so that it can outlive the array's
+/// description, and the image can be written meanwhile.
+#[derive(Debug, Drop)]
+pub(crate) struct ChunkIndex {
+    root: u64,
+    rank: usize,
+    sizes: [u64; 32],
+    chunk: [u64; 32],
+    chunk_bytes: u64,
+    cursor: ChunkCursor,
+    row: FoundRow,
+    /// Room for the first index of a chunk.
+    corner: [u64; 32],
+}
+
+impl Model for ChunkIndex {
+    ghost use Rattle.std.specs.Prelude.{◌≤◌, take};
+    ghost use Rattle.h5_layout.specs.GridKept.{GridKept};
+
+    ghost Value = { GridKept };
+
+    ghost view = { λ g. record {
+      sizes = take g.rank g.sizes;
+      shape = record { sizes = take g.rank g.chunk; bytes = g.chunk_bytes };
+      root = g.root;
+      cursor = g.cursor;
+      row = g.row;
+    } };
+
+    ghost invariant = { λ g. g.rank ≤ 32 };
+}
+
+impl ChunkIndex {
+    /// An array of these sizes and chunk sizes, with cells of so many bytes, whose chunks stand below this root.
+    pub(crate) fn new(dims: &Dims, chunk_sizes: &ChunkSizes<'_>, size: u64, root: u64) -> Self
+        requires rank { length chunk_sizes.now ≡ length dims.now }
+        requires cell { 1 ≤ size }
+        requires small { cells_of chunk_sizes.now * size ≤ 2 ^ 30 }
+        ensures exact { result ≡ record {
+          sizes = dims.now;
+          shape = record { sizes = chunk_sizes.now; bytes = cells_of chunk_sizes.now * size };
+          root = root;
+          cursor = None;
+          row = record { start = 0; cells = 0; inner = 0; at = None };
+        } }
+        ensures sound { AreChunkSizes chunk_sizes.now }
+    {
+        let rank = chunk_sizes.rank();
+        let mut sizes = [0; MAX_RANK];
+        sizes[..rank].copy_from_slice(dims.sizes());
+        let mut chunk = [0; MAX_RANK];
+        copy_sizes(chunk_sizes, &mut chunk[..rank]);
+        let chunk_bytes = bytes_of(&chunk[..rank], size);
+        ChunkIndex {
+            root,
+            rank,
+            sizes,
+            chunk,
+            chunk_bytes,
+            cursor: ChunkCursor::new(),
+            row: FoundRow {
+                start: 0,
+                cells: 0,
+                inner: 0,
+                at: None,
+            },
+            corner: [0; MAX_RANK],
+        }
+    }
+
+    /// How many bytes a chunk has.
+    pub(crate) fn chunk_bytes(&self) -> u64
+        ensures { result ≡ self.now.shape.bytes }
+    {
+        self.chunk_bytes
+    }
+
+    /// The cells from this place on that stand one behind the other in a row of a chunk. Where they are among those that
+    /// were found last, nothing is sought.
+    pub(crate) fn row_at(&mut self, image: &Image, place: u64) -> ChunkRow
+        requires kept { IsGridKept image.now.bytes self.old }
+        requires below { place < cells_of self.old.sizes }
+        ensures same { self.new ≡ record self.old { cursor = self.new.cursor; row = self.new.row } }
+        ensures kept { IsGridKept image.now.bytes self.new }
+        ensures some { 0 < result.cells }
+        ensures beside { AreBeside self.old.sizes self.old.shape.sizes place result.cells }
+        ensures place { result.place ≡ place_in_chunk (grid_in image.now.bytes self.old) place }
+        ensures room { result.place + result.cells ≤ cells_of self.old.shape.sizes }
+        ensures at { result.at ≡ chunk_of (grid_in image.now.bytes self.old) place }
+        ensures inside { IfSome result.at (λ at. at + self.old.shape.bytes ≤ length image.now.bytes) }
+    {
+        self.seek(image, place);
+        let on = place - self.row.start;
+        ChunkRow {
+            at: self.row.at,
+            place: self.row.inner + on,
+            cells: self.row.cells - on,
+        }
+    }
+
+    /// Makes the row that was found last one that has this place.
+    fn seek(&mut self, image: &Image, place: u64)
+        requires kept { IsGridKept image.now.bytes self.old }
+        requires below { place < cells_of self.old.sizes }
+        ensures same { self.new ≡ record self.old { cursor = self.new.cursor; row = self.new.row } }
+        ensures kept { IsGridKept image.now.bytes self.new }
+        ensures since { self.new.row.start ≤ place }
+        ensures until { place < self.new.row.start + self.new.row.cells }
+    {
+        let row = &self.row;
+        if row.start <= place && place - row.start < row.cells {
+            return;
+        }
+        self.find_row(image, place);
+    }
+
+    /// Finds the cells from this place on that stand one behind the other in a row of a chunk.
+    fn find_row(&mut self, image: &Image, place: u64)
+        requires kept { IsGridKept image.now.bytes self.old }
+        requires below { place < cells_of self.old.sizes }
+        ensures same { self.new ≡ record self.old { cursor = self.new.cursor; row = self.new.row } }
+        ensures kept { IsGridKept image.now.bytes self.new }
+        ensures start { self.new.row.start ≡ place }
+        ensures some { 0 < self.new.row.cells }
+    {
+        let grid = GridRef::lent(
+            image,
+            &self.sizes[..self.rank],
+            &self.chunk[..self.rank],
+            self.chunk_bytes,
+            self.root,
+        );
+        let corner = &mut self.corner[..];
+        let row = grid.row_at(&mut self.cursor, &mut corner[..self.rank], place);
+        self.row = FoundRow {
+            start: place,
+            cells: row.cells,
+            inner: row.place,
+            at: row.at,
+        };
+    }
+}
