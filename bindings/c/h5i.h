@@ -149,7 +149,8 @@ h5i_status h5i_run(h5i_session *session, LIBH5I_BYTES(script));
 /* How many bytes the session's text has; 0 of a closed session. */
 size_t h5i_text_length(h5i_session *session);
 
-/* Copies the session's text to `room`, which has just h5i_text_length bytes; else LIBH5I_WRONG_ROOM. */
+/* Copies the session's text to `room`, which has just h5i_text_length bytes; else LIBH5I_WRONG_ROOM. The text is that of the last script, list
+ * or soft link; h5i_list, h5i_attributes and h5i_link_text leave it as it was where they are refused, for want of memory too. */
 h5i_status h5i_text(h5i_session *session, uint8_t *room, size_t room_length);
 
 /* ---- asking */
@@ -208,7 +209,7 @@ h5i_status h5i_set_attribute(h5i_session *session, LIBH5I_BYTES(path), LIBH5I_BY
 h5i_status h5i_remove_attribute(h5i_session *session, LIBH5I_BYTES(path), LIBH5I_BYTES(name));
 
 /* Writes values into the selected cells of the array at the path, in row-major order. They are values of `type`, which need not be the
- * array's; LIBH5I_VALUE_RANGE where one is no value of that. While the call runs, each value takes 16 bytes more. */
+ * array's; LIBH5I_VALUE_RANGE where one is no value of that. They are read where they stand. */
 h5i_status h5i_write(h5i_session *session, LIBH5I_BYTES(path), LIBH5I_SLAB, h5i_type type, LIBH5I_BYTES(values));
 
 /* Gives an array in chunks other sizes, one for each dimension. */

@@ -25,29 +25,29 @@ module _ (before after : Held) (path : List ℕ) (kept : after.session ≡ befor
     }
 
     -- memory was refused for the text of names that were found
-    pub links_short : (names : List (List ℕ)) → HasLinksNamed file.tree path names → HasListed before path after 31
-    links_short names named = record {
+    pub links_short : (names : List (List ℕ)) → HasLinksNamed file.tree path names → after.text ≡ before.text → HasListed before path after 31
+    links_short names named text = record {
       session = kept;
-      listed = record { answer = Err NoMemory; status_is = refl; says = subst (λ (f : FileState). IsListRefused f.tree path NoMemory) same named.accepted };
+      listed = record { answer = Err NoMemory; status_is = refl; says = (subst (λ (f : FileState). IsListRefused f.tree path NoMemory) same named.accepted, text) };
     }
 
-    pub attributes_short : (names : List (List ℕ)) → HasAttributeNames file.tree path names → HasAttributesListed before path after 31
-    attributes_short names named = record {
+    pub attributes_short : (names : List (List ℕ)) → HasAttributeNames file.tree path names → after.text ≡ before.text → HasAttributesListed before path after 31
+    attributes_short names named text = record {
       session = kept;
-      listed = record { answer = Err NoMemory; status_is = refl; says = subst (λ (f : FileState). IsUnlisted f.tree path NoMemory) same named.accepted };
+      listed = record { answer = Err NoMemory; status_is = refl; says = (subst (λ (f : FileState). IsUnlisted f.tree path NoMemory) same named.accepted, text) };
     }
 
     -- it is refused
-    pub links_refused : (e : EditFault) (status : ℕ) → IsListRefused file.tree path e → status ≡ fault_number e → HasListed before path after status
-    links_refused e status refused number = record {
+    pub links_refused : (e : EditFault) (status : ℕ) → IsListRefused file.tree path e → status ≡ fault_number e → after.text ≡ before.text → HasListed before path after status
+    links_refused e status refused number text = record {
       session = kept;
-      listed = record { answer = Err e; status_is = number; says = subst (λ (f : FileState). IsListRefused f.tree path e) same refused };
+      listed = record { answer = Err e; status_is = number; says = (subst (λ (f : FileState). IsListRefused f.tree path e) same refused, text) };
     }
 
-    pub attributes_refused : (e : EditFault) (status : ℕ) → IsUnlisted file.tree path e → status ≡ fault_number e → HasAttributesListed before path after status
-    attributes_refused e status refused number = record {
+    pub attributes_refused : (e : EditFault) (status : ℕ) → IsUnlisted file.tree path e → status ≡ fault_number e → after.text ≡ before.text → HasAttributesListed before path after status
+    attributes_refused e status refused number text = record {
       session = kept;
-      listed = record { answer = Err e; status_is = number; says = subst (λ (f : FileState). IsUnlisted f.tree path e) same refused };
+      listed = record { answer = Err e; status_is = number; says = (subst (λ (f : FileState). IsUnlisted f.tree path e) same refused, text) };
     }
 
 -- ---- numbers

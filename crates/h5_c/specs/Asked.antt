@@ -1,5 +1,5 @@
 -- What calls tell that ask.
-use Rattle.std.specs.Prelude.{◌≡◌, ◌++◌, ◌⊎◌, ℕ, ℤ, Bool, true, Option, Some, Result, Ok, Err, List, [], ◌∷◌, length, take, map, flat_map}
+use Rattle.std.specs.Prelude.{◌≡◌, ◌++◌, ◌⊎◌, ℕ, ℤ, true, Some, List, [], ◌∷◌, length, take, flat_map}
 use Rattle.h5_file.specs.Look.{HasKind, HasLinksNamed, HasAttribute, HasAttributeNames, IsListRefused, IsUnlisted}
 use Rattle.h5_query.specs.Place.{IsNumber, IsNoObject}
 use Rattle.h5_model.specs.Edits.EditFaults.{fault_number}
@@ -9,7 +9,6 @@ use Rattle.h5_model.specs.Format.Plain.{cells_bytes}
 use Rattle.h5_model.specs.Scripts.Reading.{attribute_rules, path_rules}
 use Rattle.h5_model.specs.Tree.Objects.{Tree, Attribute}
 use Rattle.h5_model.specs.declared.edit_fault.EditFault.{EditFault}
-use Rattle.h5_model.specs.declared.edit_fault.EditFault.TheVariants as fault
 use Rattle.h5_query.specs.declared.kind.Kind.{Kind}
 use Rattle.h5_query.specs.declared.kind.Kind.TheVariants as kind
 use Rattle.h5_query.specs.declared.kind.StoreKind.{StoreKind}
@@ -63,26 +62,26 @@ HasTold tree path old new = HasStatus fault_number (λ k. HasKind tree path k ×
 abbrev pub HasNumber : Tree → List ℕ → ℕ → ℕ → ℕ → Type 0
 HasNumber tree path old new = HasStatus fault_number (λ (n : ℕ). IsNumber tree path n × (new ≡ n)) (λ e. IsNoObject tree path e × (new ≡ old))
 
--- the text is the names; a refusal leaves the session as it was
+-- the text is the names; a refusal leaves the session and its text as they were
 pub record HasListed (before : Held) (path : List ℕ) (after : Held) (status : ℕ) : Type 0 where
   pub session : after.session ≡ before.session
   pub listed : HasStatus fault_number (λ (names : List (List ℕ)). HasLinksNamed before.session.file.tree path names × (after.text.items ≡ ended names))
-      (IsListRefused before.session.file.tree path) status
+      (λ e. IsListRefused before.session.file.tree path e × (after.text ≡ before.text)) status
 
 pub record HasAttributesListed (before : Held) (path : List ℕ) (after : Held) (status : ℕ) : Type 0 where
   pub session : after.session ≡ before.session
   pub listed : HasStatus fault_number (λ (names : List (List ℕ)). HasAttributeNames before.session.file.tree path names × (after.text.items ≡ ended names))
-      (IsUnlisted before.session.file.tree path) status
+      (λ e. IsUnlisted before.session.file.tree path e × (after.text ≡ before.text)) status
 
--- the text of a soft link is told, or memory was refused for it; anything else is none
-abbrev pub IsLinkText : Kind → List ℕ → ℕ → Type 0
-IsLinkText (kind.Soft text) told status = ((status ≡ 0) × (told ≡ text.now)) ⊎ (status ≡ 31)
-IsLinkText _ told status = status ≡ 104
+-- the text of a soft link is told, or memory was refused for it; anything else is none. A refusal leaves the text as it was
+abbrev pub IsLinkText : Kind → Held → Held → ℕ → Type 0
+IsLinkText (kind.Soft text) before after status = ((status ≡ 0) × (after.text.items ≡ text.now)) ⊎ ((status ≡ 31) × (after.text ≡ before.text))
+IsLinkText _ before after status = (status ≡ 104) × (after.text ≡ before.text)
 
 pub record HasLinkText (before : Held) (path : List ℕ) (after : Held) (status : ℕ) : Type 0 where
   pub session : after.session ≡ before.session
-  pub told : ((k : Kind) × HasKind before.session.file.tree path k × IsLinkText k after.text.items status)
-      ⊎ ((e : EditFault) × (status ≡ fault_number e) × (first_holding (path_rules before.session.file.tree path) ≡ Some e))
+  pub told : ((k : Kind) × HasKind before.session.file.tree path k × IsLinkText k before after status)
+      ⊎ ((e : EditFault) × (status ≡ fault_number e) × (first_holding (path_rules before.session.file.tree path) ≡ Some e) × (after.text ≡ before.text))
 
 -- the type and the sizes of an attribute
 pub record IsAttributeTold (a : Attribute) (about : About) : Type 0 where

@@ -13,7 +13,6 @@ use Rattle.h5_model.specs.Faults.Breaches.{cut}
 use Rattle.h5_model.specs.declared.edit_fault.EditFault.{EditFault}
 use Rattle.h5_model.specs.declared.edit_fault.EditFault.TheVariants as fault
 use Rattle.h5_model.specs.declared.edits.Edit.{Edit}
-use Rattle.h5_model.specs.declared.edits.Edited.{Edited}
 use Rattle.h5_model.specs.declared.open_fault.Cause.TheVariants as cause
 use Rattle.h5_model.specs.declared.open_fault.OpenFault.{OpenFault}
 use Rattle.h5_script.specs.Script.{IsDone, IsStopped}

@@ -1,5 +1,5 @@
 -- Edits as C gives them: paths and lists as they are, values as bytes of a type.
-use Rattle.std.specs.Prelude.{◌≡◌, ◌==◌, ◌%◌, ℕ, Bool, true, false, ℤ, Option, Some, None, Result, Ok, Err, MatchResult, List, [], length, map, if◌then◌else◌}
+use Rattle.std.specs.Prelude.{◌≡◌, ◌==◌, ◌%◌, ℕ, Bool, true, false, Option, Some, None, Result, Err, MatchResult, List, length, map, if◌then◌else◌}
 use Rattle.h5_model.specs.Format.Fixed.{Fixed, value_of}
 use Rattle.h5_model.specs.Scripts.Answers.{stored_values}
 use Rattle.h5_model.specs.declared.attribute.AttrSpec.{AttrSpec}
@@ -32,9 +32,9 @@ is_whole bytes t = length bytes % t.size == 0
 abbrev pub is_one : List ℕ → Fixed → Bool
 is_one bytes t = length bytes == t.size
 
--- this edit was made, or memory was refused
-abbrev pub IsMadeOf : Edit → Result Edit Unmade → Type 0
-IsMadeOf edit made = MatchResult made (λ e. e ≡ edit) (λ u. u ≡ unmade.NoMemory)
+-- this was made, or memory was refused
+abbrev pub IsMadeOf : {A : Type 0} → A → Result A Unmade → Type 0
+IsMadeOf wanted made = MatchResult made (λ a. a ≡ wanted) (λ u. u ≡ unmade.NoMemory)
 
 abbrev pub ByTest : Bool → Type 0 → Type 0 → Type 0
 ByTest true passed failed = passed
@@ -68,12 +68,15 @@ store_of_number n chunks =
 -- there is such a form, and the list of its chunk sizes was made or memory was refused; or there is no such form
 abbrev pub IsStoreMade : Option Store → Result Store Unmade → Type 0
 IsStoreMade None made = made ≡ Err unmade.NoSuchType
-IsStoreMade (Some store) made = MatchResult made (λ s. s ≡ store) (λ u. u ≡ unmade.NoMemory)
+IsStoreMade (Some store) made = IsMadeOf store made
 
--- the edit that creates an array of this type, these sizes and maxima, this storage and this fill
+-- an array of this type, these sizes and maxima, this storage and this fill
+abbrev pub given_array : Fixed → List ℕ → List ℕ → Store → List ℕ → Spec
+given_array t dims maxima store fill = record { fixed = t; dims = dims; maxima = map maximum_of maxima; store = store; fill = value_of t fill }
+
+-- the edit that creates it
 abbrev pub creating : List ℕ → Fixed → List ℕ → List ℕ → Store → List ℕ → Edit
-creating path t dims maxima store fill =
-    CreateDataset path (record { fixed = t; dims = dims; maxima = map maximum_of maxima; store = store; fill = value_of t fill })
+creating path t dims maxima store fill = CreateDataset path (given_array t dims maxima store fill)
 
 abbrev pub IsStorageThere : Option Store → (Store → Type 0) → (Unmade → Type 0) → Type 0
 IsStorageThere None holds refused = refused unmade.NoSuchType

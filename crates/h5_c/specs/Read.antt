@@ -1,5 +1,5 @@
 -- What a read of selected cells answers (HDF5 dataspace reference, H5Sselect_hyperslab).
-use Rattle.std.specs.Prelude.{◌≡◌, ◌⊎◌, ◌*◌, ℕ, Some, None, List, length}
+use Rattle.std.specs.Prelude.{◌≡◌, ◌⊎◌, ℕ, Some, None, List}
 use Rattle.h5_file.specs.Selected.{IsSlabOf}
 use Rattle.h5_model.specs.Edits.EditFaults.{fault_number}
 use Rattle.h5_model.specs.Edits.Refusal.{first_holding}

@@ -99,16 +99,16 @@ fn tell_kind(kind: &Kind<'_>, about: &mut About)
     }
 }
 
-/// The names, each followed by a zero byte, in place of the text.
-fn push_names(names: &[&[u8]], text: &mut Vec<u8>) -> Result<(), AllocError>
-    ensures { IfOk result (λ _. text.new.items ≡ ended (map (λ name. name.now) names.now)) }
+/// The names, each followed by a zero byte.
+fn ended_names(alloc: Global, names: &[&[u8]]) -> Result<Vec<u8>, AllocError>
+    ensures { IfOk result (λ text. text.items ≡ ended (map (λ name. name.now) names.now)) }
 {
-    text.clear();
+    let mut text = Vec::new(alloc);
     for name in names {
         text.extend_from_slice(name)?;
         text.push(0)?;
     }
-    Ok(())
+    Ok(text)
 }
 
 impl Held {
@@ -136,40 +136,46 @@ impl Held {
         }
     }
 
-    fn list(&mut self, path: &[u8]) -> u32
+    fn list(&mut self, alloc: Global, path: &[u8]) -> u32
         ensures { HasListed self.old path.now self.new result }
     {
         match self.session.file().list(path) {
-            Ok(names) => match push_names(&names, &mut self.text) {
-                Ok(()) => DONE,
+            Ok(names) => match ended_names(alloc, &names) {
+                Ok(text) => {
+                    self.text = text;
+                    DONE
+                }
                 Err(_) => NO_MEMORY,
             },
             Err(fault) => fault.number(),
         }
     }
 
-    fn link_text(&mut self, path: &[u8]) -> u32
+    fn link_text(&mut self, alloc: Global, path: &[u8]) -> u32
         ensures { HasLinkText self.old path.now self.new result }
     {
         match self.session.file().kind(path) {
-            Ok(Kind::Soft(text)) => {
-                self.text.clear();
-                match self.text.extend_from_slice(text) {
-                    Ok(()) => DONE,
-                    Err(_) => NO_MEMORY,
+            Ok(Kind::Soft(text)) => match Vec::from_slice(alloc, text) {
+                Ok(text) => {
+                    self.text = text;
+                    DONE
                 }
-            }
+                Err(_) => NO_MEMORY,
+            },
             Ok(_) => NOT_A_SOFT_LINK,
             Err(fault) => fault.number(),
         }
     }
 
-    fn attributes(&mut self, path: &[u8]) -> u32
+    fn attributes(&mut self, alloc: Global, path: &[u8]) -> u32
         ensures { HasAttributesListed self.old path.now self.new result }
     {
         match self.session.file().attrs(path) {
-            Ok(names) => match push_names(&names, &mut self.text) {
-                Ok(()) => DONE,
+            Ok(names) => match ended_names(alloc, &names) {
+                Ok(text) => {
+                    self.text = text;
+                    DONE
+                }
                 Err(_) => NO_MEMORY,
             },
             Err(fault) => fault.number(),
@@ -250,7 +256,8 @@ pub extern "C" fn h5i_number(alloc: Global, slot: &mut Slot, path: &[u8], number
 ///
 /// # Errors
 ///
-/// As [`h5i_stat`]; `NotAGroup` where no group stands there; last, `NO_MEMORY`. No other holds then.
+/// As [`h5i_stat`]; `NotAGroup` where no group stands there; last, `NO_MEMORY`, and no other holds then. The
+/// session and its text stay as they were.
 #[unsafe(no_mangle)]
 pub extern "C" fn h5i_list(alloc: Global, slot: &mut Slot, path: &[u8]) -> u32
     ensures kept { IsKeptOpen slot.old.is_open slot.new.is_open result }
@@ -261,7 +268,7 @@ pub extern "C" fn h5i_list(alloc: Global, slot: &mut Slot, path: &[u8]) -> u32
         return WRONG_STATE;
     }
     let mut held = slot.take(alloc);
-    let status = held.list(path);
+    let status = held.list(alloc, path);
     slot.put(held);
     status
 }
@@ -270,7 +277,8 @@ pub extern "C" fn h5i_list(alloc: Global, slot: &mut Slot, path: &[u8]) -> u32
 ///
 /// # Errors
 ///
-/// As [`h5i_stat`]; `NOT_A_SOFT_LINK` where something else stands there; `NO_MEMORY`.
+/// As [`h5i_stat`]; `NOT_A_SOFT_LINK` where something else stands there; `NO_MEMORY`. The session and its text stay as
+/// they were.
 #[unsafe(no_mangle)]
 pub extern "C" fn h5i_link_text(alloc: Global, slot: &mut Slot, path: &[u8]) -> u32
     ensures kept { IsKeptOpen slot.old.is_open slot.new.is_open result }
@@ -281,7 +289,7 @@ pub extern "C" fn h5i_link_text(alloc: Global, slot: &mut Slot, path: &[u8]) -> 
         return WRONG_STATE;
     }
     let mut held = slot.take(alloc);
-    let status = held.link_text(path);
+    let status = held.link_text(alloc, path);
     slot.put(held);
     status
 }
@@ -291,7 +299,8 @@ pub extern "C" fn h5i_link_text(alloc: Global, slot: &mut Slot, path: &[u8]) -> 
 ///
 /// # Errors
 ///
-/// As [`h5i_stat`]; `NotFound` where a soft link stands there; last, `NO_MEMORY`. No other holds then.
+/// As [`h5i_stat`]; `NotFound` where a soft link stands there; last, `NO_MEMORY`, and no other holds then. The session
+/// and its text stay as they were.
 #[unsafe(no_mangle)]
 pub extern "C" fn h5i_attributes(alloc: Global, slot: &mut Slot, path: &[u8]) -> u32
     ensures kept { IsKeptOpen slot.old.is_open slot.new.is_open result }
@@ -302,7 +311,7 @@ pub extern "C" fn h5i_attributes(alloc: Global, slot: &mut Slot, path: &[u8]) ->
         return WRONG_STATE;
     }
     let mut held = slot.take(alloc);
-    let status = held.attributes(path);
+    let status = held.attributes(alloc, path);
     slot.put(held);
     status
 }

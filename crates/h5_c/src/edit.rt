@@ -1,33 +1,18 @@
 //! Edits of groups, links, arrays and attributes.
 
-ghost use Rattle.std.specs.Prelude.{◌≡◌, IfErr, true};
-ghost use Rattle.h5_model.specs.declared.edits.Edit.{Edit as TheEdit};
+ghost use Rattle.std.specs.Prelude.{◌≡◌, true};
 ghost use Rattle.h5_model.specs.declared.edits.Edit.TheVariants as edits;
 ghost use Rattle.h5_model.specs.Format.Fixed.{fixed_from};
 ghost use Rattle.h5_c.specs.Calls.{HasEdited, HasRepacked, IsKeptOpen, IsRefusedEarly};
-ghost use Rattle.h5_c.specs.Given.{IsArrayMadeWith, IsMadeOf, IsMadeWith, creating, is_whole, number_of, setting, store_of_number};
+ghost use Rattle.h5_c.specs.Given.{IsArrayMadeWith, IsMadeWith, creating, is_whole, number_of, setting, store_of_number};
 
-use crate::given::{
-    CType, NewArray, Unmade, make_array, make_group, make_hard_link, make_soft_link,
-    remove_attribute, resize_array, set_attribute, unlink_at,
-};
+use crate::given::{CType, NewArray, array_spec, attr_spec};
 use crate::held::Held;
 use crate::slot::Slot;
-use crate::status::{DONE, WRONG_STATE};
-use h5_file::Edit;
+use crate::status::{DONE, WRONG_STATE, edit_status};
 use std::alloc::Global;
 
 impl Held {
-    /// Carries an edit out.
-    fn edit(&mut self, edit: &Edit) -> u32
-        ensures { HasEdited self.old edit.now self.new result }
-    {
-        match self.session.edit(edit) {
-            Ok(_edited) => DONE,
-            Err(fault) => fault.number(),
-        }
-    }
-
     /// Writes the image anew.
     fn repack(&mut self) -> u32
         ensures { HasRepacked self.old self.new result }
@@ -39,29 +24,6 @@ impl Held {
     }
 }
 
-impl Slot {
-    /// Carries an edit out, or answers why none was made.
-    pub(crate) fn edit(&mut self, alloc: Global, edit: Result<Edit, Unmade>) -> u32
-        ensures kept { IsKeptOpen self.old.is_open self.new.is_open result }
-        ensures unmade { self.old.is_open ≡ true → IfErr edit (λ u.
-            IsRefusedEarly self.old.held self.new.held (number_of u) result) }
-        ensures edited { self.old.is_open ≡ true → (wanted : TheEdit) → IsMadeOf wanted edit
-            → HasEdited self.old.held wanted self.new.held result }
-    {
-        if !self.is_open() {
-            return WRONG_STATE;
-        }
-        let edit = match edit {
-            Ok(edit) => edit,
-            Err(reason) => return reason.status(),
-        };
-        let mut held = self.take(alloc);
-        let status = held.edit(&edit);
-        self.put(held);
-        status
-    }
-}
-
 /// Creates an empty group at the path. The edits answer `WRONG_STATE` where the slot is closed, `NO_MEMORY` where
 /// memory is refused, and else the number of the rule that refuses them, as h5_file says; a refusal changes nothing.
 #[unsafe(no_mangle)]
@@ -70,7 +32,13 @@ pub extern "C" fn h5i_create_group(alloc: Global, slot: &mut Slot, path: &[u8]) 
     ensures edited { slot.old.is_open ≡ true
         → HasEdited slot.old.held (edits.CreateGroup path.now) slot.new.held result }
 {
-    slot.edit(alloc, make_group(alloc, path))
+    if !slot.is_open() {
+        return WRONG_STATE;
+    }
+    let mut held = slot.take(alloc);
+    let status = edit_status(held.session.create_group(path));
+    slot.put(held);
+    status
 }
 
 /// Gives the array at `target` a second name.
@@ -80,7 +48,13 @@ pub extern "C" fn h5i_hard_link(alloc: Global, slot: &mut Slot, target: &[u8], p
     ensures edited { slot.old.is_open ≡ true
         → HasEdited slot.old.held (edits.HardLink target.now path.now) slot.new.held result }
 {
-    slot.edit(alloc, make_hard_link(alloc, target, path))
+    if !slot.is_open() {
+        return WRONG_STATE;
+    }
+    let mut held = slot.take(alloc);
+    let status = edit_status(held.session.hard_link(target, path));
+    slot.put(held);
+    status
 }
 
 /// Makes a soft link with this text. It is never followed.
@@ -90,7 +64,13 @@ pub extern "C" fn h5i_soft_link(alloc: Global, slot: &mut Slot, text: &[u8], pat
     ensures edited { slot.old.is_open ≡ true
         → HasEdited slot.old.held (edits.SoftLink text.now path.now) slot.new.held result }
 {
-    slot.edit(alloc, make_soft_link(alloc, text, path))
+    if !slot.is_open() {
+        return WRONG_STATE;
+    }
+    let mut held = slot.take(alloc);
+    let status = edit_status(held.session.soft_link(text, path));
+    slot.put(held);
+    status
 }
 
 /// Takes the link at the path away, and what no path reaches then. An array that is linked elsewhere stays.
@@ -100,7 +80,13 @@ pub extern "C" fn h5i_unlink(alloc: Global, slot: &mut Slot, path: &[u8]) -> u32
     ensures edited { slot.old.is_open ≡ true
         → HasEdited slot.old.held (edits.Unlink path.now) slot.new.held result }
 {
-    slot.edit(alloc, unlink_at(alloc, path))
+    if !slot.is_open() {
+        return WRONG_STATE;
+    }
+    let mut held = slot.take(alloc);
+    let status = edit_status(held.session.unlink(path));
+    slot.put(held);
+    status
 }
 
 /// Removes the attribute with this name.
@@ -115,7 +101,13 @@ pub extern "C" fn h5i_remove_attribute(
     ensures edited { slot.old.is_open ≡ true
         → HasEdited slot.old.held (edits.RemoveAttr path.now name.now) slot.new.held result }
 {
-    slot.edit(alloc, remove_attribute(alloc, path, name))
+    if !slot.is_open() {
+        return WRONG_STATE;
+    }
+    let mut held = slot.take(alloc);
+    let status = edit_status(held.session.remove_attr(path, name));
+    slot.put(held);
+    status
 }
 
 /// Gives the array in chunks at the path other sizes, one for each dimension.
@@ -125,7 +117,13 @@ pub extern "C" fn h5i_resize(alloc: Global, slot: &mut Slot, path: &[u8], dims: 
     ensures edited { slot.old.is_open ≡ true
         → HasEdited slot.old.held (edits.Resize path.now dims.now) slot.new.held result }
 {
-    slot.edit(alloc, resize_array(alloc, path, dims))
+    if !slot.is_open() {
+        return WRONG_STATE;
+    }
+    let mut held = slot.take(alloc);
+    let status = edit_status(held.session.resize(path, dims));
+    slot.put(held);
+    status
 }
 
 /// Writes the image anew, without bytes that nothing uses.
@@ -171,6 +169,9 @@ pub extern "C" fn h5i_create_array(
         slot.new.held result)
         (λ u. IsRefusedEarly slot.old.held slot.new.held (number_of u) result) }
 {
+    if !slot.is_open() {
+        return WRONG_STATE;
+    }
     let new = NewArray {
         of,
         dims,
@@ -179,7 +180,14 @@ pub extern "C" fn h5i_create_array(
         chunks,
         fill,
     };
-    slot.edit(alloc, make_array(alloc, path, &new))
+    let spec = match array_spec(alloc, &new) {
+        Ok(spec) => spec,
+        Err(reason) => return reason.status(),
+    };
+    let mut held = slot.take(alloc);
+    let status = edit_status(held.session.create_dataset(path, &spec));
+    slot.put(held);
+    status
 }
 
 /// Sets an attribute of the object at the path: its values are given as bytes of the type, one for each cell of the
@@ -205,5 +213,15 @@ pub extern "C" fn h5i_set_attribute(
         (λ t. HasEdited slot.old.held (setting path.now name.now t dims.now values.now) slot.new.held result)
         (λ u. IsRefusedEarly slot.old.held slot.new.held (number_of u) result) }
 {
-    slot.edit(alloc, set_attribute(alloc, path, name, of, dims, values))
+    if !slot.is_open() {
+        return WRONG_STATE;
+    }
+    let attr = match attr_spec(alloc, name, of, dims, values) {
+        Ok(attr) => attr,
+        Err(reason) => return reason.status(),
+    };
+    let mut held = slot.take(alloc);
+    let status = edit_status(held.session.set_attr(path, &attr));
+    slot.put(held);
+    status
 }

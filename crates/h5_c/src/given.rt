@@ -1,13 +1,12 @@
-//! Edits, made of what C gives.
+//! What edits and selections take, made of what C gives.
 
 ghost use Rattle.std.specs.Prelude.{◌≡◌, IfOk, Ok, Err, map};
-ghost use Rattle.h5_model.specs.declared.edits.Edit.TheVariants as edits;
 ghost use Rattle.h5_model.specs.Format.Fixed.{fixed_from};
 ghost use Rattle.h5_model.specs.Scripts.Answers.{stored_values};
-ghost use Rattle.h5_c.specs.Given.{IsArrayMadeWith, IsMadeOf, IsMadeWith, IsStoreMade, creating, hyper_of, is_whole, maximum_of, number_of, setting, store_of_number};
+ghost use Rattle.h5_c.specs.Given.{IsArrayMadeWith, IsMadeOf, IsMadeWith, IsStoreMade, given_array, given_attribute, hyper_of, is_whole, maximum_of, number_of, store_of_number};
 
 use crate::status::{NO_MEMORY, NO_SUCH_TYPE, WRONG_ROOM};
-use h5_file::{AttrSpec, Buffer, Edit, Fixed, Hyper, Items, Spec, Store};
+use h5_file::{AttrSpec, Buffer, Fixed, Hyper, Items, Spec, Store};
 use h5_types::decode;
 use std::alloc::{AllocError, Global};
 
@@ -20,7 +19,7 @@ pub const CONTIGUOUS: u32 = 2;
 /// In chunks.
 pub const CHUNKED: u32 = 3;
 
-/// Why no edit was made of what C gave.
+/// Why the library is asked for no edit with what C gave.
 #[derive(Clone, Copy, PartialEq, Eq, Debug)]
 pub(crate) enum Unmade {
     /// Memory was refused.
@@ -98,58 +97,6 @@ fn values_of(alloc: Global, fixed: &Fixed, bytes: &[u8]) -> Result<Vec<i128>, Al
     Ok(values)
 }
 
-pub(crate) fn make_group(alloc: Global, path: &[u8]) -> Result<Edit, Unmade>
-    ensures { IsMadeOf (edits.CreateGroup path.now) result }
-{
-    Ok(Edit::CreateGroup {
-        path: Items::from_slice(alloc, path)?,
-    })
-}
-
-pub(crate) fn make_hard_link(alloc: Global, target: &[u8], path: &[u8]) -> Result<Edit, Unmade>
-    ensures { IsMadeOf (edits.HardLink target.now path.now) result }
-{
-    Ok(Edit::HardLink {
-        target: Items::from_slice(alloc, target)?,
-        path: Items::from_slice(alloc, path)?,
-    })
-}
-
-pub(crate) fn make_soft_link(alloc: Global, text: &[u8], path: &[u8]) -> Result<Edit, Unmade>
-    ensures { IsMadeOf (edits.SoftLink text.now path.now) result }
-{
-    Ok(Edit::SoftLink {
-        text: Items::from_slice(alloc, text)?,
-        path: Items::from_slice(alloc, path)?,
-    })
-}
-
-pub(crate) fn unlink_at(alloc: Global, path: &[u8]) -> Result<Edit, Unmade>
-    ensures { IsMadeOf (edits.Unlink path.now) result }
-{
-    Ok(Edit::Unlink {
-        path: Items::from_slice(alloc, path)?,
-    })
-}
-
-pub(crate) fn remove_attribute(alloc: Global, path: &[u8], name: &[u8]) -> Result<Edit, Unmade>
-    ensures { IsMadeOf (edits.RemoveAttr path.now name.now) result }
-{
-    Ok(Edit::RemoveAttr {
-        path: Items::from_slice(alloc, path)?,
-        name: Items::from_slice(alloc, name)?,
-    })
-}
-
-pub(crate) fn resize_array(alloc: Global, path: &[u8], dims: &[u64]) -> Result<Edit, Unmade>
-    ensures { IsMadeOf (edits.Resize path.now dims.now) result }
-{
-    Ok(Edit::Resize {
-        path: Items::from_slice(alloc, path)?,
-        dims: Items::from_slice(alloc, dims)?,
-    })
-}
-
 /// The type that C names, of which the bytes are a whole number of values.
 fn type_of(of: CType, bytes: &[u8]) -> Result<Fixed, Unmade>
     ensures { IsMadeWith (fixed_from of.size of.signed of.big) (is_whole bytes.now) (λ t. result ≡ Ok t)
@@ -178,28 +125,24 @@ pub(crate) fn buffer_of(of: CType, bytes: &[u8]) -> Result<Buffer<'_>, Unmade>
     Ok(buffer)
 }
 
-pub(crate) fn set_attribute(
+/// What an attribute of this name is to be, of values that are given as bytes.
+pub(crate) fn attr_spec(
     alloc: Global,
-    path: &[u8],
     name: &[u8],
     of: CType,
     dims: &[u64],
     bytes: &[u8],
-) -> Result<Edit, Unmade>
+) -> Result<AttrSpec, Unmade>
     ensures { IsMadeWith (fixed_from of.size of.signed of.big) (is_whole bytes.now)
-        (λ t. IsMadeOf (setting path.now name.now t dims.now bytes.now) result)
+        (λ t. IsMadeOf (given_attribute name.now t dims.now bytes.now) result)
         (λ u. result ≡ Err u) }
 {
     let fixed = type_of(of, bytes)?;
-    let attr = AttrSpec {
+    Ok(AttrSpec {
         name: Items::from_slice(alloc, name)?,
         fixed,
         dims: Items::from_slice(alloc, dims)?,
         values: Items::new(values_of(alloc, &fixed, bytes)?),
-    };
-    Ok(Edit::SetAttr {
-        path: Items::from_slice(alloc, path)?,
-        attr,
     })
 }
 
@@ -241,11 +184,12 @@ pub(crate) struct NewArray<'a> {
     pub(crate) fill: &'a [u8],
 }
 
-pub(crate) fn make_array(alloc: Global, path: &[u8], new: &NewArray<'_>) -> Result<Edit, Unmade>
+/// What the array that is created is to be.
+pub(crate) fn array_spec(alloc: Global, new: &NewArray<'_>) -> Result<Spec, Unmade>
     ensures { IsArrayMadeWith (fixed_from new.now.of.size new.now.of.signed new.now.of.big) new.now.fill.now
         (store_of_number new.now.storage new.now.chunks.now)
         (λ t store. IsMadeOf
-        (creating path.now t new.now.dims.now new.now.maxima.now store new.now.fill.now) result)
+        (given_array t new.now.dims.now new.now.maxima.now store new.now.fill.now) result)
         (λ u. result ≡ Err u) }
 {
     let Some(fixed) = Fixed::new(new.of.size, new.of.signed, new.of.big) else {
@@ -255,15 +199,11 @@ pub(crate) fn make_array(alloc: Global, path: &[u8], new: &NewArray<'_>) -> Resu
         return Err(Unmade::WrongRoom);
     }
     let store = storage_named(alloc, new.storage, new.chunks)?;
-    let spec = Spec {
+    Ok(Spec {
         fixed,
         dims: Items::from_slice(alloc, new.dims)?,
         maxima: maxima_of(alloc, new.maxima)?,
         store,
         fill: decode(&fixed, new.fill),
-    };
-    Ok(Edit::CreateDataset {
-        path: Items::from_slice(alloc, path)?,
-        spec,
     })
 }

@@ -1,9 +1,10 @@
 //! The numbers by which calls answer.
 
 ghost use Rattle.std.specs.Prelude.{◌≡◌};
-ghost use Rattle.h5_c.specs.Status.{open_status as status_of_open, run_status as status_of_run, view_status as status_of_view};
+ghost use Rattle.h5_model.specs.Edits.EditFaults.{fault_number};
+ghost use Rattle.h5_c.specs.Status.{open_status as status_of_open, run_status as status_of_run, status_of, view_status as status_of_view};
 
-use h5_file::{Cause, OpenFault, ViewFault};
+use h5_file::{Cause, EditFault, Edited, OpenFault, ViewFault};
 use h5_script::RunFault;
 
 /// It is done. The refusals of edits, paths and selections have the numbers from 1 to 31.
@@ -32,6 +33,16 @@ pub const VIEW_FAULTS: u32 = 200;
 
 /// The causes for which bytes are refused follow this number.
 pub const CAUSES: u32 = 300;
+
+/// The number of what the library answers to an edit.
+pub(crate) fn edit_status(answer: Result<Edited, EditFault>) -> u32
+    ensures { result ≡ status_of fault_number answer }
+{
+    match answer {
+        Ok(_edited) => DONE,
+        Err(fault) => fault.number(),
+    }
+}
 
 /// The number of a view's fault. A refusal of the path or the selection has its own.
 pub(crate) fn view_status(fault: ViewFault) -> u32

@@ -10,7 +10,7 @@ ghost use Rattle.h5_c.specs.Given.{IsMadeWith, hyper_of, is_whole, number_of, se
 use crate::given::{CType, Lists, buffer_of};
 use crate::held::Held;
 use crate::slot::Slot;
-use crate::status::{DONE, NO_MEMORY, WRONG_STATE};
+use crate::status::{NO_MEMORY, WRONG_STATE, edit_status};
 use h5_file::Buffer;
 use std::alloc::Global;
 
@@ -22,10 +22,7 @@ impl Held {
         let Ok(hyper) = lists.hyper(alloc) else {
             return NO_MEMORY;
         };
-        match self.session.write_from(path, &hyper, values) {
-            Ok(_edited) => DONE,
-            Err(fault) => fault.number(),
-        }
+        edit_status(self.session.write_from(path, &hyper, values))
     }
 }
 

@@ -5,7 +5,7 @@ use lib.Dec.{T}
 use mir.Syntax.{Body, place, copy, assign, rv_opd, seq, return}
 use mir.MapTy.{inst_fn}
 use mir.Val.{Val, vptr, has_ty, WT}
-use base.Logic.{SProp, ent, id⊢}
+use base.Logic.{ent, id⊢}
 use base.Fml.{ftrue, fsep, flft}
 use contract.BorrowLft.{◌⊑◌}
 use prog.Wp.{WpFn}

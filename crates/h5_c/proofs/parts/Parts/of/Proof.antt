@@ -5,7 +5,7 @@ use mir.Syntax.{Args, a_type, dcons, dnil}
 use mir.MapTy.{inst_fn}
 use mir.Raw.{raw as bare}
 use mir.Val.{Val, vstruct, of_list}
-use base.Logic.{SProp, ent, id⊢, never, fst∗}
+use base.Logic.{ent, id⊢, never, fst∗}
 use base.Fml.{ftrue, fsep, flft}
 use contract.BorrowLft.{◌⊑◌}
 use prog.Wp.{WpFn}
