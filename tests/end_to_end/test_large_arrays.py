@@ -1,12 +1,14 @@
 """Arrays of very many cells that are not stored: a dump begins at once, and takes little memory."""
 
 import os
+import resource
 import select
 import subprocess
 import time
 
 from . import today  # noqa: F401  (makes the reference's modules known)
 from .support import PROGRAM, InFolder, h5i
+from .test_scripts import limited
 
 # pylint: disable=wrong-import-order
 from h5oracle.model import Dataset, Tree  # noqa: E402
@@ -116,14 +118,34 @@ class LargeArrays(InFolder):
             with self.subTest(name=name):
                 self.assert_begins(["run", self.file], name, f"dump /{name}\n".encode("ascii"))
 
-    def test_a_reader_that_ends(self):
-        """Where nobody reads on, the dump ends with its failure to print."""
-        with subprocess.Popen([PROGRAM, "dump", self.file, "/line"], stdout=subprocess.PIPE, stderr=subprocess.PIPE) as process:
-            self.assertEqual(len(process.stdout.read(1000)), 1000)
-            process.stdout.close()
+    def ended(self, words, script=None):
+        """The first bytes that a small process prints, and its status and errors where nobody reads on. Never may it take more memory than
+        this.
+        """
+        source = subprocess.DEVNULL if script is None else subprocess.PIPE
+        with subprocess.Popen([PROGRAM, *words], stdin=source, stdout=subprocess.PIPE, stderr=subprocess.PIPE,
+                              preexec_fn=limited(resource.RLIMIT_AS, MOST_KIB << 10)) as process:
             try:
-                status = process.wait(MOST_SECONDS)
-                errors = process.stderr.read()
+                if script is not None:
+                    process.stdin.write(script)
+                    process.stdin.close()
+                text = self.read_some(process)
+                process.stdout.close()
+                return text, process.wait(MOST_SECONDS), process.stderr.read()
             finally:
                 process.kill()
-        self.assertEqual((status, errors), (4, b"h5i: cannot print\n"))
+
+    def test_a_reader_that_ends(self):
+        """Where nobody reads on, the dump ends with its failure to print."""
+        for name in ARRAYS:
+            with self.subTest(name=name):
+                self.assertEqual(self.ended(["dump", self.file, f"/{name}"]), (beginning(name), 4, b"h5i: cannot print\n"))
+
+    def test_a_reader_of_a_script_that_ends(self):
+        before = self.stamp(self.file)
+        for name in ARRAYS:
+            with self.subTest(name=name):
+                # The edit before it is in no file then.
+                script = f"group /new\ndump /{name}\n".encode("ascii")
+                self.assertEqual(self.ended(["run", self.file], script), ((b"ok 0\n" + beginning(name))[:MOST_READ], 4, b"h5i: script failed\n"))
+        self.assertEqual(self.stamp(self.file), before)

@@ -322,6 +322,20 @@ class TheProgram(InFolder):
                 self.assert_all_or_none(*words)
         self.assertEqual(self.stamp(path), before)
 
+    def test_dumps_of_a_script(self):
+        path = self.new()
+        self.assertEqual(self.run_of(NONE, "run", path, script=today.printed([*ARRAY, *CHUNKS, "attr /c unit u8 2 1,2"])), (0, b"ok 0\n" * 5, b""))
+        tree = today.opened(self.read(path))[0].tree
+        for array in ("/d", "/c"):
+            # Memory is taken before anything is printed, so that a dump is refused as a whole, and the line behind it is run.
+            dumped, listed, script = today.dump(tree, array.encode("ascii")), today.listing(tree), today.printed([f"dump {array}", "ls"])
+            right, places = self.allocations_of("run", path, script=script)
+            self.assertEqual(right, (0, dumped + listed, b""))
+            found = Counter(self.run_of(after, "run", path, script=script) for after in places)
+            refused = 1, ANSWERED + listed, b""
+            self.assertLessEqual(found.keys(), {right, OUT_OF_MEMORY, refused, (1, dumped + ANSWERED, b"")})
+            self.assertGreater(found[refused], 0)
+
     def is_right(self, found, lines):
         """Whether nothing is wrong with a run of a script on a file with the empty image, one allocation of which was refused."""
         (status, output, errors), theirs, edits = found, today.session_of(empty_image()), 0
