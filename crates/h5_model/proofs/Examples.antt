@@ -180,6 +180,19 @@ usual_fill : fill_value i32le (2 ∷ 2 ∷ 2 ∷ 1 ∷ 0 ∷ 0 ∷ 0 ∷ 0 ∷ [
 unfolding fill_value number_at
 usual_fill = refl
 
+-- version 3: defined, a byte of 7; not defined; and both at once
+flagged_fill : fill_value u8 (3 ∷ 42 ∷ 1 ∷ 0 ∷ 0 ∷ 0 ∷ 7 ∷ 0 ∷ []) ≡ Some (pos 7)
+unfolding fill_value number_at value_at raw_at
+flagged_fill = refl
+
+unset_fill : fill_value u8 (3 ∷ 26 ∷ 0 ∷ 0 ∷ 0 ∷ 0 ∷ 0 ∷ 0 ∷ []) ≡ Some (pos 0)
+unfolding fill_value number_at
+unset_fill = refl
+
+both_flags : fill_value u8 (3 ∷ 58 ∷ 1 ∷ 0 ∷ 0 ∷ 0 ∷ 7 ∷ 0 ∷ []) ≡ None
+unfolding fill_value number_at
+both_flags = refl
+
 contiguous : layout_of (3 ∷ []) 4 (3 ∷ 1 ∷ 224 ∷ 4 ∷ 0 ∷ 0 ∷ 0 ∷ 0 ∷ 0 ∷ 0 ∷ 12 ∷ 0 ∷ 0 ∷ 0 ∷ 0 ∷ 0 ∷ 0 ∷ 0 ∷ 0 ∷ 0 ∷ 0 ∷ 0 ∷ 0 ∷ 0 ∷ []) ≡ Some (InBlock (Some (block 1248 12)))
 unfolding layout_of number_at
 contiguous = refl
@@ -190,6 +203,20 @@ note_body = 1 ∷ 0 ∷ 5 ∷ 0 ∷ 12 ∷ 0 ∷ 16 ∷ 0 ∷ 110 ∷ 111 ∷ 11
     ∷ 16 ∷ 0 ∷ 0 ∷ 0 ∷ 1 ∷ 0 ∷ 0 ∷ 0 ∷ 0 ∷ 0 ∷ 8 ∷ 0 ∷ 0 ∷ 0 ∷ 0 ∷ 0
     ∷ 1 ∷ 1 ∷ 0 ∷ 0 ∷ 0 ∷ 0 ∷ 0 ∷ 0 ∷ 2 ∷ 0 ∷ 0 ∷ 0 ∷ 0 ∷ 0 ∷ 0 ∷ 0 ∷ 7 ∷ 8 ∷ []
 
-note : attribute_of note_body ≡ Some (110 ∷ 111 ∷ 116 ∷ 101 ∷ [], record { fixed = u8; sizes = 2 ∷ []; values = pos 7 ∷ pos 8 ∷ [] })
+note : attribute_of note_body ≡ Some (110 ∷ 111 ∷ 116 ∷ 101 ∷ [], record { fixed = u8; sizes = 2 ∷ []; values = pos 7 ∷ pos 8 ∷ []; body = None })
 unfolding attribute_of number_at note_body fixed_of extent_of value_at raw_at
 note = refl
+
+-- version 3 is not padded and has a character set; an attribute `n` of no dimensions, 5
+short_body : ℕ → List ℕ
+short_body flags = 3 ∷ flags ∷ 2 ∷ 0 ∷ 12 ∷ 0 ∷ 8 ∷ 0 ∷ 0 ∷ 110 ∷ 0
+    ∷ 16 ∷ 0 ∷ 0 ∷ 0 ∷ 1 ∷ 0 ∷ 0 ∷ 0 ∷ 0 ∷ 0 ∷ 8 ∷ 0
+    ∷ 1 ∷ 0 ∷ 0 ∷ 0 ∷ 0 ∷ 0 ∷ 0 ∷ 0 ∷ 5 ∷ []
+
+short_note : attribute_of (short_body 0) ≡ Some (110 ∷ [], record { fixed = u8; sizes = []; values = pos 5 ∷ []; body = Some (short_body 0) })
+unfolding attribute_of number_at short_body fixed_of extent_of value_at raw_at
+short_note = refl
+
+shared_note : attribute_of (short_body 1) ≡ None
+unfolding attribute_of number_at short_body
+shared_note = refl

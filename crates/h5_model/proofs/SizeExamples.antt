@@ -1,15 +1,17 @@
 -- Lengths of images and bounds of edits, by computation.
-use Rattle.std.proofs.Common.{◌≡◌, ℕ, [], ◌∷◌, refl, true, false, Some, pos, negsuc, codes}
+use Rattle.std.proofs.Common.{◌≡◌, ℕ, [], ◌∷◌, refl, true, false, Some, None, pos, negsuc, codes}
 use Rattle.std.specs.FinMap.{from_sorted}
 use Rattle.h5_model.specs.Tree.Objects.{ToObject, Group, Array, Contiguous}
 use Rattle.h5_model.specs.Tree.Paths.{names_of}
 use Rattle.h5_model.specs.Format.Sizes.{attribute_size, header_size}
+use Rattle.h5_model.specs.Format.Empty.{new_k}
 use Rattle.h5_model.specs.Format.PlainLength.{plain_length, nodes_over}
 use Rattle.h5_model.specs.Edits.Bounds.{Room, bound_of, new_header}
 use Rattle.h5_model.specs.Edits.ImageAnswers.{Facts, is_image_full, is_header_full}
 use Rattle.h5_model.specs.Edits.Applied.{new_object, new_dataset}
 use Rattle.h5_model.specs.Scripts.Sessions.{Session}
 use Rattle.h5_model.specs.declared.dataset.Spec.{Spec}
+use Rattle.h5_model.specs.declared.k_values.KValues.{KValues}
 use Rattle.h5_model.specs.declared.dataset.Store.TheVariants as store
 use Rattle.h5_model.specs.declared.edits.Edit.TheVariants.{CreateGroup, CreateDataset, SetAttr, Resize}
 use Rattle.h5_model.proofs.MapSteps.{known}
@@ -17,11 +19,20 @@ use Rattle.h5_model.proofs.Sessions.{session_of, group_at, array_at, row_of, u8,
 
 -- how long the session's tree is written anew, with the K values of `create` and one chunk stored at most
 length_of : Session → ℕ
-length_of s = plain_length 4 16 32 (λ number. 1) (s.state).tree
+length_of s = plain_length new_k (λ number. 1) (s.state).tree
 
 empty_file : length_of new_file ≡ 800
 unfolding plain_length length_of
 empty_file = simp known
+
+-- a superblock of version 1 has four bytes more, and says how large the nodes of chunk trees are: of three chunks of a byte
+-- under K 1 there are three nodes of 112 bytes, behind a header of 128 and a symbol node
+chunk_k_1 : KValues
+chunk_k_1 = record new_k { chunk = Some 1 }
+
+with_chunk_k : plain_length chunk_k_1 (λ number. 1) (new_file.state).tree ≡ 804
+unfolding plain_length chunk_k_1
+with_chunk_k = simp known
 
 -- three cells of four bytes
 one_array : length_of (session_of (group_at 0 ((codes "d", ToObject 1) ∷ []) ∷ array_at 1 (row_of i32le (Contiguous true) (pos 1 ∷ negsuc 0 ∷ pos 2147483647 ∷ []) 3) ∷ []) 2 [] 0) ≡ 1260
@@ -36,7 +47,7 @@ unfolding plain_length length_of
 nine_links = simp known
 
 -- the root alone, with an attribute `note` of two bytes
-one_attribute : length_of (session_of ((0, record { content = Group (from_sorted []); attributes = from_sorted ((codes "note", record { fixed = u8; sizes = 2 ∷ []; values = pos 7 ∷ pos 8 ∷ [] }) ∷ []); kept = [] }) ∷ []) 1 [] 0) ≡ 864
+one_attribute : length_of (session_of ((0, record { content = Group (from_sorted []); attributes = from_sorted ((codes "note", record { fixed = u8; sizes = 2 ∷ []; values = pos 7 ∷ pos 8 ∷ []; body = None }) ∷ []); kept = [] }) ∷ []) 1 [] 0) ≡ 864
 unfolding plain_length length_of
 one_attribute = simp known
 

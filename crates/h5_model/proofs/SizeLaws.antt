@@ -3,7 +3,7 @@ use Rattle.std.proofs.Common.{◌≡◌, ℕ, ◌+◌, ◌*◌, ◌≤◌, Bool,
 use Rattle.h5_model.specs.Tree.Places.{cells}
 use Rattle.h5_model.specs.Tree.Objects.{Array, Compact, Contiguous, Chunked}
 use Rattle.h5_model.specs.Format.Layout.{Layout, compact_layout, contiguous_layout, chunked_layout}
-use Rattle.h5_bytes.specs.Bytes.{number_at}
+use Rattle.h5_bytes.specs.Bytes.{number_at, byte_at}
 use Rattle.std.proofs.lemmas.Bool.Decides.{nat_tests}
 use Rattle.h5_model.proofs.WithinLaws.{both}
 use Rattle.h5_model.specs.Format.AttributeBody as body
@@ -13,11 +13,11 @@ use Rattle.h5_model.specs.Edits.Applied.{new_object, new_dataset}
 use Rattle.h5_model.specs.declared.dataset.Spec.{Spec}
 use Rattle.h5_model.proofs.MapSteps.{known}
 
--- the data of an attribute body whose parts have the lengths that are written end where the body does
+-- the data of an attribute body of version 1 whose parts have the lengths that are written end where the body does
 pub attribute_size-data_place : (bytes : List ℕ) (name : ℕ) (sizes : List ℕ) (size : ℕ)
-    → body.name_size bytes ≡ name + 1 → body.datatype_size bytes ≡ 12 → body.dataspace_size bytes ≡ dataspace_length (length sizes)
+    → byte_at bytes 0 ≡ 1 → body.name_size bytes ≡ name + 1 → body.datatype_size bytes ≡ 12 → body.dataspace_size bytes ≡ dataspace_length (length sizes)
     → body.data_place bytes + cells sizes * size ≡ attribute_size name sizes size
-attribute_size-data_place bytes name sizes size n t s = rw (n, t, s) refl
+attribute_size-data_place bytes name sizes size v n t s = rw (v, n, t, s) refl
 
 -- the header of a new dataset has as many bytes as the bound counts
 pub header_size-new_dataset : (s : Spec) → header_size (new_object (Array (new_dataset s))) ≡ new_header s

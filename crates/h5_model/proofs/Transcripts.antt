@@ -1,5 +1,5 @@
 -- Transcripts of scripts, from their bytes: types and refusals.
-use Rattle.std.proofs.Common.{List, [], ◌∷◌, refl, true, Bool, ℤ, pos, negsuc, codes}
+use Rattle.std.proofs.Common.{List, None, [], ◌∷◌, refl, true, Bool, ℤ, pos, negsuc, codes}
 use Rattle.std.specs.Fmt.{digits}
 use Rattle.std.specs.FinMap.{from_sorted}
 use Rattle.h5_model.specs.Format.Fixed.{value_at, raw_at, bytes_of}
@@ -105,18 +105,18 @@ nine_lines = (simp known, refl, refl)
 noted : TwoLines new_file
     (codes "attr / note u8 2 7,8") (codes "ok 0\n")
     (codes "dump /") (codes "/ group\n@note u8 {2} 7 8\n")
-    (session_of ((0, record { content = Group (from_sorted []); attributes = from_sorted ((codes "note", record { fixed = u8; sizes = 2 ∷ []; values = pos 7 ∷ pos 8 ∷ [] }) ∷ []); kept = [] }) ∷ []) 1 [] 0)
+    (session_of ((0, record { content = Group (from_sorted []); attributes = from_sorted ((codes "note", record { fixed = u8; sizes = 2 ∷ []; values = pos 7 ∷ pos 8 ∷ []; body = None }) ∷ []); kept = [] }) ∷ []) 1 [] 0)
 unfolding line_asks unescaped type_from refusal_of names_of applied within_names is_reached selection_of met_boxes bytes_of value_at raw_at lines_below digits
 noted = (refl, simp known, simp known)
 
-repacked : TwoLines (session_of ((0, record { content = Group (from_sorted []); attributes = from_sorted ((codes "note", record { fixed = u8; sizes = 2 ∷ []; values = pos 7 ∷ pos 8 ∷ [] }) ∷ []); kept = [] }) ∷ []) 1 [] 0)
+repacked : TwoLines (session_of ((0, record { content = Group (from_sorted []); attributes = from_sorted ((codes "note", record { fixed = u8; sizes = 2 ∷ []; values = pos 7 ∷ pos 8 ∷ []; body = None }) ∷ []); kept = [] }) ∷ []) 1 [] 0)
     (codes "repack") (codes "ok 0\n")
     (codes "dump /") (codes "/ group\n@note u8 {2} 7 8\n")
-    (session_of ((0, record { content = Group (from_sorted []); attributes = from_sorted ((codes "note", record { fixed = u8; sizes = 2 ∷ []; values = pos 7 ∷ pos 8 ∷ [] }) ∷ []); kept = [] }) ∷ []) 1 [] 0)
+    (session_of ((0, record { content = Group (from_sorted []); attributes = from_sorted ((codes "note", record { fixed = u8; sizes = 2 ∷ []; values = pos 7 ∷ pos 8 ∷ []; body = None }) ∷ []); kept = [] }) ∷ []) 1 [] 0)
 unfolding line_asks unescaped type_from refusal_of names_of applied within_names is_reached selection_of met_boxes bytes_of value_at raw_at lines_below digits
 repacked = (refl, simp known, refl)
 
-no_note : TwoLines (session_of ((0, record { content = Group (from_sorted []); attributes = from_sorted ((codes "note", record { fixed = u8; sizes = 2 ∷ []; values = pos 7 ∷ pos 8 ∷ [] }) ∷ []); kept = [] }) ∷ []) 1 [] 0)
+no_note : TwoLines (session_of ((0, record { content = Group (from_sorted []); attributes = from_sorted ((codes "note", record { fixed = u8; sizes = 2 ∷ []; values = pos 7 ∷ pos 8 ∷ []; body = None }) ∷ []); kept = [] }) ∷ []) 1 [] 0)
     (codes "unattr / note") (codes "ok 0\n")
     (codes "unattr / note") (codes "refused 25 NoSuchAttribute\n")
     new_file

@@ -1,4 +1,3 @@
-pub mod PlainSuperblock
 pub mod Superblock
 pub mod MessageTypes
 pub mod Messages

@@ -92,7 +92,7 @@ resized sizes d = record d {
 }
 
 abbrev pub attribute_from : AttrSpec → Attribute
-attribute_from a = record { fixed = a.fixed; sizes = a.dims; values = a.values }
+attribute_from a = record { fixed = a.fixed; sizes = a.dims; values = a.values; body = None }
 
 -- the link that a hard link to a path adds
 abbrev pub linked_to : Tree → List ℕ → List ℕ → Tree

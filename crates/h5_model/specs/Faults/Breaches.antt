@@ -1,13 +1,13 @@
 -- Faults of opening: a cause holds at an address, of the superblock or of a block that is reached (File Format Specification 3.0,
 -- sections II.A, III and IV.A).
-use Rattle.std.specs.Prelude.{◌≡◌, ◌≢◌, ℕ, ◌+◌, ◌^◌, ◌<◌, ◌≤◌, ◌==◌, ◌&&◌, ◌⊎◌, Bool, true, false, IsTrue, not, List, [], ◌∷◌, take, length}
+use Rattle.std.specs.Prelude.{◌≡◌, ◌≢◌, ℕ, ◌+◌, ◌^◌, ◌<◌, ◌≤◌, ◌==◌, ◌&&◌, ◌⊎◌, Bool, true, false, IsTrue, not, if◌then◌else◌, List, [], ◌∷◌, take, length}
 use Rattle.std.specs.Ordering.{nat_cmp, eq_by_cmp}
 use Rattle.std.specs.List.{list_any, Contains, IsDistinct}
 use Rattle.std.specs.FinMap.{FinMap}
 use Rattle.h5_bytes.specs.Bytes.{number_at, byte_at, part, undefined}
 use Rattle.h5_bytes.specs.Blocks.{cover}
 use Rattle.h5_bytes.specs.declared.Block.{Block}
-use Rattle.h5_model.specs.Format.Superblock.{signature, superblock_length, end_field, end_of_file, leaf_k, internal_k}
+use Rattle.h5_model.specs.Format.Superblock.{signature, has_chunk_k, superblock_length, base_place, end_field, driver_place, end_of_file, leaf_k, internal_k}
 use Rattle.h5_model.specs.Format.MessageTypes.{symbol_table_kind}
 use Rattle.h5_model.specs.Format.Messages.{Message, count_of, prefix_at, reference_count}
 use Rattle.h5_model.specs.Format.Nodes.{group_kind}
@@ -23,14 +23,18 @@ use Rattle.h5_model.specs.declared.open_fault.Cause.TheVariants.{NotHdf5, Trunca
 
 -- ---- the superblock
 
+-- the fields of K values
+abbrev pub k_places : List ℕ → List ℕ
+k_places bytes = 16 ∷ 18 ∷ (if has_chunk_k bytes then 24 ∷ [] else [])
+
 -- a field breaks its rule
 abbrev pub FieldBreach : List ℕ → Cause → ℕ → Type 0
 FieldBreach bytes Truncated at = (at ≡ (end_field bytes).at) × ((end_of_file bytes < superblock_length bytes) ⊎ (length bytes < end_of_file bytes))
-FieldBreach bytes SuperblockVersion at = IsTrue (list_any (λ p. p == at) (8 ∷ 9 ∷ 10 ∷ 12 ∷ [])) × (byte_at bytes at ≢ 0)
+FieldBreach bytes SuperblockVersion at = IsTrue (list_any (λ p. p == at) (8 ∷ 9 ∷ 10 ∷ 12 ∷ [])) × ((if at == 8 then 1 else 0) < byte_at bytes at)
 FieldBreach bytes FieldSizes at = IsTrue (list_any (λ p. p == at) (13 ∷ 14 ∷ [])) × (byte_at bytes at ≢ 8)
-FieldBreach bytes BaseAddress at = (at ≡ 24) × (number_at bytes 24 8 ≢ 0)
-FieldBreach bytes Driver at = (at ≡ 48) × (number_at bytes 48 8 ≢ undefined)
-FieldBreach bytes KRange at = IsTrue (list_any (λ p. p == at) (16 ∷ 18 ∷ [])) × ((number_at bytes at 2 ≡ 0) ⊎ (32767 < number_at bytes at 2))
+FieldBreach bytes BaseAddress at = (at ≡ base_place bytes) × (number_at bytes at 8 ≢ 0)
+FieldBreach bytes Driver at = (at ≡ driver_place bytes) × (number_at bytes at 8 ≢ undefined)
+FieldBreach bytes KRange at = IsTrue (list_any (λ p. p == at) (k_places bytes)) × ((number_at bytes at 2 ≡ 0) ⊎ (32767 < number_at bytes at 2))
 FieldBreach bytes TooLarge at = (at ≡ (end_field bytes).at) × (2 ^ 31 < end_of_file bytes)
 FieldBreach bytes _ at = ⊥
 

@@ -1,24 +1,36 @@
 -- The plain layout: the bytes of each structure as an image that is written anew has them (File Format Specification 3.0, sections
 -- II.A, III and IV.A). Its blocks follow each other without gaps.
-use Rattle.std.specs.Prelude.{ℕ, ◌-◌, nat_le, if◌then◌else◌, ℤ, List, [], ◌∷◌, ◌++◌, length, replicate}
+use Rattle.std.specs.Prelude.{ℕ, ◌-◌, nat_le, if◌then◌else◌, ℤ, Option, Some, None, is_some, List, [], ◌∷◌, ◌++◌, length, replicate}
 use Rattle.std.specs.List.{flat_map}
 use Rattle.h5_bytes.specs.Bytes.{undefined}
 use Rattle.h5_bytes.specs.Numbers.{short, middle, word, zeros}
-use Rattle.h5_model.specs.Format.Superblock.{signature}
+use Rattle.h5_model.specs.Format.Superblock.{signature, length_with}
 use Rattle.h5_model.specs.Format.Heap.{heap_signature}
 use Rattle.h5_model.specs.Format.Nodes.{Kind, node_signature, node_length}
 use Rattle.h5_model.specs.Format.Fixed.{Fixed, bytes_of}
 use Rattle.h5_model.specs.Format.Sizes.{text_span}
+use Rattle.h5_model.specs.declared.k_values.KValues.{KValues}
 
 -- bytes with zeros behind them, so many in all
 abbrev pub padded : List ℕ → ℕ → List ℕ
 padded bytes n = bytes ++ replicate (n - length bytes) 0
 
--- versions 0, sizes of 8 bytes, the K values, base address 0, and the root entry with its tree and heap
-abbrev pub superblock_bytes : ℕ → ℕ → ℕ → ℕ → ℕ → ℕ → List ℕ
-superblock_bytes leaf internal end root tree heap =
-    signature ++ (zeros 5 ++ (8 ∷ 8 ∷ 0 ∷ (short leaf ++ (short internal ++ (zeros 12 ++ (word undefined ++ (word end ++ (word undefined
-    ++ (word 0 ++ (word root ++ (word 1 ++ (word tree ++ word heap))))))))))))
+-- the version, and the field of chunk K, which is there in version 1
+abbrev pub version_of : Option ℕ → ℕ
+version_of chunk = if is_some chunk then 1 else 0
+
+abbrev pub chunk_k_bytes : Option ℕ → List ℕ
+chunk_k_bytes None = []
+chunk_k_bytes (Some k) = short k ++ zeros 2
+
+abbrev pub plain_superblock_length : KValues → ℕ
+plain_superblock_length k = length_with (is_some k.chunk)
+
+-- the version, versions 0, sizes of 8 bytes, the K values, base address 0, and the root entry with its tree and heap
+abbrev pub superblock_bytes : KValues → ℕ → ℕ → ℕ → ℕ → List ℕ
+superblock_bytes k end root tree heap =
+    signature ++ (version_of k.chunk ∷ (zeros 4 ++ (8 ∷ 8 ∷ 0 ∷ (short k.leaf ++ (short k.internal ++ (zeros 4 ++ (chunk_k_bytes k.chunk
+    ++ (zeros 8 ++ (word undefined ++ (word end ++ (word undefined ++ (word 0 ++ (word root ++ (word 1 ++ (word tree ++ word heap)))))))))))))))
 
 -- ---- headers
 

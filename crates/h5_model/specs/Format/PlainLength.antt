@@ -4,8 +4,10 @@ use Rattle.std.specs.Prelude.{ℕ, zero, suc, ◌+◌, ◌-◌, ◌*◌, ◌/◌
 use Rattle.std.specs.FinMap.{entries, len}
 use Rattle.h5_model.specs.Tree.Places.{cells}
 use Rattle.h5_model.specs.Tree.Objects.{Tree, Link, ToObject, Soft, Links, Content, Group, Array, Dataset, Storage, Compact, Contiguous, Chunked}
-use Rattle.h5_model.specs.Format.PlainSuperblock.{plain_superblock_length}
+use Rattle.h5_model.specs.Format.Superblock.{chunk_k_of}
+use Rattle.h5_model.specs.Format.Plain.{plain_superblock_length}
 use Rattle.h5_model.specs.Format.Sizes.{group_node, chunk_node, symbol_node, text_span, header_size}
+use Rattle.h5_model.specs.declared.k_values.KValues.{KValues}
 
 -- how many rows of at most m take n
 abbrev pub rows_of : ℕ → ℕ → ℕ
@@ -43,10 +45,10 @@ data_bytes chunk_k stored d = of_storage d.storage where
   of_storage (Chunked chunk) = if stored == 0 then 0
       else nodes_over 64 (2 * chunk_k) stored * chunk_node chunk_k (length chunk) + stored * (cells chunk * (d.fixed).size)
 
-abbrev pub content_bytes : ℕ → ℕ → ℕ → ℕ → Content → ℕ
-content_bytes leaf_k internal_k chunk_k stored (Group links) = group_bytes leaf_k internal_k links
-content_bytes leaf_k internal_k chunk_k stored (Array d) = data_bytes chunk_k stored d
+abbrev pub content_bytes : KValues → ℕ → Content → ℕ
+content_bytes k stored (Group links) = group_bytes k.leaf k.internal links
+content_bytes k stored (Array d) = data_bytes (chunk_k_of k) stored d
 
-unfoldable pub plain_length : ℕ → ℕ → ℕ → (ℕ → ℕ) → Tree → ℕ
-plain_length leaf_k internal_k chunk_k stored tree =
-    plain_superblock_length + sum_by (λ e. header_size e.1 + content_bytes leaf_k internal_k chunk_k (stored e.0) (e.1).content) (entries tree)
+unfoldable pub plain_length : KValues → (ℕ → ℕ) → Tree → ℕ
+plain_length k stored tree =
+    plain_superblock_length k + sum_by (λ e. header_size e.1 + content_bytes k (stored e.0) (e.1).content) (entries tree)

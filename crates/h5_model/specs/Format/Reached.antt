@@ -5,7 +5,7 @@ use Rattle.std.specs.List.{flat_map, find}
 use Rattle.h5_bytes.specs.Bytes.{number_at, part}
 use Rattle.h5_bytes.specs.Blocks.{block, Inside}
 use Rattle.h5_bytes.specs.declared.Block.{Block}
-use Rattle.h5_model.specs.Format.Superblock.{superblock_length, leaf_k, internal_k, chunk_k, root_header}
+use Rattle.h5_model.specs.Format.Superblock.{superblock_length, leaf_k, internal_k, chunk_k, root_header, root_header_place}
 use Rattle.h5_model.specs.Format.MessageTypes.{dataspace_kind, datatype_kind, data_layout_kind, continuation_kind, symbol_table_kind}
 use Rattle.h5_model.specs.Format.Messages.{Message, FillBlocks, continuations, prefix_at, first_size, first_block, first_body}
 use Rattle.h5_model.specs.Format.Nodes.{Kind, group_kind, chunk_kind, node_bytes, node_length, entries_in, key_place, child_in, node_at}
@@ -162,7 +162,7 @@ Names image (Chunk bytes) at depth y = ⊥
 
 -- The superblock names it, or a field of a block that is reached does. Each such field is an address of 8 bytes, and is there.
 pub data Reached (image : List ℕ) : Named → Type 0 where
-  by_superblock : {x : Named} → superblock_length image ≤ length image → x ≡ named 64 ObjectHeader (root_header image) 0 → Reached image x
+  by_superblock : {x : Named} → superblock_length image ≤ length image → x ≡ named (root_header_place image) ObjectHeader (root_header image) 0 → Reached image x
   by_block : {x : Named} → {y : Named} → Reached image x → Names image x.role x.at x.depth y → y.field + 8 ≤ length image → Reached image y
 
 -- the length of the block that a field names

@@ -2,6 +2,7 @@
 -- IV.A.2).
 use Rattle.std.specs.Prelude.{ℕ, ◌+◌, ◌*◌, Bool, true, not, nat_lt, if◌then◌else◌, Option, List, length, sum_by}
 use Rattle.std.specs.FinMap.{entries, len}
+use Rattle.std.specs.Option.{option_map_or}
 use Rattle.h5_bytes.specs.Texts.{pad8}
 use Rattle.h5_model.specs.Tree.Places.{cells}
 use Rattle.h5_model.specs.Tree.Objects.{Object, Content, Group, Array, Storage, Compact, Contiguous, Chunked, Attribute, Kept, are_sizes}
@@ -36,8 +37,9 @@ attribute_size name sizes size = 8 + pad8 (name + 1) + pad8 12 + pad8 (dataspace
 abbrev pub message_size : ℕ → ℕ
 message_size body = 8 + pad8 body
 
+-- the body is the one that is kept, or of version 1
 abbrev pub attribute_message_size : (List ℕ × Attribute) → ℕ
-attribute_message_size (name, a) = message_size (attribute_size (length name) a.sizes (a.fixed).size)
+attribute_message_size (name, a) = message_size (option_map_or length a.body (attribute_size (length name) a.sizes (a.fixed).size))
 
 abbrev pub kept_message_size : Kept → ℕ
 kept_message_size k = message_size (length k.body)

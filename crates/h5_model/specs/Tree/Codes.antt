@@ -73,8 +73,8 @@ abbrev pub coded_content : Coded Content
 coded_content = code_by (Links ⊎ Dataset) (coded⊎ coded_links coded_dataset) content_parts content_from content_back
 
 abbrev pub coded_attribute : Coded Attribute
-coded_attribute = code_by (Fixed × (List ℕ × List ℤ)) (coded× coded_fixed (coded× coded_bytes (coded_list coded_ℤ)))
-    (λ a. (a.fixed, (a.sizes, a.values))) (λ p. record { fixed = p.0; sizes = p.1.0; values = p.1.1 }) (λ _. refl)
+coded_attribute = code_by (Fixed × (List ℕ × (List ℤ × Option (List ℕ)))) (coded× coded_fixed (coded× coded_bytes (coded× (coded_list coded_ℤ) (coded_option coded_bytes))))
+    (λ a. (a.fixed, (a.sizes, (a.values, a.body)))) (λ p. record { fixed = p.0; sizes = p.1.0; values = p.1.1.0; body = p.1.1.1 }) (λ _. refl)
 
 abbrev pub coded_kept : Coded Kept
 coded_kept = code_by (ℕ × List ℕ) (coded× coded_ℕ coded_bytes) (λ k. (k.kind, k.body)) (λ p. record { kind = p.0; body = p.1 }) (λ _. refl)

@@ -43,11 +43,12 @@ are_sizes [] (m ∷ ms) = false
 are_sizes (d ∷ ds) [] = false
 are_sizes (d ∷ ds) (m ∷ ms) = option_map_or (λ n. n == d) m false && are_sizes ds ms
 
--- an attribute without its name
+-- an attribute without its name; a message of version 2 or 3 is kept with its whole body
 pub record Attribute : Type 0 where
   pub fixed : Fixed
   pub sizes : List ℕ
   pub values : List ℤ
+  pub body : Option (List ℕ)
 
 abbrev pub Attributes : Type 0
 Attributes = FinMap (slice_cmp nat_cmp) Attribute
