@@ -12,7 +12,7 @@ use Rattle.h5_bytes.specs.Texts.{text_at}
 use Rattle.h5_model.specs.Format.Addresses.{symbol_table_of}
 use Rattle.h5_model.specs.Format.Heap.{segment_of}
 use Rattle.h5_model.specs.Format.Symbols.{Entry, entry_of, Target, Header, Text, symbols_at, symbols_in, symbol_bytes, link_of}
-use Rattle.h5_model.specs.Format.Superblock.{leaf_k, root_header}
+use Rattle.h5_model.specs.Format.Superblock.{leaf_k, root_header, root_header_place}
 use Rattle.h5_model.specs.Tree.Objects.{Tree, Object, Content, Group, Array, Links, Link, ToObject, Soft, follow, links_of, links_in}
 use Rattle.h5_model.specs.Format.Reads.{Placed, HasObject, IsSame, IsPlaced, Holds}
 use Rattle.h5_model.specs.Format.Reached.{named, ObjectHeader, Reached, by_superblock, entry_in}
@@ -184,7 +184,7 @@ module _ (image : List ℕ) (table : FinMap nat_cmp ℕ) (tree : Tree) (placed :
       let next = next_reached o at reached first.0 first.2 name first.1 first.3 in
       path_reached path next.0 p next.1 at_p next.3 (subst (λ (m : ℕ). follow tree (ToObject m) path ≡ Some (ToObject p.number)) (sym next.2) first.4)
 
-  root_reached : Reached image (named 64 ObjectHeader (root_header image) 0)
+  root_reached : Reached image (named (root_header_place image) ObjectHeader (root_header image) 0)
   root_reached = by_superblock reads.superblock.whole refl
 
   -- each object's header
@@ -192,7 +192,7 @@ module _ (image : List ℕ) (table : FinMap nat_cmp ℕ) (tree : Tree) (placed :
   all_reached p at =
       let root = object_at image table tree placed reads 0 (root_header image) reads.root in
       let path = reads.reached p.number (ap is_some (in_tree image table tree placed reads p at)) in
-      path_reached path.0 root.0 p root.1 at (0, subst (λ (h : ℕ). IsReached image ObjectHeader h 0) (sym root.3) (64, root_reached))
+      path_reached path.0 root.0 p root.1 at (0, subst (λ (h : ℕ). IsReached image ObjectHeader h 0) (sym root.3) (root_header_place image, root_reached))
       (subst (λ (m : ℕ). follow tree (ToObject m) path.0 ≡ Some (ToObject p.number)) (sym root.2) path.1)
 
   -- ---- fields that name headers

@@ -12,7 +12,7 @@ use Rattle.h5_model.specs.Format.Messages.{Message}
 use Rattle.h5_model.specs.Format.Heap.{heap_blocks}
 use Rattle.h5_model.specs.Format.Nodes.{group_kind, tree_blocks}
 use Rattle.h5_model.specs.Format.Symbols.{IsSymbolNode, symbol_block, symbol_bytes, symbols_in}
-use Rattle.h5_model.specs.Format.Superblock.{leaf_k, internal_k}
+use Rattle.h5_model.specs.Format.Superblock.{leaf_k, internal_k, root_header_place, superblock_length}
 use Rattle.h5_model.specs.Tree.Objects.{Tree, Content, Group, Array}
 use Rattle.h5_model.specs.Format.Reads.{Placed, IsPlaced, HasContent, Holds}
 use Rattle.h5_model.specs.Format.Reached.{entry_in}
@@ -155,6 +155,6 @@ module _ (image : List ℕ) (table : FinMap nat_cmp ℕ) (tree : Tree) (placed :
   -- each field stands once
   pub links_once : (f : ℕ) → times f (all_links image table placed reads.each) ≤ 1
   links_once f =
-      let super = one_here f 64 0 96 (omega arith) (omega arith) in
+      let super = one_here f (root_header_place image) 0 (superblock_length image) (omega arith) (omega arith) in
       let rest = placed_once image table f placed reads.each in
       omega (arith, super, rest, reads.apart f)

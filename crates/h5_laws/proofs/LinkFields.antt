@@ -18,7 +18,7 @@ use Rattle.h5_model.specs.Format.Rows.{leaves}
 use Rattle.h5_model.specs.Format.Nodes.{group_kind, node_at}
 use Rattle.h5_model.specs.Format.Symbols.{Entry, Target, Header, Text, symbols_at, symbols_in, symbol_bytes, link_of}
 use Rattle.h5_model.specs.Format.Links.{HasLinks}
-use Rattle.h5_model.specs.Format.Superblock.{leaf_k, internal_k, root_header}
+use Rattle.h5_model.specs.Format.Superblock.{leaf_k, internal_k, root_header, root_header_place}
 use Rattle.h5_model.specs.Tree.Objects.{Tree, Content, Dataset, Group, Array, Object, Link, ToObject, Soft, links_to, leads_to, hard_links}
 use Rattle.h5_model.specs.Format.Reads.{Placed, IsPlaced, HasObject, HasContent, HasDataset, HasGroup, IsSame, Holds}
 use Rattle.h5_model.specs.Format.Reached.{entry_in, level_at}
@@ -199,7 +199,7 @@ module _ (table : FinMap nat_cmp ℕ) (own : (a b header : ℕ) → get table a 
 
 -- all of them
 abbrev pub all_links : (image : List ℕ) (table : FinMap nat_cmp ℕ) (placed : List Placed) → AllByRecursion (IsPlaced image table) placed → List (ℕ × ℕ)
-all_links image table placed each = (64, root_header image) ∷ placed_links image table placed each
+all_links image table placed each = (root_header_place image, root_header image) ∷ placed_links image table placed each
 
 module _ (image : List ℕ) (table : FinMap nat_cmp ℕ) (tree : Tree) (placed : List Placed) (reads : Holds image table tree placed) where
   -- as many fields name a header as the reading counts

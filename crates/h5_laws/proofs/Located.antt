@@ -14,7 +14,7 @@ use Rattle.h5_model.specs.Format.Heap.{heap_header, segment_place}
 use Rattle.h5_model.specs.Format.Nodes.{group_kind}
 use Rattle.h5_model.specs.Format.Symbols.{Target, symbols_in, symbol_bytes}
 use Rattle.h5_model.specs.Format.Links.{HasLinks}
-use Rattle.h5_model.specs.Format.Superblock.{leaf_k, internal_k, chunk_k, root_header}
+use Rattle.h5_model.specs.Format.Superblock.{leaf_k, internal_k, chunk_k, root_header, root_header_place}
 use Rattle.h5_model.specs.Format.Layout.{InBlock, InChunks}
 use Rattle.h5_model.specs.Format.Chunks.{HasChunks}
 use Rattle.h5_model.specs.Tree.Objects.{Tree, Group, Array, Dataset, Links, ToObject, follow}
@@ -73,7 +73,7 @@ pub record KnownEntry (image : List ℕ) (table : FinMap nat_cmp ℕ) (tree : Tr
 
 -- what names a header: the superblock's field, or an entry
 abbrev pub LinkField : List ℕ → FinMap nat_cmp ℕ → Tree → List Placed → ℕ → ℕ → Type 0
-LinkField image table tree placed field at = ((field ≡ 64) × (at ≡ root_header image)) ⊎ KnownEntry image table tree placed field at
+LinkField image table tree placed field at = ((field ≡ root_header_place image) × (at ≡ root_header image)) ⊎ KnownEntry image table tree placed field at
 
 -- a Continuation of its header
 pub record KnownBlock (image : List ℕ) (table : FinMap nat_cmp ℕ) (tree : Tree) (placed : List Placed) (depth header field at : ℕ) : Type 0 where

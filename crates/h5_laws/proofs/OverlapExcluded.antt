@@ -9,6 +9,7 @@ use Rattle.h5_bytes.specs.Blocks.{holds, cover}
 use Rattle.h5_bytes.specs.declared.Block.{Block}
 use Rattle.h5_bytes.proofs.BlockLaws.{holds_in}
 use Rattle.h5_model.specs.Format.Messages.{Message, HasMessages}
+use Rattle.h5_model.specs.Format.Superblock.{superblock_length}
 use Rattle.h5_model.specs.Tree.Objects.{Tree}
 use Rattle.h5_model.specs.Format.Reads.{Placed, IsPlaced, HasObject, Holds}
 use Rattle.h5_model.specs.Format.Reached.{Named, Role, ObjectHeader, Reached, length_of, block_of}
@@ -95,7 +96,7 @@ module _ (image : List ℕ) (table : FinMap nat_cmp ℕ) (tree : Tree) (placed :
       let a = among x reached in
       in_all_tags image table placed reads.each a.k.o (tag x) a.k.member a.k.has a.there
 
-  apart : (p : ℕ) → holds p 0 96 + cover p (blocks_in tags) ≤ 1
+  apart : (p : ℕ) → holds p 0 (superblock_length image) + cover p (blocks_in tags) ≤ 1
   unfolding tags
   apart p = let same : cover p (blocks_in tags) ≡ cover p (flat_map (λ (x : Placed). x.blocks) placed) = ap (cover p) (all_tags-blocks image table placed reads.each) in omega (arith, reads.apart p)
 
@@ -115,7 +116,7 @@ module _ (image : List ℕ) (table : FinMap nat_cmp ℕ) (tree : Tree) (placed :
   pub overlap_excluded : (x : Named) → Reached image x → IsOverlap image x → ⊥
   overlap_excluded x reached (some, inl low) =
       let here = holds_in x.at x.at (length_of image x) (omega arith) (omega (arith, some)) in
-      let super = holds_in x.at 0 96 (omega arith) (omega (arith, low)) in
+      let super = holds_in x.at 0 (superblock_length image) (omega arith) (omega (arith, low)) in
       let held = held_in x.at (tag x) tags (there x reached) in
       absurd (omega (arith, here, super, held, apart x.at))
   overlap_excluded x reached (some, inr (y, reached_y, other, some_y, inl (elsewhere, p, both))) =

@@ -6,7 +6,7 @@ use Rattle.std.specs.FinMap.{FinMap, get, entries}
 use Rattle.std.specs.List.{AllByRecursion, Contains}
 use Rattle.h5_bytes.specs.Blocks.{Separate, Inside, Keeps}
 use Rattle.h5_model.specs.Format.Messages.{prefix_at, reference_count}
-use Rattle.h5_model.specs.Format.Superblock.{IsSuperblock, leaf_k, internal_k, end_of_file, root_header}
+use Rattle.h5_model.specs.Format.Superblock.{IsSuperblock, k_values, end_of_file, root_header}
 use Rattle.h5_model.specs.Format.Reads.{Placed, IsPlaced, all_blocks}
 use Rattle.h5_model.specs.Tree.Objects.{Tree, Content, Group, Array, Link, ToObject, Soft, hard_links}
 
@@ -32,13 +32,12 @@ pub record IsMade (new : List ℕ) (table' : FinMap nat_cmp ℕ) (tree' : Tree) 
   pub there : IsPlaced new table' x
   pub counted : reference_count (prefix_at new x.header) ≡ hard_links tree' x.number + (if x.number == 0 then 1 else 0)
 
--- The new image has a superblock with the K values of the old one, its blocks share no byte, and it has the objects of the new tree,
--- of which each is untouched or made.
+-- The new image has a superblock with the version and all K values of the old one, its blocks share no byte, and it has the objects
+-- of the new tree, of which each is untouched or made.
 pub record IsStep (old new : List ℕ) (table table' : FinMap nat_cmp ℕ) (tree tree' : Tree) (placed placed' : List Placed) : Type 0 where
   pub superblock : IsSuperblock new
   pub whole : end_of_file new ≡ length new
-  pub leaf : leaf_k new ≡ leaf_k old
-  pub internal : internal_k new ≡ internal_k old
+  pub k : k_values new ≡ k_values old
   pub root : get table' 0 ≡ Some (root_header new)
   pub numbered : entries table' ≡ map (λ x. (x.number, x.header)) placed'
   pub objects : entries tree' ≡ map (λ x. (x.number, x.object)) placed'

@@ -12,6 +12,7 @@ use Rattle.h5_model.specs.Format.Messages.{prefix_at, reference_count}
 use Rattle.h5_model.specs.Format.Reads.{Placed, IsPlaced, IsCounted, IsGroup, ReadsAs}
 use Rattle.h5_model.specs.Tree.Objects.{Tree, Object, Content, Group, Array, links_in}
 use Rattle.h5_model.proofs.Frames.{object-same, prefix-same}
+use Rattle.h5_model.proofs.KLaws.{same_leaf, same_internal, same_chunk}
 use Rattle.h5_laws.proofs.Lists.{In, in_all, all_in, from_map, in_map, in_contains}
 use Rattle.h5_laws.proofs.Maps.{entry_of_get, get_of_entry}
 use Rattle.h5_laws.specs.Trees.Sound.{IsSoundTree}
@@ -31,7 +32,7 @@ module _ (old new : List ℕ) (table table' : FinMap nat_cmp ℕ) (tree tree' : 
       = prefix-same old new x.header was.messages was.header_blocks was.listed (all_left (IsKept old new) was.header_blocks was.content_blocks laid) in
       record {
         there = object-there table table' new x.header x.object x.blocks same.linked
-            (object-same old new step.leaf step.internal table x.header x.object x.blocks same.kept was);
+            (object-same old new (same_leaf new old step.k) (same_internal new old step.k) (same_chunk new old step.k) table x.header x.object x.blocks same.kept was);
         counted = ap reference_count prefix ∙ count.counted ∙ ap (λ n. n + (if x.number == 0 then 1 else 0)) (sym same.counts);
       }
 
