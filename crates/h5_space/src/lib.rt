@@ -14,6 +14,6 @@ pub use claims::{ClaimFault, Claims};
 pub use faults::{claim, fault};
 pub use image::{Image, SpaceFault};
 pub use superblock::{
-    CHUNK_K, MAXIMUM_IMAGE, SUPERBLOCK, Superblock, end_of_file, internal_k, leaf_k,
-    push_superblock, root_header, superblock_fault,
+    MAXIMUM_IMAGE, Superblock, chunk_k, end_field, end_of_file, internal_k, k_values, leaf_k,
+    length_for, push_superblock, root_header, superblock_fault, superblock_length,
 };

@@ -4,7 +4,7 @@ use Rattle.h5_space.proofs.superblock.superblock_fault.Goals as goal
 
 pub returns : goal.returns
 returns c = record {
-  whole = c.if-size-lt-SUPERBLOCK.false;
+  whole = omega (arith, c.if-size-superblock_length.false, c.superblock_length.ensures.exact);
   signed = signed c.args.bytes.now c.if-not-starts_with.ensures.value;
   version = c.in_default.ensures.0;
   free_space_version = c.in_default.ensures.1;
@@ -12,14 +12,16 @@ returns c = record {
   shared_version = c.in_default.ensures.3;
   offset_size = c.in_default.ensures.4;
   length_size = c.in_default.ensures.5;
-  leaf_low = omega (arith, c.leaf_k-leaf.ensures);
-  leaf_high = omega (arith, c.leaf_k-leaf.ensures);
-  internal_low = omega (arith, c.internal_k-internal.ensures);
-  internal_high = omega (arith, c.internal_k-internal.ensures);
-  base = sym c.u64_at.ensures ∙ c.if-u64_at-ne0.false;
-  driver = sym c.u64_at-2.ensures ∙ c.if-u64_at-ne-UNDEF.false;
+  leaf_low = c.in_default-k_fault.ensures.groups.leaf_low;
+  leaf_high = c.in_default-k_fault.ensures.groups.leaf_high;
+  internal_low = c.in_default-k_fault.ensures.groups.internal_low;
+  internal_high = c.in_default-k_fault.ensures.groups.internal_high;
+  chunk_low = c.in_default-k_fault.ensures.chunk_low;
+  chunk_high = c.in_default-k_fault.ensures.chunk_high;
+  base = c.in_default-address_fault.ensures.0;
+  driver = c.in_default-address_fault.ensures.1;
   small = omega (arith, c.end_of_file-end.ensures);
-  end_low = omega (arith, c.end_of_file-end.ensures);
+  end_low = omega (arith, c.end_of_file-end.ensures, c.superblock_length-2.ensures.exact);
   end_high = omega (arith, c.end_of_file-end.ensures);
 }
 
