@@ -14,8 +14,8 @@ use h5_model::AttrSpec;
 use h5_msg::{attribute_length, write_attribute};
 use std::alloc::{AllocError, Global};
 
-/// The body of the message of an attribute: as short as it can be, and behind it zeros up to a multiple of 8 bytes. Takes
-/// as much memory as the body has bytes.
+/// The body of the message of an attribute, version 1: as short as it can be, and behind it zeros up to a multiple of 8
+/// bytes. Takes as much memory as the body has bytes.
 ///
 /// That no rule of its own refuses the attribute is the caller's condition.
 ///

@@ -22,8 +22,9 @@ use h5_model::message_type::ATTRIBUTE;
 use h5_msg::read_attribute;
 use h5_space::Image;
 
-/// Sets the attribute whose message has this body. The message of an attribute with the same name becomes NIL. The new
-/// message stands in the space of a NIL message that is long enough, or else in a new block. Takes no memory.
+/// Sets the attribute whose message has this body. The message of an attribute with the same name, of whichever
+/// version, becomes NIL. The new message stands in the space of a NIL message that is long enough, or else in a new
+/// block. Takes no memory.
 ///
 /// The caller's conditions: the body is an attribute's, has a multiple of 8 bytes, and fewer than 2^16; the header
 /// stands in the image, shares no byte with a free block, and has a message that may move into a new block; there is

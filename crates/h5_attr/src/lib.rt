@@ -1,6 +1,7 @@
 //! The attributes of an object, over the messages of its header (File Format Specification 3.0, section IV.A.2.m).
 //!
-//! Nothing of the image is kept: names and values are lent where they stand in it.
+//! Nothing of the image is kept: names and values are lent where they stand in it. Messages of versions 1 to 3 are
+//! read; `new_body` makes one of version 1.
 #![tactic(auto)]
 
 mod bodies;

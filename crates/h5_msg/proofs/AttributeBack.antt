@@ -1,5 +1,5 @@
 -- An attribute that was written reads as its name, type, sizes and values.
-use Rattle.std.proofs.Common.{◌≡◌, ℕ, zero, suc, ◌+◌, ◌-◌, ◌*◌, ◌<◌, ◌≤◌, List, [], ◌∷◌, ◌++◌, length, length-append, append_assoc, map, replicate, take, drop, refl, sym, ap, ◌∙◌, arith, true, false, ℤ, Some}
+use Rattle.std.proofs.Common.{◌≡◌, ℕ, zero, suc, ◌+◌, ◌-◌, ◌*◌, ◌<◌, ◌≤◌, List, [], ◌∷◌, ◌++◌, length, length-append, append_assoc, map, replicate, take, drop, refl, sym, ap, ◌∙◌, arith, true, false, ℤ, Some, None}
 use Rattle.std.proofs.lemmas.Bool.Decides.{nat_tests}
 use Rattle.std.proofs.lemmas.List.{drop-drop, length-replicate, take_all}
 use Rattle.std.proofs.Math.Seq.{take-append_seam, drop-append_seam}
@@ -13,7 +13,7 @@ use Rattle.h5_model.specs.Tree.Places.{cells}
 use Rattle.h5_model.specs.Format.Extent.{Extent, extent_of}
 use Rattle.h5_model.specs.Format.Datatype.{fixed_of}
 use Rattle.h5_model.specs.Format.Sizes.{attribute_size}
-use Rattle.h5_model.specs.Format.AttributeBody.{attribute_of, is_attribute, name_in, name_size, datatype_size, dataspace_size, datatype_place, dataspace_place, data_place, values_at}
+use Rattle.h5_model.specs.Format.AttributeBody.{attribute_of, is_attribute, name_in, name_size, datatype_size, dataspace_size, datatype_place, dataspace_place, data_place, kept_body, values_at}
 use Rattle.h5_model.specs.Format.Plain.{padded, cells_bytes, padded_text}
 use Rattle.h5_model.specs.Format.Bodies.{datatype_bytes, dataspace_bytes, attribute_head, attribute_front, attribute_bytes, stored_attribute_bytes}
 use Rattle.h5_model.proofs.PlainValues.{length-cells_bytes}
@@ -33,7 +33,7 @@ found : (body name : List ℕ) (t : Fixed) (extent : Extent) (values : List ℤ)
     → extent_of (slice_range body (dataspace_place body) (dataspace_place body + dataspace_size body)) ≡ Some extent
     → nat_le (data_place body + cells extent.sizes * t.size) (length body) ≡ true → name_in body ≡ name
     → values_at t body (data_place body) (cells extent.sizes) ≡ values
-    → attribute_of body ≡ Some (name, record { fixed = t; sizes = extent.sizes; values = values })
+    → attribute_of body ≡ Some (name, record { fixed = t; sizes = extent.sizes; values = values; body = kept_body body })
 unfolding attribute_of
 found body name t extent values form type_is extent_is room name_is values_are = rw (form, type_is, extent_is, room, name_is, values_are) refl
 
@@ -155,7 +155,7 @@ module _ (name sizes : List ℕ) (t : Fixed) (values : List ℤ) (rest : List �
       (λ i. values_at t body (cells_at i) (sym count i))
       ∙ values_back t values body rest (8 + name_room + 16 + (8 + 8 * length sizes)) (size_positive t sound) all cells_part
 
-  pub attribute_reads : attribute_of body ≡ Some (name, record { fixed = t; sizes = sizes; values = values })
+  pub attribute_reads : attribute_of body ≡ Some (name, record { fixed = t; sizes = sizes; values = values; body = None })
   attribute_reads = found body name t (record { sizes = sizes; maxima = map (λ (x : ℕ). Some x) sizes }) values form type_is extent_is room name_is values_are
 
 -- what stands before the values, and behind it
@@ -170,7 +170,7 @@ joined name sizes rest t =
 
 pub attribute_back : (name sizes : List ℕ) (t : Fixed) (values : List ℤ) (n : ℕ) (bytes : List ℕ) → 1 ≤ length name → length name < 65535 → list_any (λ b. b == 0) name ≡ false
     → length sizes ≤ 32 → Small sizes → IsFixed t → list_all (fits t) values ≡ true → length values ≡ cells sizes
-    → bytes ≡ attribute_bytes name t sizes values n → attribute_of bytes ≡ Some (name, record { fixed = t; sizes = sizes; values = values })
+    → bytes ≡ attribute_bytes name t sizes values n → attribute_of bytes ≡ Some (name, record { fixed = t; sizes = sizes; values = values; body = None })
 attribute_back name sizes t values n bytes some short text rank small sound all count same =
     ap attribute_of (same ∙ joined name sizes (cells_bytes t values ++ replicate (n - attribute_size (length name) sizes t.size) 0) t) ∙ attribute_reads name sizes t values (replicate (n - attribute_size (length name) sizes t.size) 0) some short text rank small sound all count
 
@@ -183,7 +183,7 @@ all_fit t f each (x ∷ xs) = rw (each x, all_fit t f each xs) refl
 pub stored_attribute_back : (name sizes : List ℕ) (t : Fixed) (stored : List ℕ) (n : ℕ) (bytes : List ℕ) → 1 ≤ length name → length name < 65535
     → list_any (λ b. b == 0) name ≡ false → length sizes ≤ 32 → Small sizes → IsFixed t → AreBytes stored → length stored ≡ cells sizes * t.size
     → bytes ≡ stored_attribute_bytes name t sizes stored n
-    → attribute_of bytes ≡ Some (name, record { fixed = t; sizes = sizes; values = values_at t stored 0 (cells sizes) })
+    → attribute_of bytes ≡ Some (name, record { fixed = t; sizes = sizes; values = values_at t stored 0 (cells sizes); body = None })
 stored_attribute_back name sizes t stored n bytes some short text rank small sound low long same =
     let values : List ℤ = values_at t stored 0 (cells sizes) in
     let are : cells_bytes t values ≡ stored

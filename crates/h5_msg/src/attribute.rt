@@ -1,9 +1,10 @@
-//! Attribute messages, version 1 (File Format Specification 3.0, section IV.A.2.m).
+//! Attribute messages: versions 1 to 3 are read, and version 1 is written (File Format Specification 3.0, section
+//! IV.A.2.m).
 
-ghost use Rattle.std.specs.Prelude.{◌≡◌, ℕ, List, false, true, ◌+◌, ◌-◌, ◌*◌, ◌^◌, ◌<◌, ◌≤◌, ◌==◌, IfSome, Some, is_some, length, ok_or, slice_get};
+ghost use Rattle.std.specs.Prelude.{◌≡◌, ℕ, List, false, true, ◌+◌, ◌-◌, ◌*◌, ◌^◌, ◌<◌, ◌≤◌, ◌==◌, IfSome, None, Some, if◌then◌else◌, is_some, length, ok_or, option_map, slice_get};
 ghost use Rattle.std.specs.List.{list_all, list_any};
 ghost use Rattle.h5_bytes.specs.Texts.{pad8 as padded_to_8};
-ghost use Rattle.h5_model.specs.Format.AttributeBody.{attribute_of, is_attribute, values_at};
+ghost use Rattle.h5_model.specs.Format.AttributeBody.{attribute_of, is_attribute, is_version as has_version, values_at};
 ghost use Rattle.h5_msg.specs.Parts.{ArePartsOf};
 ghost use Rattle.h5_model.specs.Format.Fixed.{IsFixed, fits};
 ghost use Rattle.h5_model.specs.Tree.Places.{cells as cells_of};
@@ -22,7 +23,7 @@ use h5_shape::Dims;
 use std::alloc::Global;
 use std::marker::Model;
 
-/// Where the name begins.
+/// Where the name begins in versions 1 and 2. In version 3 the name's character set stands there.
 const NAME: usize = 8;
 
 /// What an Attribute message says: a name, a type, sizes and values.
@@ -37,13 +38,13 @@ pub struct AttributeBody<'a> {
 
 impl<'a> Model for AttributeBody<'a> {
     ghost use Rattle.std.specs.Prelude.{◌+◌, ◌*◌, ◌≤◌, ℕ, List, length};
-    ghost use Rattle.h5_model.specs.Format.AttributeBody.{values_at};
+    ghost use Rattle.h5_model.specs.Format.AttributeBody.{kept_body, values_at};
     ghost use Rattle.h5_model.specs.Tree.Places.{cells};
     ghost use Rattle.h5_model.specs.Tree.Objects.{Attribute};
 
     ghost Value = { List ℕ × Attribute };
 
-    ghost view = { λ a. (a.name.now, record { fixed = a.fixed; sizes = a.extent.sizes; values = values_at a.fixed a.body.now a.place (cells a.extent.sizes) }) };
+    ghost view = { λ a. (a.name.now, record { fixed = a.fixed; sizes = a.extent.sizes; values = values_at a.fixed a.body.now a.place (cells a.extent.sizes); body = kept_body a.body.now }) };
 
     ghost invariant = { λ a. a.place + cells a.extent.sizes * a.fixed.size ≤ length a.body.now };
 }
@@ -97,6 +98,17 @@ impl<'a> AttributeBody<'a> {
     {
         bytes_from(&self.fixed, self.body, self.place, self.cells())
     }
+
+    /// The whole body of a message of version 2 or 3, which is copied where the attribute is written anew. `None` in
+    /// version 1, where the body is made anew.
+    pub fn kept(&self) -> Option<&'a [u8]>
+        ensures { option_map (λ b. b.now) result ≡ self.now.1.body }
+    {
+        match self.body {
+            [1, ..] => None,
+            body => Some(body),
+        }
+    }
 }
 
 /// The bytes of so many values from a place on.
@@ -107,7 +119,7 @@ fn bytes_from<'a>(fixed: &Fixed, body: &'a [u8], place: usize, count: u64) -> &'
     &body[place..place + count as usize * fixed.size()]
 }
 
-/// Reads an Attribute message.
+/// Reads an Attribute message, version 1, 2 or 3.
 ///
 /// # Errors
 ///
@@ -156,19 +168,21 @@ fn read_parts(body: &[u8]) -> Option<Parts<'_>>
     ensures found { IfSome result (λ parts. ArePartsOf body.now parts) }
     ensures exact { is_some result ≡ is_attribute body.now }
 {
-    if body.len() < NAME || body[0] != 1 {
+    if body.len() < NAME || !is_version(body) {
         return None;
     }
+    let version = body[0];
     let name_size = usize::from(u16_at(body, 2));
     let datatype_size = usize::from(u16_at(body, 4));
     let dataspace_size = usize::from(u16_at(body, 6));
-    let datatype = NAME + pad8(name_size);
-    let dataspace = datatype + pad8(datatype_size);
-    let values = dataspace + pad8(dataspace_size);
+    let start = if version == 3 { NAME + 1 } else { NAME };
+    let datatype = start + part_length(version, name_size);
+    let dataspace = datatype + part_length(version, datatype_size);
+    let values = dataspace + part_length(version, dataspace_size);
     if body.len() < values {
         return None;
     }
-    let name = before_zero(&body[NAME..NAME + name_size]);
+    let name = before_zero(&body[start..start + name_size]);
     if name.is_empty() || name.len() >= name_size {
         return None;
     }
@@ -182,6 +196,25 @@ fn read_parts(body: &[u8]) -> Option<Parts<'_>>
     })
 }
 
+/// Whether a body is of version 1, where the byte behind the version is reserved, or of version 2 or 3 with no flag of
+/// a shared datatype or dataspace in that byte.
+fn is_version(body: &[u8]) -> bool
+    requires { 8 ≤ length body.now }
+    ensures { result ≡ has_version body.now }
+{
+    body[0] == 1 || (body[0] == 2 || body[0] == 3) && body[1] == 0
+}
+
+/// How many bytes a part of this size takes: version 1 pads it to a multiple of 8.
+fn part_length(version: u8, n: usize) -> usize
+    requires { n < 2 ^ 16 }
+    ensures value { result ≡ (if version == 1 then padded_to_8 n else n) }
+    ensures above { n ≤ result }
+    ensures below { result ≤ n + 7 }
+{
+    if version == 1 { pad8(n) } else { n }
+}
+
 /// The next multiple of 8.
 fn pad8(n: usize) -> usize
     requires { n < 2 ^ 16 }
@@ -192,8 +225,8 @@ fn pad8(n: usize) -> usize
     (n + 7) / 8 * 8
 }
 
-/// How many bytes the body of an Attribute message has as it is written: with a name of `name` bytes, `rank`
-/// dimensions, and `values` values of this type.
+/// How many bytes the body of an Attribute message has as it is written, in version 1: with a name of `name` bytes,
+/// `rank` dimensions, and `values` values of this type.
 pub fn attribute_length(name: usize, rank: usize, values: usize, fixed: &Fixed) -> usize
     requires name { name < 2 ^ 16 - 1 }
     requires rank { rank ≤ 32 }
@@ -207,7 +240,7 @@ pub fn attribute_length(name: usize, rank: usize, values: usize, fixed: &Fixed) 
 /// How many bytes a datatype has in an attribute, with its padding.
 const DATATYPE: usize = 16;
 
-/// Writes an Attribute message, and zeros behind it.
+/// Writes an Attribute message, version 1, and zeros behind it.
 pub fn write_attribute(name: &[u8], fixed: &Fixed, sizes: &[u64], values: &[i128], bytes: &mut [u8])
     requires name { 1 ≤ length name.now }
     requires short { length name.now < 2 ^ 16 - 1 }
@@ -218,7 +251,7 @@ pub fn write_attribute(name: &[u8], fixed: &Fixed, sizes: &[u64], values: &[i128
     requires room { attribute_size (length name.now) sizes.now fixed.now.size ≤ length bytes.old }
     ensures written { bytes.new ≡ attribute_bytes name.now fixed.now sizes.now values.now (length bytes.old) }
     ensures reads { attribute_of bytes.new
-        ≡ Some (name.now, record { fixed = fixed.now; sizes = sizes.now; values = values.now }) }
+        ≡ Some (name.now, record { fixed = fixed.now; sizes = sizes.now; values = values.now; body = None }) }
 {
     let (front, behind) = bytes.split_at_mut(front_length(name.len(), sizes.len()));
     let (cells, padding) = behind.split_at_mut(values.len() * fixed.size());
@@ -227,7 +260,7 @@ pub fn write_attribute(name: &[u8], fixed: &Fixed, sizes: &[u64], values: &[i128
     padding.fill(0);
 }
 
-/// Writes an Attribute message whose values have these bytes as they are stored, and zeros behind it.
+/// Writes an Attribute message, version 1, whose values have these bytes as they are stored, and zeros behind it.
 pub fn write_stored_attribute(
     name: &[u8],
     fixed: &Fixed,
@@ -249,6 +282,7 @@ pub fn write_stored_attribute(
         fixed = fixed.now;
         sizes = sizes.now;
         values = values_at fixed.now stored.now 0 (cells_of sizes.now);
+        body = None;
       },
     ) }
 {

@@ -1,7 +1,8 @@
-//! Fill values (File Format Specification 3.0, sections IV.A.2.e and IV.A.2.f).
+//! Fill values: versions 2 and 3 are read, and version 2 is written (File Format Specification 3.0, sections IV.A.2.e
+//! and IV.A.2.f).
 
 ghost use Rattle.std.specs.Prelude.{◌≡◌, ◌+◌, ◌≤◌, Some, length, ok_or, true};
-ghost use Rattle.h5_model.specs.Format.Fill.{fill_value, old_fill_value, sized_value as value_after_size};
+ghost use Rattle.h5_model.specs.Format.Fill.{fill_value, flagged_value, marked_value, old_fill_value, sized_value as value_after_size};
 ghost use Rattle.h5_model.specs.Format.Fixed.{fits};
 ghost use Rattle.h5_model.specs.Format.Bodies.{fill_bytes, old_fill_bytes};
 ghost use Rattle.h5_model.specs.Format.Plain.{padded};
@@ -11,6 +12,12 @@ use crate::fault::FormFault;
 use crate::values::{value_at, write_value};
 use h5_bytes::u32_at;
 use h5_model::Fixed;
+
+/// The bit of version 3's flags that says that the fill value is undefined.
+const UNDEFINED: u8 = 1 << 4;
+
+/// The bit that says that it is defined.
+const DEFINED: u8 = 1 << 5;
 
 /// When a dataset's storage is allocated: with the dataset, or chunk by chunk as they are written.
 #[derive(Clone, Copy, PartialEq, Eq, Debug)]
@@ -34,7 +41,7 @@ pub fn old_fill_length(fixed: &Fixed) -> usize
     4 + fixed.size()
 }
 
-/// Reads a Fill Value message, version 2, of a dataset of this type: the value, or 0 if none is defined.
+/// Reads a Fill Value message, version 2 or 3, of a dataset of this type: the value, or 0 if none is defined.
 ///
 /// # Errors
 ///
@@ -43,7 +50,18 @@ pub fn old_fill_length(fixed: &Fixed) -> usize
 pub fn read_fill(fixed: &Fixed, body: &[u8]) -> Result<i128, FormFault>
     ensures { result ≡ ok_or (fill_value fixed.now body.now) FormFault.FillForm }
 {
-    if body.len() < 4 || body[0] != 2 {
+    match body {
+        [2, ..] => read_marked(fixed, body),
+        [3, ..] => read_flagged(fixed, body),
+        _ => Err(FormFault::FillForm),
+    }
+}
+
+/// Version 2: a byte says whether a value is defined.
+fn read_marked(fixed: &Fixed, body: &[u8]) -> Result<i128, FormFault>
+    ensures { result ≡ ok_or (marked_value fixed.now body.now) FormFault.FillForm }
+{
+    if body.len() < 4 {
         return Err(FormFault::FillForm);
     }
     match body[3] {
@@ -51,6 +69,19 @@ pub fn read_fill(fixed: &Fixed, body: &[u8]) -> Result<i128, FormFault>
         1 => read_sized(fixed, body, 4),
         _ => Err(FormFault::FillForm),
     }
+}
+
+/// Version 3: flags say whether a value is defined or undefined. With both it is of no form.
+fn read_flagged(fixed: &Fixed, body: &[u8]) -> Result<i128, FormFault>
+    ensures { result ≡ ok_or (flagged_value fixed.now body.now) FormFault.FillForm }
+{
+    if body.len() < 2 || body[1] & (UNDEFINED | DEFINED) == UNDEFINED | DEFINED {
+        return Err(FormFault::FillForm);
+    }
+    if body[1] & DEFINED == DEFINED {
+        return read_sized(fixed, body, 2);
+    }
+    Ok(0)
 }
 
 /// Reads an old Fill Value message of a dataset of this type: the value, or 0 if its size is 0.
