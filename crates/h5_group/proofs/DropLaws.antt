@@ -41,7 +41,7 @@ use Rattle.h5_btree.proofs.WayRows.{leaves_here}
 use Rattle.h5_btree.proofs.WaySteps.{first_owned}
 use Rattle.h5_group.specs.Edited.{HasGroupMoved, IsGroupIn, superblock_block}
 use Rattle.h5_group.specs.Nodes.Trees.{kind_in}
-use Rattle.h5_group.proofs.EditFrames.{group_apart, group_moves, internal_kept, leaf_kept, rest_kept, still_long}
+use Rattle.h5_group.proofs.EditFrames.{group_apart, group_moves, internal_kept, k_kept, leaf_kept, rest_kept, still_long}
 
 -- ---- blocks and lists
 
@@ -191,7 +191,7 @@ module _ (s u : Space) (table : SymbolTable) (links : List (List ℕ × Target))
   kept : Keeps s.bytes u.bytes (N ++ H)
   kept = rest_kept s u table links spare blocks group T T' (N ++ H) done.moves parted within
 
-  apart_then : IsApart (superblock_block ∷ (T' ++ (N ++ H))) u.free (length u.bytes)
+  apart_then : IsApart (superblock_block u.bytes ∷ (T' ++ (N ++ H))) u.free (length u.bytes)
   apart_then = group_apart s u table links spare blocks group T T' (N ++ H) done.moves parted within (T' ++ (N ++ H)) (λ p. refl)
 
   pub node_inside : x + len ≤ length u.bytes
@@ -393,6 +393,5 @@ module _ (s u : Space) (table : SymbolTable) (links : List (List ℕ × Target))
         short = let long = ap length bytes in omega (arith, long, size, group.short);
       };
       moves = group_moves s t table links spare blocks group A T' (N' ++ H) moved parted_then within_then blocks' (λ p. refl);
-      leaf = leaf_is;
-      internal = internal_is;
+      k = k_kept s t table links spare blocks group A T' (N' ++ H) moved parted_then within_then;
     }

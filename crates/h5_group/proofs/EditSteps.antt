@@ -25,8 +25,7 @@ moved_then s t u table before links links' spare spare' m n = record {
   blocks = n.blocks;
   group = n.group;
   moves = moves_then s t u before m.blocks n.blocks m.moves n.moves;
-  leaf = n.leaf ∙ m.leaf;
-  internal = n.internal ∙ m.internal;
+  k = n.k ∙ m.k;
 }
 
 -- the first of the spare texts

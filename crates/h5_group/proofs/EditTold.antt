@@ -3,7 +3,7 @@ use Rattle.std.proofs.Common.{◌≡◌, ℕ, ◌^◌, ◌≤◌, List, [], ◌�
 use Rattle.h5_bytes.specs.declared.Block.{Block}
 use Rattle.h5_laws.proofs.Lists.{In, all_in, contains_in}
 use Rattle.h5_model.specs.Format.Addresses.{SymbolTable}
-use Rattle.h5_model.specs.Format.Superblock.{leaf_k, internal_k}
+use Rattle.h5_model.specs.Format.Superblock.{k_values}
 use Rattle.h5_model.specs.Format.Symbols.{Target}
 use Rattle.h5_space.specs.Space.{Space}
 use Rattle.h5_space.specs.Moves.{Moves}
@@ -21,8 +21,7 @@ pub record IsToldMoved (s t : Space) (table : SymbolTable) (links : List (List �
   pub links_are : links ≡ links_told t.bytes table
   pub group : IsGroupApart t table
   pub moves : Moves s t (blocks_told s.bytes table) (blocks_told t.bytes table)
-  pub leaf : leaf_k t.bytes ≡ leaf_k s.bytes
-  pub internal : internal_k t.bytes ≡ internal_k s.bytes
+  pub k : k_values t.bytes ≡ k_values s.bytes
 
 -- ---- before the edit, in whatever room
 
@@ -58,7 +57,7 @@ told_new image table name none =
 told_again : (s : Space) (table : SymbolTable) (links : List (List ℕ × Target)) (spare : List ℕ) (blocks : List Block) → IsGroupIn s table links spare blocks → IsGroupApart s table
 told_again s table links spare blocks g = record {
   read = group_read s table links spare blocks g;
-  apart = subst (λ (bs : List Block). IsApart (superblock_block ∷ bs) s.free (length s.bytes)) (blocks_are_told s.bytes table links blocks g.linked) g.apart;
+  apart = subst (λ (bs : List Block). IsApart (superblock_block s.bytes ∷ bs) s.free (length s.bytes)) (blocks_are_told s.bytes table links blocks g.linked) g.apart;
   long = g.long;
   k = record { leaf_low = g.leaf_some; leaf_high = g.leaf_few; internal_low = g.some; internal_high = g.few };
 }
@@ -76,6 +75,5 @@ module _ (s t u : Space) (bytes blocks : ℕ) (is : t ≡ roomy s bytes blocks) 
         group = told_again u table links [] m.blocks m.group;
         moves = subst (Moves s u (blocks_told s.bytes table)) (blocks_are_told u.bytes table links m.blocks (m.group).linked)
             (moves_roomy s u bytes blocks (blocks_told s.bytes table) m.blocks m.moves);
-        leaf = m.leaf;
-        internal = m.internal;
+        k = m.k;
       }

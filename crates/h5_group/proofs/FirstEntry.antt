@@ -62,7 +62,7 @@ module _ (s : Space) (table : SymbolTable) (links : List (List ℕ × Target)) (
     pub all_kept : Keeps s.bytes u.bytes blocks
     all_kept = rest_kept s u table links spare blocks group [] (new ∷ []) blocks taken (λ p. refl) group_inside
 
-    pub all_apart : IsApart (superblock_block ∷ new ∷ blocks) u.free (length u.bytes)
+    pub all_apart : IsApart (superblock_block u.bytes ∷ new ∷ blocks) u.free (length u.bytes)
     all_apart = group_apart s u table links spare blocks group [] (new ∷ []) blocks taken (λ p. refl) group_inside (new ∷ blocks) (λ p. refl)
 
     laid_kept : Keeps s.bytes u.bytes ((trees ++ symbols) ++ heap_blocks s.bytes table.heap)

@@ -23,7 +23,7 @@ use Rattle.h5_btree.proofs.KeyedNames.{AreAscending, ascending_put}
 use Rattle.h5_btree.proofs.BlocksInside.{inside_held}
 use Rattle.h5_group.specs.Edited.{HasGroupMoved, IsGroupIn, IsLinkPut, offsets_of}
 use Rattle.h5_group.specs.Nodes.Trees.{group_nodes_blocks, kind_in}
-use Rattle.h5_group.proofs.EditFrames.{group_apart, group_moves, internal_kept, leaf_kept, rest_kept, still_long}
+use Rattle.h5_group.proofs.EditFrames.{group_apart, group_moves, internal_kept, k_kept, leaf_kept, rest_kept, still_long}
 use Rattle.h5_group.proofs.LinkLists.{all_put, ascend_names, link_names, names_ascend, names_of_links}
 use Rattle.h5_group.proofs.MovedNames.{entry_named, names_of}
 
@@ -146,8 +146,7 @@ module _ (s t : Space) (table : SymbolTable) (links : List (List ℕ × Target))
             short = short;
           };
           moves = group_moves s t table links spare blocks group a b heap moves parted within grown_blocks (λ p. refl);
-          leaf = leaf_same;
-          internal = internal_same;
+          k = k_kept s t table links spare blocks group a b heap moves parted within;
         }
 
     abbrev IsNamed : List ℕ × Target → Type 0

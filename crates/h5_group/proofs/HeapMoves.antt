@@ -27,7 +27,7 @@ use Rattle.h5_group.specs.Nodes.Trees.{kind_in}
 use Rattle.h5_group.specs.Told.{nodes_told, symbol_nodes_told}
 use Rattle.h5_group.proofs.ToldLaws.{nodes_are_told, symbol_nodes_are_told}
 use Rattle.h5_group.proofs.BlockFrames.{fact_kept, read_kept}
-use Rattle.h5_group.proofs.EditFrames.{rest_kept, leaf_kept, internal_kept, group_apart, group_moves, still_long}
+use Rattle.h5_group.proofs.EditFrames.{rest_kept, k_kept, leaf_kept, internal_kept, group_apart, group_moves, still_long}
 use Rattle.h5_group.proofs.HeapLinks.{IsTextKept, begin_kept, keys_kept, links_stay, all_map}
 
 -- the offsets in the keys of a tree's nodes, as they stand
@@ -222,8 +222,7 @@ module _ (s : Space) (table : SymbolTable) (links : List (List ℕ × Target)) (
           short = short;
         };
         moves = group_moves s t table links spare blocks g old_heap new_heap node_blocks moves parted within new_blocks joined;
-        leaf = leaf_is;
-        internal = internal_is;
+        k = k_kept s t table links spare blocks g old_heap new_heap node_blocks moves parted within;
       }
 
       keys_stay : AllByRecursion (IsTextKept segment new_segment) keys

@@ -4,12 +4,13 @@ use Rattle.std.specs.List.{Contains}
 use Rattle.std.proofs.lemmas.Bool.{cases_lt}
 use Rattle.h5_bytes.specs.declared.Block.{Block}
 use Rattle.h5_model.specs.Format.Addresses.{SymbolTable}
-use Rattle.h5_model.specs.Format.Superblock.{leaf_k, internal_k}
+use Rattle.h5_model.specs.Format.Superblock.{leaf_k, internal_k, k_values}
 use Rattle.h5_model.specs.Format.Heap.{segment_block, segment_of}
 use Rattle.h5_model.specs.Format.Nodes.{node_length}
 use Rattle.h5_model.specs.Format.Sizes.{symbol_node}
 use Rattle.h5_model.specs.Format.Symbols.{Entry, IsEntry, Target, link_of, symbols_at}
 use Rattle.h5_model.specs.Tree.Paths.{is_name}
+use Rattle.h5_model.proofs.KLaws.{same_internal, same_leaf}
 use Rattle.h5_space.specs.Space.{Space}
 use Rattle.h5_space.specs.Moves.{Spends}
 use Rattle.h5_space.proofs.MovesLaws.{spends_then, spends_within}
@@ -67,7 +68,7 @@ few_steps s table name way w =
 
 module _ (s t : Space) (table : SymbolTable) (links : List (List ℕ × Target)) (spare : List ℕ) (blocks : List Block) (g : IsGroupIn s table links spare blocks) (name : List ℕ)
     (links' : List (List ℕ × Target)) (spare' : List ℕ) (blocks' : List Block) (h : IsGroupIn t table links' spare' blocks')
-    (internal : internal_k t.bytes ≡ internal_k s.bytes) (leaf : leaf_k t.bytes ≡ leaf_k s.bytes) (kept : AreNodesKept s t table (g.linked).owned)
+    (k_same : k_values t.bytes ≡ k_values s.bytes) (kept : AreNodesKept s t table (g.linked).owned)
     (same : (n : ℕ) → Contains (symbol_nodes_told s.bytes table) n → symbols_at t.bytes (leaf_k t.bytes) n ≡ symbols_at s.bytes (leaf_k s.bytes) n)
     (way : List Step) (w : IsWayOf s table name way) where
   -- has room still, where the tree had it before the texts came in
@@ -78,15 +79,21 @@ module _ (s t : Space) (table : SymbolTable) (links : List (List ℕ × Target))
     | inr past ↦
         let few = few_steps s table name way w in
         absurd (roomy (full_of s table name links spare blocks g way w step above is (omega (arith, few, past))
-        (full_before s table links spare blocks g name t links' spare' blocks' h internal kept way w full)
-        (ap length (sym (entries_stay s table links spare blocks g name t links' spare' blocks' h internal kept way w step above is same))
-        ∙ entries ∙ ap (λ (k : ℕ). 2 * k) leaf)))
+        (full_before s table links spare blocks g name t links' spare' blocks' h k_same kept way w full)
+        (ap length (sym (entries_stay s table links spare blocks g name t links' spare' blocks' h k_same kept way w step above is same))
+        ∙ entries ∙ ap (λ (k : ℕ). 2 * k) (same_leaf t.bytes s.bytes k_same))))
   ]
 
 -- ---- the room
 
 module _ (s t : Space) (table : SymbolTable) (occupied : ℕ) (spent : Spends s t (2 * (segment_block s.bytes table.heap).len + occupied + 16) 2)
-    (internal : internal_k t.bytes ≡ internal_k s.bytes) (leaf : leaf_k t.bytes ≡ leaf_k s.bytes) (steps : ℕ) (few : steps ≤ 16) where
+    (k_same : k_values t.bytes ≡ k_values s.bytes) (steps : ℕ) (few : steps ≤ 16) where
+  internal : internal_k t.bytes ≡ internal_k s.bytes
+  internal = same_internal t.bytes s.bytes k_same
+
+  leaf : leaf_k t.bytes ≡ leaf_k s.bytes
+  leaf = same_leaf t.bytes s.bytes k_same
+
   rows : (steps + 1) * node_length (kind_in t.bytes) ≤ 17 * node_length (kind_in t.bytes)
   rows = mul-le-mul_right (node_length (kind_in t.bytes)) (omega (arith, few))
 

@@ -8,7 +8,7 @@ use Rattle.h5_bytes.specs.declared.Block.{Block}
 use Rattle.h5_bytes.proofs.BlockLaws.{all_so}
 use Rattle.h5_model.specs.Edits.Refusal.{has_zero}
 use Rattle.h5_model.specs.Format.Addresses.{SymbolTable}
-use Rattle.h5_model.specs.Format.Superblock.{internal_k}
+use Rattle.h5_model.specs.Format.Superblock.{internal_k, k_values}
 use Rattle.h5_model.specs.Format.Links.{offset_in}
 use Rattle.h5_model.specs.Format.Nodes.{Kind, group_kind, node_at}
 use Rattle.h5_model.specs.Format.Rows.{Node, Reading, leaves, nodes}
@@ -17,6 +17,7 @@ use Rattle.h5_model.specs.Tree.Paths.{is_name}
 use Rattle.h5_model.proofs.NumberLaws.{reads_back}
 use Rattle.h5_model.proofs.OneTree.{level_is, owned_is}
 use Rattle.h5_model.proofs.RowLaws.{leaves-same, nodes-same}
+use Rattle.h5_model.proofs.KLaws.{same_internal}
 use Rattle.h5_laws.proofs.KeyInserts.{all_both}
 use Rattle.h5_space.specs.Space.{Space}
 use Rattle.h5_heap.proofs.EditedLaws.{segment_long}
@@ -88,12 +89,15 @@ object_moved s t table blocks links spare name (place.Array header) to is m =
 
 module _ (s t : Space) (table : SymbolTable) (links : List (List ℕ × Target)) (spare : List ℕ) (blocks : List Block) (g : IsGroupIn s table links spare blocks)
     (links' : List (List ℕ × Target)) (spare' : List ℕ) (blocks' : List Block) (h : IsGroupIn t table links' spare' blocks')
-    (internal : internal_k t.bytes ≡ internal_k s.bytes) (kept : AreNodesKept s t table (g.linked).owned) where
+    (k_same : k_values t.bytes ≡ k_values s.bytes) (kept : AreNodesKept s t table (g.linked).owned) where
   abbrev V : Reading
   V = node_at s.bytes (kind_in s.bytes)
 
   abbrev W : Reading
   W = node_at t.bytes (kind_in t.bytes)
+
+  internal : internal_k t.bytes ≡ internal_k s.bytes
+  internal = same_internal t.bytes s.bytes k_same
 
   node_there : (n : ℕ) → W n ≡ node_at t.bytes (kind_in s.bytes) n
   node_there n = ap (λ (k : ℕ). node_at t.bytes (group_kind k) n) internal

@@ -1,12 +1,12 @@
 -- The way to a name in a group's tree: there is one at most, and it stays where its nodes read as before and their keys name the same texts.
-use Rattle.std.proofs.Common.{◌≡◌, ℕ, zero, suc, ◌+◌, ◌-◌, ◌<◌, Bool, List, [], ◌∷◌, ◌++◌, length, slice_index, slice_index_or, refl, sym, ap, ◌∙◌, subst, arith}
+use Rattle.std.proofs.Common.{◌≡◌, ℕ, zero, suc, ◌+◌, ◌<◌, Bool, List, [], ◌∷◌, ◌++◌, length, slice_index, slice_index_or, refl, sym, ap, ◌∙◌, subst, arith}
 use Rattle.std.specs.Cmp.Lexicographic.{slice_cmp}
 use Rattle.std.specs.List.{AllByRecursion, Contains}
 use Rattle.std.specs.Ordering.{is_lt, nat_cmp}
 use Rattle.h5_bytes.specs.declared.Block.{Block}
 use Rattle.h5_bytes.proofs.BlockLaws.{all_left, all_right, all_so}
 use Rattle.h5_model.specs.Format.Addresses.{SymbolTable}
-use Rattle.h5_model.specs.Format.Superblock.{leaf_k, internal_k}
+use Rattle.h5_model.specs.Format.Superblock.{leaf_k, internal_k, k_values}
 use Rattle.h5_model.specs.Format.Heap.{segment_of}
 use Rattle.h5_model.specs.Format.Links.{NotAfter, IsOrdered, key_name, offset_in}
 use Rattle.h5_model.specs.Format.Nodes.{Kind, group_kind, node_at, node_bytes}
@@ -14,6 +14,7 @@ use Rattle.h5_model.specs.Format.Rows.{Node, Reading, nodes}
 use Rattle.h5_model.specs.Format.Symbols.{Target, symbols_at}
 use Rattle.h5_model.proofs.OneTree.{one_level, one_owned, level_is, owned_is}
 use Rattle.h5_model.proofs.RowLaws.{at_listed}
+use Rattle.h5_model.proofs.KLaws.{same_internal}
 use Rattle.h5_laws.specs.Ladders.{IsOrderly}
 use Rattle.h5_laws.specs.NameLadders.{key_text, name_sides}
 use Rattle.h5_laws.proofs.NameLadders.{name_order}
@@ -144,9 +145,12 @@ module _ (s : Space) (table : SymbolTable) (links : List (List ℕ × Target)) (
   -- ---- where its nodes read as before and their keys name the same texts
 
   module _ (t : Space) (links' : List (List ℕ × Target)) (spare' : List ℕ) (blocks' : List Block) (h : IsGroupIn t table links' spare' blocks')
-      (internal : internal_k t.bytes ≡ internal_k s.bytes) (kept : AreNodesKept s t table (g.linked).owned) where
+      (k_same : k_values t.bytes ≡ k_values s.bytes) (kept : AreNodesKept s t table (g.linked).owned) where
     abbrev W : Reading
     W = node_at t.bytes (kind_in t.bytes)
+
+    internal : internal_k t.bytes ≡ internal_k s.bytes
+    internal = same_internal t.bytes s.bytes k_same
 
     node_there : (n : ℕ) → W n ≡ node_at t.bytes kind n
     node_there n = ap (λ (k : ℕ). node_at t.bytes (group_kind k) n) internal

@@ -121,7 +121,7 @@ module _ (s u : Space) (table : SymbolTable) (links : List (List ℕ × Target))
   back_kept : Keeps s.bytes u.bytes (map (symbol_block l) back)
   back_kept = all_right (IsKept s.bytes u.bytes) (map (symbol_block l) front) (map (symbol_block l) back) symbols_kept
 
-  all_apart : IsApart (superblock_block ∷ (b ++ R)) u.free (length u.bytes)
+  all_apart : IsApart (superblock_block u.bytes ∷ (b ++ R)) u.free (length u.bytes)
   all_apart = group_apart s u table links spare blocks group a b R halves.moves (parted s u table links spare blocks group node front back cut)
       (within s u table links spare blocks group node front back cut) (b ++ R) (λ p. refl)
 

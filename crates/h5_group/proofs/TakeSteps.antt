@@ -119,8 +119,7 @@ stays_here s table links spare blocks g = record {
   blocks = blocks;
   group = g;
   moves = moves_none s blocks;
-  leaf = refl;
-  internal = refl;
+  k = refl;
 }
 
 -- ---- an entry goes, what is left stays, and its texts are freed

@@ -17,7 +17,7 @@ use Rattle.h5_space.specs.Moves.{Moves}
 use Rattle.h5_space.specs.Space.{Space}
 use Rattle.h5_group.specs.Edited.{HasGroupMoved, IsGroupIn}
 use Rattle.h5_group.specs.Nodes.Trees.{kind_in}
-use Rattle.h5_group.proofs.EditFrames.{group_apart, group_moves, internal_kept, leaf_kept, rest_kept, still_long}
+use Rattle.h5_group.proofs.EditFrames.{group_apart, group_moves, internal_kept, k_kept, leaf_kept, rest_kept, still_long}
 use Rattle.h5_group.proofs.BlockFrames.{fact_kept, read_kept}
 use Rattle.h5_group.proofs.Ways.{cover_parts, heap_inside, symbols_inside}
 
@@ -168,8 +168,7 @@ module _ (s t : Space) (table : SymbolTable) (links : List (List ℕ × Target))
         blocks = blocks;
         group = group_now;
         moves = group_moves s t table links spare blocks group trees trees (symbols ++ heap) moved parted within blocks parted;
-        leaf = leaf_now;
-        internal = internal_now;
+        k = k_kept s t table links spare blocks group trees trees (symbols ++ heap) moved parted within;
       },
       linked_now.2,
     )

@@ -5,7 +5,7 @@ use Rattle.h5_bytes.specs.Blocks.{block}
 use Rattle.h5_bytes.specs.Texts.{text_at}
 use Rattle.h5_bytes.specs.declared.Block.{Block}
 use Rattle.h5_model.specs.Format.Addresses.{SymbolTable}
-use Rattle.h5_model.specs.Format.Superblock.{leaf_k, internal_k}
+use Rattle.h5_model.specs.Format.Superblock.{leaf_k, internal_k, k_values, superblock_length}
 use Rattle.h5_model.specs.Format.Heap.{segment_of}
 use Rattle.h5_model.specs.Format.Nodes.{node_at}
 use Rattle.h5_model.specs.Format.Symbols.{Entry, IsEntry, Target, link_of, symbols_at}
@@ -19,8 +19,8 @@ use Rattle.h5_btree.specs.declared.way.Step.{Step}
 use Rattle.h5_group.specs.Nodes.Trees.{kind_in}
 
 -- where the superblock stands
-abbrev pub superblock_block : Block
-superblock_block = block 0 96
+abbrev pub superblock_block : List ℕ → Block
+superblock_block image = block 0 (superblock_length image)
 
 -- The group at this tree and heap has these links, in these blocks, which share no byte with each other, with the superblock or with a free
 -- block. Besides the texts that links name its heap keeps these spare ones, each on its own: keys may name them.
@@ -28,21 +28,21 @@ pub record IsGroupIn (s : Space) (table : SymbolTable) (links : List (List ℕ �
   pub linked : HasLinks s.bytes (leaf_k s.bytes) (internal_k s.bytes) table.tree table.heap links blocks
   pub more : List ℕ
   pub spared : linked.listed.loose ≡ spare ++ more
-  pub apart : IsApart (superblock_block ∷ blocks) s.free (length s.bytes)
-  pub long : 96 ≤ length s.bytes
+  pub apart : IsApart (superblock_block s.bytes ∷ blocks) s.free (length s.bytes)
+  pub long : superblock_length s.bytes ≤ length s.bytes
   pub leaf_some : 1 ≤ leaf_k s.bytes
   pub leaf_few : leaf_k s.bytes ≤ 32767
   pub some : 1 ≤ internal_k s.bytes
   pub few : internal_k s.bytes ≤ 32767
   pub short : length s.bytes < 2 ^ 63
 
--- A step of an edit: the group has these links and keeps these texts then, its blocks were moved, and the image says the same K values.
+-- A step of an edit: the group has these links and keeps these texts then, its blocks were moved, and the image has the same version of the
+-- superblock and says the same K values.
 pub record HasGroupMoved (old new : Space) (table : SymbolTable) (before : List Block) (links : List (List ℕ × Target)) (spare : List ℕ) : Type 0 where
   pub blocks : List Block
   pub group : IsGroupIn new table links spare blocks
   pub moves : Moves old new before blocks
-  pub leaf : leaf_k new.bytes ≡ leaf_k old.bytes
-  pub internal : internal_k new.bytes ≡ internal_k old.bytes
+  pub k : k_values new.bytes ≡ k_values old.bytes
 
 -- it has some links
 abbrev pub IsSomeGroup : Space → SymbolTable → List ℕ → Type 0

@@ -5,7 +5,7 @@ use Rattle.h5_model.specs.Format.Addresses.{SymbolTable}
 use Rattle.h5_model.specs.Format.Heap.{segment_block}
 use Rattle.h5_model.specs.Format.Nodes.{node_at}
 use Rattle.h5_model.specs.Format.Sizes.{group_node, symbol_node}
-use Rattle.h5_model.specs.Format.Superblock.{AreK, leaf_k, internal_k}
+use Rattle.h5_model.specs.Format.Superblock.{AreK, leaf_k, internal_k, superblock_length}
 use Rattle.h5_model.specs.Format.Symbols.{symbols_at}
 use Rattle.h5_space.specs.Space.{Space}
 use Rattle.h5_space.specs.Whole.{IsApart}
@@ -52,6 +52,6 @@ link_room image table occupied =
 -- the group was read, and its blocks share no byte with each other, with the superblock or with a free block
 pub record IsGroupApart (s : Space) (table : SymbolTable) : Type 0 where
   pub read : IsGroupRead s.bytes table
-  pub apart : IsApart (superblock_block ∷ blocks_told s.bytes table) s.free (length s.bytes)
-  pub long : 96 ≤ length s.bytes
+  pub apart : IsApart (superblock_block s.bytes ∷ blocks_told s.bytes table) s.free (length s.bytes)
+  pub long : superblock_length s.bytes ≤ length s.bytes
   pub k : AreK (leaf_k s.bytes) (internal_k s.bytes)

@@ -24,7 +24,7 @@ node_long image (OfChunks shape) field root heap level at depth = refl
 -- K in an image with a superblock
 pub kind_few : (image : List ℕ) (form : TreeForm) → IsSuperblock image → (kind_of image form).k ≤ 32767
 kind_few image OfGroup superblock = superblock.internal_high
-kind_few image (OfChunks shape) superblock = omega arith
+kind_few image (OfChunks shape) superblock = superblock.chunk_high
 
 pub leaf_long : (image : List ℕ) (form : TreeForm) (field root heap at depth : ℕ)
     → length_of image (named field (leaf_role form root heap) at depth) ≡ leaf_length image form

@@ -20,7 +20,7 @@ pub trait Trees {
 
     /// The kind of their nodes.
     fn kind(&self, image: &Image) -> NodeKind
-        requires long { 20 ≤ length image.now.bytes }
+        requires long { 26 ≤ length image.now.bytes }
         requires few { (kind_of image.now.bytes (form self.now)).k ≤ 32767 }
         ensures { result ≡ kind_of image.now.bytes (form self.now) };
 }

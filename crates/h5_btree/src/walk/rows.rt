@@ -113,7 +113,7 @@ pub fn bottom_nodes<T: Trees>(
     over: &T,
     root: u64,
 ) -> Result<Vec<u64>, AllocError>
-    requires long { 20 ≤ length image.now.bytes }
+    requires long { 26 ≤ length image.now.bytes }
     requires few { (kind_of image.now.bytes (T.form over.now)).k ≤ 32767 }
     requires there { IsTreeAt image.now.bytes (T.form over.now) root }
     ensures bottom { IfOk result (λ row. row.items ≡ bottom_at image.now.bytes (T.form over.now) root) }
@@ -141,7 +141,7 @@ pub fn tree_leaves<T: Trees>(
     over: &T,
     root: u64,
 ) -> Result<Vec<u64>, AllocError>
-    requires long { 20 ≤ length image.now.bytes }
+    requires long { 26 ≤ length image.now.bytes }
     requires few { (kind_of image.now.bytes (T.form over.now)).k ≤ 32767 }
     requires there { IsTreeAt image.now.bytes (T.form over.now) root }
     ensures { IfOk result (λ found. found.items ≡ leaves_at image.now.bytes (T.form over.now) root) }
@@ -157,7 +157,7 @@ fn children_of<T: Trees>(
     over: &T,
     row: &[u64],
 ) -> Result<Vec<u64>, AllocError>
-    requires long { 20 ≤ length image.now.bytes }
+    requires long { 26 ≤ length image.now.bytes }
     requires few { (kind_of image.now.bytes (T.form over.now)).k ≤ 32767 }
     requires stand { (level : ℕ)
         × AllByRecursion (IsStanding image.now.bytes (T.form over.now) level) row.now }

@@ -13,7 +13,7 @@ use h5_space::Image;
 
 /// The node of a tree of this form at this address. Takes no memory.
 pub fn tree_node<'a, T: Trees>(image: &'a Image, over: &T, at: u64) -> Node<'a>
-    requires long { 20 ≤ length image.now.bytes }
+    requires long { 26 ≤ length image.now.bytes }
     requires few { (kind_of image.now.bytes (T.form over.now)).k ≤ 32767 }
     requires there { IsNodeAt image.now.bytes (T.form over.now) at }
     ensures { result ≡ node_at image.now.bytes (kind_of image.now.bytes (T.form over.now)) at }

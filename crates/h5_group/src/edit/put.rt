@@ -7,7 +7,7 @@ ghost use Rattle.h5_model.specs.Edits.Refusal.{has_zero};
 ghost use Rattle.h5_model.specs.Format.Heap.{segment_block, segment_of};
 ghost use Rattle.h5_model.specs.Format.Nodes.{node_length};
 ghost use Rattle.h5_model.specs.Format.Sizes.{symbol_node as symbol_length, text_span as span_of_text};
-ghost use Rattle.h5_model.specs.Format.Superblock.{internal_k, leaf_k};
+ghost use Rattle.h5_model.specs.Format.Superblock.{k_values, leaf_k};
 ghost use Rattle.h5_model.specs.Format.Symbols.{IsEntry, Target, Text, link_of, symbols_at};
 ghost use Rattle.h5_model.specs.Tree.Paths.{is_name};
 ghost use Rattle.h5_space.specs.Moves.{Moves, Spends};
@@ -72,8 +72,7 @@ pub fn put_link(
     ensures group { OnOk result (IsGroupApart image.new table) }
     ensures moves { OnOk result (Moves image.old image.new (blocks_told image.old.bytes table)
         (blocks_told image.new.bytes table)) }
-    ensures leaf { OnOk result (leaf_k image.new.bytes ≡ leaf_k image.old.bytes) }
-    ensures internal { OnOk result (internal_k image.new.bytes ≡ internal_k image.old.bytes) }
+    ensures k { OnOk result (k_values image.new.bytes ≡ k_values image.old.bytes) }
     ensures spends { OnOk result (Spends image.old image.new
         (room_of image.old.bytes table (span (name_and_leads link.now))) 20) }
     ensures deep { (result ≡ Err InsertFault.TreeTooDeep)
@@ -159,8 +158,7 @@ pub fn put_reserved(image: &mut Image, table: SymbolTable, link: &Link<'_, Objec
     ensures group { IsGroupApart image.new table }
     ensures moves { Moves image.old image.new (blocks_told image.old.bytes table)
         (blocks_told image.new.bytes table) }
-    ensures leaf { leaf_k image.new.bytes ≡ leaf_k image.old.bytes }
-    ensures internal { internal_k image.new.bytes ≡ internal_k image.old.bytes }
+    ensures k { k_values image.new.bytes ≡ k_values image.old.bytes }
     ensures spends { Spends image.old image.new
         (room_of image.old.bytes table (span (name_and_leads link.now))) 20 }
 {

@@ -3,7 +3,7 @@
 ghost use Rattle.std.specs.Prelude.{◌≡◌, ℕ, ◌^◌, ◌≤◌, ◌++◌, Err, IfNone, IfSome, IsOk, List, [], ◌∷◌, OnErr, OnOk, Some, length, slice_get};
 ghost use Rattle.std.specs.List.{Contains};
 ghost use Rattle.h5_bytes.specs.declared.Block.{Block};
-ghost use Rattle.h5_model.specs.Format.Superblock.{internal_k, leaf_k};
+ghost use Rattle.h5_model.specs.Format.Superblock.{k_values};
 ghost use Rattle.h5_model.specs.Format.Heap.{segment_of, span_of};
 ghost use Rattle.h5_model.specs.Format.Symbols.{Entry, Target, link_of};
 ghost use Rattle.h5_space.specs.Moves.{Moves, Spends};
@@ -50,8 +50,7 @@ pub fn remove_link(image: &mut Image, table: SymbolTable, name: &[u8]) -> Result
     ensures group { OnOk result (IsGroupApart image.new table) }
     ensures moves { OnOk result (Moves image.old image.new (blocks_told image.old.bytes table)
         (blocks_told image.new.bytes table)) }
-    ensures leaf { OnOk result (leaf_k image.new.bytes ≡ leaf_k image.old.bytes) }
-    ensures internal { OnOk result (internal_k image.new.bytes ≡ internal_k image.old.bytes) }
+    ensures k { OnOk result (k_values image.new.bytes ≡ k_values image.old.bytes) }
     ensures freed { OnOk result (HasNameFreed image.old.bytes image.new.bytes table name.now) }
     ensures spends { OnOk result (Spends image.old image.new 0 16) }
     ensures cause { OnErr result (result ≡ Err SpaceFault.NoMemory) }

@@ -17,7 +17,7 @@ use h5_space::{Image, internal_k, leaf_k};
 
 /// The node of a group's tree at this address. Takes no memory.
 pub fn tree_node(image: &Image, at: u64) -> Node<'_>
-    requires long { 20 ≤ length image.now.bytes }
+    requires long { 26 ≤ length image.now.bytes }
     requires few { internal_of image.now.bytes ≤ 32767 }
     requires there { IsNodeAt image.now.bytes OfGroup at }
     ensures { result ≡ node_at image.now.bytes (kind_in image.now.bytes) at }
@@ -27,7 +27,7 @@ pub fn tree_node(image: &Image, at: u64) -> Node<'_>
 
 /// The symbol node at this address. Takes no memory.
 pub fn symbol_node(image: &Image, at: u64) -> SymbolNode<'_>
-    requires long { 20 ≤ length image.now.bytes }
+    requires long { 26 ≤ length image.now.bytes }
     requires there { IsSymbolsAt image.now.bytes at }
     ensures { result ≡ symbols_at image.now.bytes (leaf_of image.now.bytes) at }
 {
@@ -38,7 +38,7 @@ pub fn symbol_node(image: &Image, at: u64) -> SymbolNode<'_>
 
 /// The kind of the trees of groups.
 pub(crate) fn group_kind(image: &Image) -> NodeKind
-    requires long { 20 ≤ length image.now.bytes }
+    requires long { 26 ≤ length image.now.bytes }
     requires few { internal_of image.now.bytes ≤ 32767 }
     ensures { result ≡ kind_in image.now.bytes }
 {

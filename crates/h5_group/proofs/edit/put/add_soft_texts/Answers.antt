@@ -46,7 +46,7 @@ returns-clause-link c =
 pub returns-clause-nodes : goal.returns-clause-nodes
 returns-clause-nodes c = λ links spare blocks g.
     let m = c.add_text-behind.ensures.added links spare blocks g in
-    nodes_then c.args.image.now c.add_text-behind.new.image c.args.table links spare blocks g links (c.add_text-behind.result ∷ spare) m.blocks m.group m.internal
+    nodes_then c.args.image.now c.add_text-behind.new.image c.args.table links spare blocks g links (c.add_text-behind.result ∷ spare) m.blocks m.group m.k
     (c.add_text-behind.ensures.nodes links spare blocks g) c.add_text-offset.new.image
     (c.add_text-offset.ensures.nodes links (c.add_text-behind.result ∷ spare) m.blocks m.group)
 
@@ -54,6 +54,6 @@ pub returns-clause-entries : goal.returns-clause-entries
 returns-clause-entries c = λ node there.
     let g = c.requires.group in
     let m = c.add_text-behind.ensures.added g.0 [] g.1 g.2 in
-    let told = symbols_told c.args.image.now c.add_text-behind.new.image c.args.table g.0 [] g.1 g.2 g.0 (c.add_text-behind.result ∷ []) m.blocks m.group m.internal
+    let told = symbols_told c.args.image.now c.add_text-behind.new.image c.args.table g.0 [] g.1 g.2 g.0 (c.add_text-behind.result ∷ []) m.blocks m.group m.k
     (c.add_text-behind.ensures.nodes g.0 [] g.1 g.2) in
     c.add_text-offset.ensures.entries node (subst (λ (ns : List ℕ). Contains ns node) (sym told) there) ∙ c.add_text-behind.ensures.entries node there

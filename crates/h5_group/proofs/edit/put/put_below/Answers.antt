@@ -1,5 +1,7 @@
 use Rattle.std.proofs.Common.{ℕ, ◌++◌, ◌+◌, ◌*◌, ◌≡◌, length, sym, ap, ◌∙◌, arith}
 use Rattle.h5_model.specs.Format.Nodes.{group_kind, node_length}
+use Rattle.h5_model.specs.Format.Superblock.{leaf_k}
+use Rattle.h5_model.proofs.KLaws.{same_internal, same_leaf}
 use Rattle.h5_space.proofs.MovesLaws.{spends_then, spends_within}
 use Rattle.h5_snod.specs.Written.{entry_from}
 use Rattle.h5_group.specs.Edited.{HasGroupMoved, offsets_of}
@@ -13,9 +15,12 @@ widened : (c : After-widen_for) → HasGroupMoved c.args.image.now c.widen_for.n
     (offsets_of (entry_from c.args.symbol) ++ c.requires.entry.spare)
 widened c = stays_for c.args.image.now c.widen_for.new.image c.args.table (entry_from c.args.symbol) c.widen_for.ensures.group c.widen_for.ensures.segment c.requires.entry
 
+leaf_same : (c : After-widen_for) → leaf_k c.widen_for.new.image.bytes ≡ leaf_k c.args.image.now.bytes
+leaf_same c = same_leaf c.widen_for.new.image.bytes c.args.image.now.bytes (widened c).k
+
 -- so many bytes as before are what nodes may take
 rows : (c : After-widen_for) → (length c.args.way.now + 1) * node_length (kind_in c.widen_for.new.image.bytes) ≡ (length c.args.way.now + 1) * node_length (kind_in c.args.image.now.bytes)
-rows c = ap (λ (k : ℕ). (length c.args.way.now + 1) * node_length (group_kind k)) (widened c).internal
+rows c = ap (λ (k : ℕ). (length c.args.way.now + 1) * node_length (group_kind k)) (same_internal c.widen_for.new.image.bytes c.args.image.now.bytes (widened c).k)
 
 pub is_full-requires-clause-group : goal.is_full-requires-clause-group
 is_full-requires-clause-group c =
@@ -32,22 +37,21 @@ split_entry-requires-clause-full c = λ step above is. (c.is_full.ensures step a
 pub split_entry-requires-clause-low : goal.split_entry-requires-clause-low
 split_entry-requires-clause-low c = λ full.
     let e = c.requires.way.ends in
-    let m = widened (goal.at.split_entry-requires-clause-low c).After-widen_for in
     let long = (c.is_full.ensures e.step e.above e.way_is).0 c.if-is_full.true in
     let before = (c.widen_for.ensures.below e.step e.above e.way_is).1 in
-    c.requires.low e.step e.above e.way_is (c.widen_for.ensures.full.0 full) (ap length (sym before) ∙ long ∙ ap (λ (k : ℕ). 2 * k) m.leaf)
+    c.requires.low e.step e.above e.way_is (c.widen_for.ensures.full.0 full) (ap length (sym before) ∙ long ∙ ap (λ (k : ℕ). 2 * k) (leaf_same (goal.at.split_entry-requires-clause-low c).After-widen_for))
 
 pub split_entry-requires-clause-bytes : goal.split_entry-requires-clause-bytes
 split_entry-requires-clause-bytes c =
     let here = (goal.at.split_entry-requires-clause-bytes c).After-widen_for in
     let left = c.widen_for.ensures.spends.bytes_left in
-    omega (arith, left, rows here, (widened here).leaf, c.requires.bytes)
+    omega (arith, left, rows here, leaf_same here, c.requires.bytes)
 
 pub split_entry-requires-clause-short : goal.split_entry-requires-clause-short
 split_entry-requires-clause-short c =
     let here = (goal.at.split_entry-requires-clause-short c).After-widen_for in
     let grown = c.widen_for.ensures.spends.grown in
-    omega (arith, grown, rows here, (widened here).leaf, c.requires.small)
+    omega (arith, grown, rows here, leaf_same here, c.requires.small)
 
 pub put_entry-requires-clause-entry : goal.put_entry-requires-clause-entry
 put_entry-requires-clause-entry c =
@@ -68,7 +72,7 @@ returns-then-is_full-clause-put c =
 pub returns-then-is_full-clause-spends : goal.returns-then-is_full-clause-spends
 returns-then-is_full-clause-spends c =
     let here = (goal.at.returns-then-is_full-clause-spends c).After-widen_for in
-    spends_within c.args.image.now c.split_entry.new.image _ _ _ _ (omega (arith, rows here, (widened here).leaf)) (omega arith)
+    spends_within c.args.image.now c.split_entry.new.image _ _ _ _ (omega (arith, rows here, leaf_same here)) (omega arith)
     (spends_then c.args.image.now c.widen_for.new.image c.split_entry.new.image _ _ _ _ c.widen_for.ensures.spends c.split_entry.ensures.spends)
 
 pub returns-else-is_full-clause-put : goal.returns-else-is_full-clause-put

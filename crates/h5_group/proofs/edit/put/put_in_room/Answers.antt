@@ -2,6 +2,7 @@ use Rattle.std.proofs.Common.{ℕ, List, [], ◌++◌, ap, ◌∙◌, arith}
 use Rattle.h5_bytes.specs.declared.Block.{Block}
 use Rattle.h5_model.specs.Format.Rows.{Node}
 use Rattle.h5_model.specs.Format.Symbols.{Target}
+use Rattle.h5_model.proofs.KLaws.{same_leaf}
 use Rattle.h5_space.specs.Space.{Space}
 use Rattle.h5_space.proofs.MovesLaws.{spends_then, spends_within}
 use Rattle.h5_heap.specs.Writing.Links.{leads_of, name_and_leads, target_link, target_of_leads}
@@ -38,21 +39,21 @@ put_below-requires-clause-way c =
     let (links, blocks, g, new) = c.requires.group in
     let m = c.add_texts-symbol.ensures.added links [] blocks g in
     way_stays c.args.image.now c.args.table links [] blocks g c.args.link.now.name.now c.add_texts-symbol.new.image links
-    (offsets_of (entry_from c.add_texts-symbol.result) ++ []) m.blocks m.group m.internal (c.add_texts-symbol.ensures.nodes links [] blocks g) c.in-Some.way c.in-Some.ensures.sought
+    (offsets_of (entry_from c.add_texts-symbol.result) ++ []) m.blocks m.group m.k (c.add_texts-symbol.ensures.nodes links [] blocks g) c.in-Some.way c.in-Some.ensures.sought
 
 pub put_below-requires-clause-low : goal.put_below-requires-clause-low
 put_below-requires-clause-low c =
     let (links, blocks, g, new) = c.requires.group in
     let m = c.add_texts-symbol.ensures.added links [] blocks g in
     low_still c.args.image.now c.add_texts-symbol.new.image c.args.table links [] blocks g c.args.link.now.name.now links
-    (offsets_of (entry_from c.add_texts-symbol.result) ++ []) m.blocks m.group m.internal m.leaf (c.add_texts-symbol.ensures.nodes links [] blocks g)
+    (offsets_of (entry_from c.add_texts-symbol.result) ++ []) m.blocks m.group m.k (c.add_texts-symbol.ensures.nodes links [] blocks g)
     c.add_texts-symbol.ensures.entries c.in-Some.way c.in-Some.ensures.sought c.requires.deep
 
 pub put_below-requires-clause-bytes : goal.put_below-requires-clause-bytes
 put_below-requires-clause-bytes c =
     let (links, blocks, g, new) = c.requires.group in
     let m = c.add_texts-symbol.ensures.added links [] blocks g in
-    room_left c.args.image.now c.add_texts-symbol.new.image c.args.table (span (name_and_leads c.args.link.now)) c.add_texts-symbol.ensures.spends m.internal m.leaf _
+    room_left c.args.image.now c.add_texts-symbol.new.image c.args.table (span (name_and_leads c.args.link.now)) c.add_texts-symbol.ensures.spends m.k _
     (few_steps c.args.image.now c.args.table c.args.link.now.name.now c.in-Some.way c.in-Some.ensures.sought) c.requires.bytes
 
 pub put_below-requires-clause-blocks : goal.put_below-requires-clause-blocks
@@ -65,7 +66,7 @@ pub put_below-requires-clause-small : goal.put_below-requires-clause-small
 put_below-requires-clause-small c =
     let (links, blocks, g, new) = c.requires.group in
     let m = c.add_texts-symbol.ensures.added links [] blocks g in
-    still_small c.args.image.now c.add_texts-symbol.new.image c.args.table (span (name_and_leads c.args.link.now)) c.add_texts-symbol.ensures.spends m.internal m.leaf _
+    still_small c.args.image.now c.add_texts-symbol.new.image c.args.table (span (name_and_leads c.args.link.now)) c.add_texts-symbol.ensures.spends m.k _
     (few_steps c.args.image.now c.args.table c.args.link.now.name.now c.in-Some.way c.in-Some.ensures.sought) c.requires.small
 
 pub put_first_entry-requires-clause-entry : goal.put_first_entry-requires-clause-entry
@@ -76,7 +77,7 @@ put_first_entry-requires-clause-empty c =
     let (links, blocks, g, new) = c.requires.group in
     let m = c.add_texts-symbol.ensures.added links [] blocks g in
     ap (λ (n : Node). n.children) (root_stays c.args.image.now c.args.table links [] blocks g c.args.link.now.name.now c.add_texts-symbol.new.image links
-    (offsets_of (entry_from c.add_texts-symbol.result) ++ []) m.blocks m.group m.internal (c.add_texts-symbol.ensures.nodes links [] blocks g))
+    (offsets_of (entry_from c.add_texts-symbol.result) ++ []) m.blocks m.group m.k (c.add_texts-symbol.ensures.nodes links [] blocks g))
     ∙ c.in-None.ensures.none
 
 pub put_first_entry-requires-clause-bytes : goal.put_first_entry-requires-clause-bytes
@@ -84,14 +85,14 @@ put_first_entry-requires-clause-bytes c =
     let (links, blocks, g, new) = c.requires.group in
     let m = c.add_texts-symbol.ensures.added links [] blocks g in
     let left = c.add_texts-symbol.ensures.spends.bytes_left in
-    omega (arith, left, m.leaf, c.requires.bytes)
+    omega (arith, left, same_leaf c.add_texts-symbol.new.image.bytes c.args.image.now.bytes m.k, c.requires.bytes)
 
 pub put_first_entry-requires-clause-short : goal.put_first_entry-requires-clause-short
 put_first_entry-requires-clause-short c =
     let (links, blocks, g, new) = c.requires.group in
     let m = c.add_texts-symbol.ensures.added links [] blocks g in
     let grown = c.add_texts-symbol.ensures.spends.grown in
-    omega (arith, grown, m.leaf, c.requires.small)
+    omega (arith, grown, same_leaf c.add_texts-symbol.new.image.bytes c.args.image.now.bytes m.k, c.requires.small)
 
 pub returns-in-Some-clause-put : goal.returns-in-Some-clause-put
 returns-in-Some-clause-put c = link_there (goal.at.returns-in-Some-clause-put c).After-add_texts-symbol c.put_below.new.image c.put_below.ensures.put
@@ -100,7 +101,7 @@ pub returns-in-Some-clause-spends : goal.returns-in-Some-clause-spends
 returns-in-Some-clause-spends c =
     let (links, blocks, g, new) = c.requires.group in
     let m = c.add_texts-symbol.ensures.added links [] blocks g in
-    spent_then c.args.image.now c.add_texts-symbol.new.image c.args.table (span (name_and_leads c.args.link.now)) c.add_texts-symbol.ensures.spends m.internal m.leaf _
+    spent_then c.args.image.now c.add_texts-symbol.new.image c.args.table (span (name_and_leads c.args.link.now)) c.add_texts-symbol.ensures.spends m.k _
     (few_steps c.args.image.now c.args.table c.args.link.now.name.now c.in-Some.way c.in-Some.ensures.sought) c.put_below.new.image c.put_below.ensures.spends
 
 pub returns-in-None-clause-put : goal.returns-in-None-clause-put
@@ -110,5 +111,5 @@ pub returns-in-None-clause-spends : goal.returns-in-None-clause-spends
 returns-in-None-clause-spends c =
     let (links, blocks, g, new) = c.requires.group in
     let m = c.add_texts-symbol.ensures.added links [] blocks g in
-    spends_within c.args.image.now c.put_first_entry.new.image _ _ _ _ (omega (arith, m.leaf)) (omega arith)
+    spends_within c.args.image.now c.put_first_entry.new.image _ _ _ _ (omega (arith, same_leaf c.add_texts-symbol.new.image.bytes c.args.image.now.bytes m.k)) (omega arith)
     (spends_then c.args.image.now c.add_texts-symbol.new.image c.put_first_entry.new.image _ _ _ _ c.add_texts-symbol.ensures.spends c.put_first_entry.ensures.spends)

@@ -37,8 +37,5 @@ returns-clause-group c = (moved (goal.at.returns-clause-group c).After-put_in_ro
 pub returns-clause-moves : goal.returns-clause-moves
 returns-clause-moves c = (moved (goal.at.returns-clause-moves c).After-put_in_room).2.moves
 
-pub returns-clause-leaf : goal.returns-clause-leaf
-returns-clause-leaf c = (moved (goal.at.returns-clause-leaf c).After-put_in_room).2.leaf
-
-pub returns-clause-internal : goal.returns-clause-internal
-returns-clause-internal c = (moved (goal.at.returns-clause-internal c).After-put_in_room).2.internal
+pub returns-clause-k : goal.returns-clause-k
+returns-clause-k c = (moved (goal.at.returns-clause-k c).After-put_in_room).2.k

@@ -39,11 +39,8 @@ returns-clause-group c = (moved (goal.at.returns-clause-group c).After-take_link
 pub returns-clause-moves : goal.returns-clause-moves
 returns-clause-moves c = (moved (goal.at.returns-clause-moves c).After-take_link c.requires.there.0 c.requires.there.1).2.moves
 
-pub returns-clause-leaf : goal.returns-clause-leaf
-returns-clause-leaf c = (moved (goal.at.returns-clause-leaf c).After-take_link c.requires.there.0 c.requires.there.1).2.leaf
-
-pub returns-clause-internal : goal.returns-clause-internal
-returns-clause-internal c = (moved (goal.at.returns-clause-internal c).After-take_link c.requires.there.0 c.requires.there.1).2.internal
+pub returns-clause-k : goal.returns-clause-k
+returns-clause-k c = (moved (goal.at.returns-clause-k c).After-take_link c.requires.there.0 c.requires.there.1).2.k
 
 pub returns-clause-freed : goal.returns-clause-freed
 returns-clause-freed c =
