@@ -1,6 +1,9 @@
 -- No image has room for so many chunks that a tree with half full upper nodes gets too deep (File Format Specification 3.0, section
 -- III.A.1).
-use Rattle.std.proofs.Common.{◌≡◌, ℕ, zero, suc, ◌+◌, ◌*◌, ◌^◌, ◌<◌, ◌≤◌, ◌⊎◌, Bool, List, [], ◌∷◌, length, map, inl, inr, ap, subst, arith, append-nil}
+use Rattle.std.proofs.Common.{◌≡◌, ℕ, zero, suc, ◌+◌, ◌-◌, ◌*◌, ◌^◌, ◌<◌, ◌≤◌, ◌⊎◌, ◌∙◌, Bool, true, List, [], ◌∷◌, length, map, inl, inr, ap, subst, arith, append-nil}
+use Rattle.std.proofs.Math.Nat.{mul-le-mul_left, mul_assoc, pow-succ', pow-zero}
+use Rattle.std.proofs.lemmas.Bool.{cases_lt}
+use Rattle.std.proofs.lemmas.Bool.Decides.{nat_tests}
 use Rattle.std.proofs.lemmas.List.{length-map}
 use Rattle.std.specs.List.{AllByRecursion}
 use Rattle.h5_bytes.specs.Blocks.{Inside, block, cover, holds}
@@ -10,15 +13,16 @@ use Rattle.h5_model.specs.Format.Chunks.{Chunks}
 use Rattle.h5_model.specs.Format.Rows.{Reading, leaves}
 use Rattle.h5_model.specs.Format.Nodes.{node_at, tree_blocks}
 use Rattle.h5_model.specs.Format.Reached.{Shape, shape_kind}
-use Rattle.h5_model.specs.Format.Superblock.{superblock_length}
+use Rattle.h5_model.specs.Format.Superblock.{chunk_k, superblock_length}
+use Rattle.h5_model.proofs.KLaws.{same_chunk}
 use Rattle.h5_space.specs.Space.{Space}
 use Rattle.h5_btree.specs.Descent.{IsWayTo}
 use Rattle.h5_btree.specs.declared.way.Step.{Step}
-use Rattle.h5_chunks.specs.Bushy.{IsBushy, IsBushyBelow}
+use Rattle.h5_chunks.specs.Bushy.{IsBushy, IsBushyBelow, is_low_level}
 use Rattle.h5_chunks.specs.Edited.{AreChunksApart, CanBeStored, HasChunksNow, IsFullAt}
 use Rattle.h5_chunks.specs.Told.{addresses_told, chunk_nodes_told}
 use Rattle.h5_chunks.specs.Way.{chunk_behind}
-use Rattle.h5_chunks.proofs.BushyNodes.{bushy_leaves}
+use Rattle.h5_chunks.proofs.BushyNodes.{bushy_leaves, least_leaves, least_power}
 
 -- ---- blocks that share no byte are no more than there are bytes
 
@@ -92,34 +96,54 @@ module _ (s : Space) (shape : Shape) (root : ℕ) (chunks : AreChunksApart s sha
       omega (arith, apart, parts, once)) in
       omega (arith, few, count)
 
+  abbrev k : ℕ
+  k = chunk_k s.bytes
+
   -- where the way is full the root is
   root_full : (behind : List ℕ → Bool) (level : ℕ) (way : List Step) → IsWayTo V behind (suc level) root way
-      → AllByRecursion (λ (step : Step). length (V step.node).children ≡ 64) way → length (V root).children ≡ 64
+      → AllByRecursion (λ (step : Step). length (V step.node).children ≡ 2 * k) way → length (V root).children ≡ 2 * k
   root_full behind level way is full =
-      (all_right (λ (step : Step). length (V step.node).children ≡ 64) is.1 (record { node = root; place = is.0 } ∷ [])
-      (subst (AllByRecursion (λ (step : Step). length (V step.node).children ≡ 64)) is.4 full)).0
+      (all_right (λ (step : Step). length (V step.node).children ≡ 2 * k) is.1 (record { node = root; place = is.0 } ∷ [])
+      (subst (AllByRecursion (λ (step : Step). length (V step.node).children ≡ 2 * k)) is.4 full)).0
 
   -- a full root at level 15 has as many chunks below it as an image has bytes
-  chunks_many : length (V root).children ≡ 64 → IsBushyBelow V 32 10 15 root → 2147483648 ≤ length (leaves V 15 (root ∷ []))
-  chunks_many full bushy =
+  chunks_many : (low : ℕ) → 1073741824 ≤ k ^ (16 - low) → length (V root).children ≡ 2 * k → IsBushyBelow V k low 15 root
+      → 2147483648 ≤ length (leaves V 15 (root ∷ []))
+  chunks_many low power full bushy =
       let row = (V root).children in
-      let below : length row * 33554432 ≤ length (leaves V 14 row) = bushy_leaves V 32 10 14 row bushy in
+      let all = least_leaves V k low 14 in
+      let below : length row * all ≤ length (leaves V 14 row) = bushy_leaves V k low 14 row bushy in
       let same : length (leaves V 15 (root ∷ [])) ≡ length (leaves V 14 row) = ap (λ (ns : List ℕ). length (leaves V 14 ns)) (append-nil row) in
-      omega (arith, below, same, full)
+      let wide : length row * all ≡ 2 * (k * all) = ap (λ n. n * all) full ∙ mul_assoc 2 k all in
+      let least : k * k ^ (15 - low) ≤ k * all = mul-le-mul_left k (least_power V k low 14) in
+      let step : k ^ (16 - low) ≤ k * k ^ (15 - low) = by_low (cases_lt low 16) in
+      omega (arith, below, same, wide, least, step, power)
+    where
+      by_low : (low < 16) ⊎ (16 ≤ low) → k ^ (16 - low) ≤ k * k ^ (15 - low)
+      by_low (inl under) =
+          let more : 16 - low ≡ suc (15 - low) = omega (arith, under) in
+          rw more (omega (arith, pow-succ' k (15 - low)))
+      by_low (inr over) =
+          let none : 16 - low ≡ 0 = omega (arith, over) in
+          let one = ap (λ n. k ^ n) none ∙ pow-zero k in
+          absurd (omega (arith, power, one))
 
 -- A TREE WHOSE ROOT WAS LOW NEVER GETS TOO DEEP
-pub never_full : (s : Space) (shape : Shape) (root : ℕ) (offsets : List ℕ) → AreChunksApart s shape root → CanBeStored shape → length s.bytes ≤ 2 ^ 31
-    → IsBushy s.bytes shape root 10 → IsFullAt s.bytes shape root offsets → ⊥
-never_full s shape root offsets chunks storable short bushy full =
+pub never_full : (s : Space) (shape : Shape) (root low : ℕ) (offsets : List ℕ) → AreChunksApart s shape root → CanBeStored shape → length s.bytes ≤ 2 ^ 31
+    → is_low_level (chunk_k s.bytes) low ≡ true → IsBushy s.bytes shape root low → IsFullAt s.bytes shape root offsets → ⊥
+never_full s shape root low offsets chunks storable short is_low bushy full =
     let some = storable.some in
     let V = node_at s.bytes (shape_kind s.bytes shape) in
+    let k = chunk_k s.bytes in
+    let power : 1073741824 ≤ k ^ (16 - low) = grind (arith, nat_tests, is_low) in
     let few = chunks_few s shape root chunks some in
     let wide = root_full s shape root chunks some (chunk_behind offsets) 14 full.way full.sought full.nodes in
-    let many = chunks_many s shape root chunks some wide (subst (λ (l : ℕ). IsBushyBelow V 32 10 l root) full.high bushy) in
+    let many = chunks_many s shape root chunks some low power wide (subst (λ (l : ℕ). IsBushyBelow V k low l root) full.high bushy) in
     let same : length (addresses_told s.bytes shape root) ≡ length (leaves V 15 (root ∷ [])) = ap (λ (l : ℕ). length (leaves V l (root ∷ []))) full.high in
     omega (arith, few, many, same, short)
 
 -- so it stays after each chunk that is stored
-pub never_full_now : (old new : Space) (shape : Shape) (root : ℕ) (chunks : Chunks) (offsets : List ℕ) → HasChunksNow old new shape root chunks → CanBeStored shape
-    → length new.bytes ≤ 2 ^ 31 → IsBushy new.bytes shape root 10 → IsFullAt new.bytes shape root offsets → ⊥
-never_full_now old new shape root chunks offsets now storable short bushy full = never_full new shape root offsets now.stand storable short bushy full
+pub never_full_now : (old new : Space) (shape : Shape) (root low : ℕ) (chunks : Chunks) (offsets : List ℕ) → HasChunksNow old new shape root chunks → CanBeStored shape
+    → length new.bytes ≤ 2 ^ 31 → is_low_level (chunk_k old.bytes) low ≡ true → IsBushy new.bytes shape root low → IsFullAt new.bytes shape root offsets → ⊥
+never_full_now old new shape root low chunks offsets now storable short is_low bushy full =
+    never_full new shape root low offsets now.stand storable short (ap (λ k. is_low_level k low) (same_chunk new.bytes old.bytes now.k) ∙ is_low) bushy full

@@ -1,6 +1,6 @@
 -- Nodes of trees of chunks that are at least half full, by what is read at each address (File Format Specification 3.0, section III.A.1).
-use Rattle.std.proofs.Common.{◌≡◌, inl, inr, ℕ, zero, suc, ◌+◌, ◌*◌, ◌<◌, ◌≤◌, Bool, true, false, List, [], ◌∷◌, length, refl, sym, subst, arith, suc-mul}
-use Rattle.std.proofs.Math.Nat.{mul-le-mul_right, mul_assoc}
+use Rattle.std.proofs.Common.{◌≡◌, inl, inr, ℕ, zero, suc, ◌+◌, ◌-◌, ◌*◌, ◌^◌, ◌<◌, ◌≤◌, Bool, true, false, List, [], ◌∷◌, length, refl, sym, ap, subst, arith, suc-mul}
+use Rattle.std.proofs.Math.Nat.{mul-le-mul_left, mul-le-mul_right, mul_assoc, pow-succ', pow-zero}
 use Rattle.std.proofs.lemmas.Bool.Decides.{nat_tests}
 use Rattle.std.proofs.lemmas.List.{length-append}
 use Rattle.std.specs.Bool.{⊤}
@@ -47,6 +47,23 @@ module _ (V : Reading) (k low : ℕ) where
   abbrev pub least_leaves : ℕ → ℕ
   least_leaves zero = least_children k low 0
   least_leaves (suc level) = least_children k low (suc level) * least_leaves level
+
+  first_power : (b : Bool) → nat_le low 0 ≡ b → k ^ (1 - low) ≤ (if b then k else 1)
+  first_power true is = let one : 1 - low ≡ 1 = grind (arith, nat_tests, is) in rw one (let all : k ^ 1 ≤ k = omega (arith, pow-succ' k 0, ap (λ n. k * n) (pow-zero k)) in all)
+  first_power false is = let none : 1 - low ≡ 0 = grind (arith, nat_tests, is) in rw none (omega (arith, pow-zero k))
+
+  next_power : (level least : ℕ) (b : Bool) → nat_le low (suc level) ≡ b → k ^ (suc level - low) ≤ least → k ^ (suc (suc level) - low) ≤ (if b then k else 1) * least
+  next_power level least true is below =
+      let more : suc (suc level) - low ≡ suc (suc level - low) = grind (arith, nat_tests, is) in
+      rw more (omega (arith, pow-succ' k (suc level - low), mul-le-mul_left k below))
+  next_power level least false is below =
+      let same : suc (suc level) - low ≡ suc level - low = grind (arith, nat_tests, is) in
+      rw same (omega (arith, below))
+
+  -- K for each level from that one up
+  pub least_power : (level : ℕ) → k ^ (suc level - low) ≤ least_leaves level
+  least_power zero = first_power (nat_le low 0) refl
+  least_power (suc level) = next_power level (least_leaves level) (nat_le low (suc level)) refl (least_power level)
 
   row_long : (n : ℕ) (row : List ℕ) → AllByRecursion (λ node. n ≤ length (V node).children) row → length row * n ≤ length (next_row V row)
   row_long n [] all = omega arith

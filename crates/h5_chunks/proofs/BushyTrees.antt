@@ -10,8 +10,10 @@ use Rattle.h5_bytes.specs.declared.Block.{Block}
 use Rattle.h5_bytes.proofs.BlockLaws.{all_left, cover-append}
 use Rattle.h5_model.specs.Format.Chunks.{Chunks}
 use Rattle.h5_model.specs.Format.Rows.{Node, Reading, nodes, row_below}
-use Rattle.h5_model.specs.Format.Nodes.{HasTree, Kind, node_at, node_of, tree_blocks}
+use Rattle.h5_model.specs.Format.Nodes.{HasTree, Kind, chunk_kind, node_at, node_of, tree_blocks}
 use Rattle.h5_model.specs.Format.Reached.{Shape, level_at, shape_kind}
+use Rattle.h5_model.specs.Format.Superblock.{chunk_k}
+use Rattle.h5_model.proofs.KLaws.{same_chunk}
 use Rattle.h5_model.proofs.MapSteps.{entries-empty}
 use Rattle.h5_model.proofs.OneTree.{level_is}
 use Rattle.h5_laws.proofs.Lists.{In, all_in}
@@ -25,6 +27,7 @@ use Rattle.h5_chunks.specs.Read.{AreChunksRead}
 use Rattle.h5_chunks.specs.Told.{addresses_told, chunk_nodes_told, chunks_told}
 use Rattle.h5_chunks.proofs.BushyNodes.{IsBushyNode, bushy_same, least_is_one}
 use Rattle.h5_chunks.proofs.ChunkFound.{items_are, stored_there, top}
+use Rattle.h5_chunks.proofs.SuperblockStays.{k_stays, superblock_of}
 use Rattle.h5_chunks.proofs.KeysRise.{some_children, some_under}
 
 -- by the level that the tree has
@@ -81,15 +84,17 @@ nodes_kept old new kind [] kept n at = absurd at
 nodes_kept old new kind (m ∷ ns) kept n (inl same) = subst (λ (a : ℕ). node_at new kind a ≡ node_at old kind a) same (ap (node_of kind) kept.0)
 nodes_kept old new kind (m ∷ ns) kept n (inr at) = nodes_kept old new kind ns kept.1 n at
 
-pub bushy_kept : (old new : List ℕ) (shape : Shape) (root low : ℕ) → Keeps old new (tree_blocks (shape_kind old shape) (chunk_nodes_told old shape root))
+pub bushy_kept : (old new : List ℕ) (shape : Shape) (root low : ℕ) → chunk_k new ≡ chunk_k old → Keeps old new (tree_blocks (shape_kind old shape) (chunk_nodes_told old shape root))
     → IsBushy old shape root low → IsBushy new shape root low
-bushy_kept old new shape root low kept is =
+bushy_kept old new shape root low k kept is =
     let kind = shape_kind old shape in
+    let kinds : shape_kind new shape ≡ kind = ap (λ n. chunk_kind n (length shape.sizes)) k in
     let level = level_at old kind root in
     let each = nodes_kept old new kind (chunk_nodes_told old shape root) kept in
     let same : level_at new kind root ≡ level = ap (λ (n : Node). n.level) (each root (root_told level)) in
-    subst (λ (l : ℕ). IsBushyBelow (node_at new kind) kind.k low l root) (sym same)
-    (bushy_same (node_at old kind) (node_at new kind) kind.k low level root (λ n at. ap (λ (o : Node). o.children) (each n at)) is)
+    subst (λ (x : Kind). IsBushyBelow (node_at new x) x.k low (level_at new x root) root) (sym kinds)
+    (subst (λ (l : ℕ). IsBushyBelow (node_at new kind) kind.k low l root) (sym same)
+    (bushy_same (node_at old kind) (node_at new kind) kind.k low level root (λ n at. ap (λ (o : Node). o.children) (each n at)) is))
   where
     root_told : (level : ℕ) → In root (nodes (node_at old (shape_kind old shape)) level (root ∷ []))
     root_told zero = inl refl
@@ -103,7 +108,13 @@ bushy_beside s t shape root low a b chunks moves within is =
     let in_nodes = tree_blocks (shape_kind s.bytes shape) (chunk_nodes_told s.bytes shape root) in
     let in_chunks = map (λ (at : ℕ). block at shape.bytes) (addresses_told s.bytes shape root) in
     let inside = all_left (λ (x : Block). x.at + x.len ≤ length s.bytes) in_nodes in_chunks (chunks.read).inside in
-    bushy_kept s.bytes t.bytes shape root low (moves_kept s t a b in_nodes moves (λ p.
+    let stays = k_stays s t a b [] moves (λ p.
+    let apart = chunks.apart p in
+    let parts = cover-append p in_nodes in_chunks in
+    let both = cover-append p a (superblock_of s ∷ []) in
+    let few = within p in
+    omega (arith, apart, parts, both, few)) chunks.long in
+    bushy_kept s.bytes t.bytes shape root low (same_chunk t.bytes s.bytes stays) (moves_kept s t a b in_nodes moves (λ p.
     let apart = chunks.apart p in
     let parts = cover-append p in_nodes in_chunks in
     let both = cover-append p a in_nodes in

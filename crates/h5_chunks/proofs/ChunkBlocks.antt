@@ -8,6 +8,8 @@ use Rattle.h5_bytes.specs.declared.Block.{Block}
 use Rattle.h5_bytes.proofs.BlockLaws.{all_append, all_right, cover-append}
 use Rattle.h5_model.specs.Format.Nodes.{HasTree, Kind, node_block, tree_blocks}
 use Rattle.h5_model.specs.Format.Reached.{Shape, shape_kind}
+use Rattle.h5_model.specs.Format.Superblock.{k_values}
+use Rattle.h5_model.proofs.KLaws.{same_chunk, same_length}
 use Rattle.h5_laws.specs.KeyEdits.{IsPut}
 use Rattle.h5_space.specs.Moves.{Moves}
 use Rattle.h5_space.specs.Space.{Space}
@@ -21,6 +23,7 @@ use Rattle.h5_chunks.specs.Told.{chunk_blocks_told, chunks_told, listed_told}
 use Rattle.h5_chunks.proofs.InsertedChunk.{IsChunkBefore, read_with, told_with}
 use Rattle.h5_chunks.proofs.KeyedTold.{IsOrderedTree, ordered_tree}
 use Rattle.h5_chunks.proofs.Stored.{blocks_are}
+use Rattle.h5_chunks.proofs.SuperblockStays.{superblock_of}
 
 -- the blocks of chunks with one more
 cover-insert : (p bytes : ℕ) (list : List ℕ) (j chunk : ℕ) → cover p (map (λ (at : ℕ). block at bytes) (insert list j chunk)) ≡ holds p chunk bytes + cover p (map (λ (at : ℕ). block at bytes) list)
@@ -33,18 +36,31 @@ cover-insert p bytes list j chunk =
     = ap (λ (xs : List ℕ). cover p (map f xs)) (sym (take-append-drop j list)) ∙ ap (cover p) (map-append f (take j list) (drop j list)) in
     omega (arith, new, old, cover-append p front (f chunk ∷ back), cover-append p front back)
 
+-- the nodes of the tree are apart from the superblock
+pub nodes_beside : (s : Space) (shape : Shape) (root chunk : ℕ) (beside : IsBlockBeside s shape root chunk)
+    → IsApart (tree_blocks (shape_kind s.bytes shape) (beside.read.stored).owned ++ (superblock_of s ∷ [])) s.free (length s.bytes)
+nodes_beside s shape root chunk beside p =
+    let owned = tree_blocks (shape_kind s.bytes shape) (beside.read.stored).owned in
+    let chunks = map (λ (at : ℕ). block at shape.bytes) (values (chunks_told s.bytes shape root)) in
+    let laid = ap (cover p) (beside.read.stored).laid in
+    omega (arith, beside.apart p, laid, cover-append p owned chunks, cover-append p owned (superblock_of s ∷ []))
+
 -- ---- a chunk has come in
 
 module _ (s t : Space) (shape : Shape) (root chunk : ℕ) (beside : IsBlockBeside s shape root chunk) (some : 1 ≤ shape.bytes) (owned list : List ℕ)
     (laid : (p : ℕ) → cover p (chunk_blocks_told s.bytes shape root)
     ≡ cover p (tree_blocks (shape_kind s.bytes shape) owned ++ map (λ (at : ℕ). block at shape.bytes) list))
     (same : values (chunks_told s.bytes shape root) ≡ list)
-    (height : ℕ) (all : List ℕ) (j : ℕ) (moved : Moves s t (tree_blocks (shape_kind s.bytes shape) owned) (tree_blocks (shape_kind s.bytes shape) all))
-    (has : HasTree t.bytes (shape_kind s.bytes shape) root height all (insert list j chunk))
-    (ordered : IsOrderedTree t.bytes shape root height all (insert list j chunk) has)
+    (height : ℕ) (all : List ℕ) (j : ℕ) (k : k_values t.bytes ≡ k_values s.bytes)
+    (moved : Moves s t (tree_blocks (shape_kind s.bytes shape) owned) (tree_blocks (shape_kind t.bytes shape) all))
+    (has : HasTree t.bytes (shape_kind t.bytes shape) root height all (insert list j chunk))
+    (ordered : IsOrderedTree (shape_kind t.bytes shape) t.bytes shape root height all (insert list j chunk) has)
     (offsets : List ℕ) (more : IsPut IsChunkBefore (offsets, chunk) (listed_told s.bytes shape root) (listed_told t.bytes shape root)) where
   abbrev kind : Kind
   kind = shape_kind s.bytes shape
+
+  abbrev kind' : Kind
+  kind' = shape_kind t.bytes shape
 
   abbrev list' : List ℕ
   list' = insert list j chunk
@@ -53,7 +69,7 @@ module _ (s t : Space) (shape : Shape) (root chunk : ℕ) (beside : IsBlockBesid
   T = tree_blocks kind owned
 
   abbrev T' : List Block
-  T' = tree_blocks kind all
+  T' = tree_blocks kind' all
 
   abbrev chunks : List Block
   chunks = map (λ (at : ℕ). block at shape.bytes) list
@@ -62,7 +78,7 @@ module _ (s t : Space) (shape : Shape) (root chunk : ℕ) (beside : IsBlockBesid
   new = block chunk shape.bytes
 
   abbrev superblock : Block
-  superblock = block 0 96
+  superblock = superblock_of s
 
   abbrev now : List Block
   now = nodes_blocks t.bytes (OfChunks shape) all list'
@@ -82,7 +98,7 @@ module _ (s t : Space) (shape : Shape) (root chunk : ℕ) (beside : IsBlockBesid
   inside_now : Inside (length t.bytes) now
   inside_now = inside_held (length t.bytes) now (λ p. omega (arith, apart_now p))
       (all_append (λ (b : Block). 1 ≤ b.len) T' (map (λ (at : ℕ). block at shape.bytes) list')
-      (made_long (node_block kind) all (λ n. omega arith)) (made_long (λ (at : ℕ). block at shape.bytes) list' (λ n. some)))
+      (made_long (node_block kind') all (λ n. omega arith)) (made_long (λ (at : ℕ). block at shape.bytes) list' (λ n. some)))
 
   now_told : now ≡ chunk_blocks_told t.bytes shape root
   now_told = blocks_are t.bytes shape root all list' (ordered_tree t.bytes shape root height all list' has ordered)
@@ -104,14 +120,16 @@ module _ (s t : Space) (shape : Shape) (root chunk : ℕ) (beside : IsBlockBesid
   -- THE CHUNK IS PUT IN
   pub chunk_put : HasChunkPut s t shape root offsets chunk
   chunk_put = record {
-    told = told_with s.bytes t.bytes shape root beside.read height all list' has ordered offsets chunk more;
+    told = told_with s.bytes t.bytes shape root (same_chunk t.bytes s.bytes k) beside.read height all list' has ordered offsets chunk more;
     stand = record {
-      read = read_with s.bytes t.bytes shape root beside.read height all list' has ordered offsets chunk more inside_now;
-      apart = subst (λ (bs : List Block). IsApart (superblock ∷ bs) t.free (length t.bytes)) now_told apart_now;
-      long = let grown = moved.grown in let old = beside.long in omega (arith, grown, old);
+      read = read_with s.bytes t.bytes shape root (same_chunk t.bytes s.bytes k) beside.read height all list' has ordered offsets chunk more inside_now;
+      apart = subst (λ n. IsApart (block 0 n ∷ chunk_blocks_told t.bytes shape root) t.free (length t.bytes)) (sym (same_length t.bytes s.bytes k))
+          (subst (λ (bs : List Block). IsApart (superblock ∷ bs) t.free (length t.bytes)) now_told apart_now);
+      long = let grown = moved.grown in let old = beside.long in let same = same_length t.bytes s.bytes k in omega (arith, grown, old, same);
     };
     moves = subst (λ (bs : List Block). Moves s t (new ∷ chunk_blocks_told s.bytes shape root) bs) now_told
         (moves_same s t (T ++ new ∷ chunks) (T' ++ new ∷ chunks) (new ∷ chunk_blocks_told s.bytes shape root) now
         (λ p. omega (arith, laid p, cover-append p T chunks, cover-append p T (new ∷ chunks))) now_is (moves_beside s t T T' (new ∷ chunks) moved));
+    k = k;
     kept = all_kept;
   }

@@ -19,6 +19,7 @@ use Rattle.h5_model.specs.Format.Rows.{Node, Reading, leaves, next_row, row_belo
 use Rattle.h5_model.specs.Format.Nodes.{HasTree, chunk_kind, node_at, reading_of, tree_blocks}
 use Rattle.h5_model.specs.Format.Chunks.{Chunks, IsChunkKey, IsChunkOrdered, all_offsets_in, chunks_at, chunks_in, offsets_in}
 use Rattle.h5_model.specs.Format.Reached.{Shape, shape_kind, level_at}
+use Rattle.h5_model.specs.Format.Superblock.{chunk_k}
 use Rattle.h5_model.proofs.OneTree.{level_is}
 use Rattle.h5_laws.specs.Ladders.{IsOrderedBy, items_under}
 use Rattle.h5_laws.specs.ChunkLadders.{chunk_lists, rising_chunk_sides}
@@ -119,11 +120,11 @@ module _ (image : List ℕ) (shape : Shape) (root : ℕ) (read : AreChunksRead i
       all_left (λ (b : Block). b.at + b.len ≤ length image) (tree_blocks (shape_kind image shape) owned) (map (λ (at : ℕ). block at shape.bytes) (values chunks))
       (subst (Inside (length image)) (read.stored).laid read.inside)
 
-  -- the tree in the bytes of a call, by the rank of what the call seeks
-  pub tree_sought : (bytes : List ℕ) (n : ℕ) → bytes ≡ image → n ≡ length shape.sizes
-      → HasTree bytes (chunk_kind 32 n) root (read.stored).level (read.stored).owned (values (chunks_told image shape root))
-      × Inside (length bytes) (tree_blocks (chunk_kind 32 n) (read.stored).owned)
-  tree_sought bytes n same rank_is = rw (same, rank_is) (stored_there, nodes_inside)
+  -- the tree in the bytes of a call, by the K and the rank of what the call seeks
+  pub tree_sought : (bytes : List ℕ) (k n : ℕ) → bytes ≡ image → k ≡ chunk_k image → n ≡ length shape.sizes
+      → HasTree bytes (chunk_kind k n) root (read.stored).level (read.stored).owned (values (chunks_told image shape root))
+      × Inside (length bytes) (tree_blocks (chunk_kind k n) (read.stored).owned)
+  tree_sought bytes k n same k_is rank_is = rw (same, k_is, rank_is) (stored_there, nodes_inside)
 
   pub top : level_at image (shape_kind image shape) root ≡ level
   top = level_is image (shape_kind image shape) root level owned (values chunks) stored_there

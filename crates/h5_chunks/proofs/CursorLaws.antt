@@ -1,12 +1,13 @@
--- A cursor of a tree of chunks stays one where the bytes of the tree's nodes stay.
-use Rattle.std.proofs.Common.{◌≡◌, ℕ, List, [], ◌∷◌, map, Option, Some, None, sym, ap, ◌∙◌, subst}
+-- A cursor of a tree of chunks stays one where the bytes of the tree's nodes stay, and K.
+use Rattle.std.proofs.Common.{◌≡◌, ℕ, List, [], ◌∷◌, length, map, Option, Some, None, sym, ap, ◌∙◌, subst}
 use Rattle.std.specs.FinMap.{values}
 use Rattle.std.specs.List.{Contains}
 use Rattle.h5_bytes.specs.Blocks.{IsKept, Keeps, block}
 use Rattle.h5_bytes.proofs.BlockLaws.{all_left}
-use Rattle.h5_model.specs.Format.Nodes.{HasTree, Kind, node_at, reading_of, tree_blocks}
+use Rattle.h5_model.specs.Format.Nodes.{HasTree, Kind, chunk_kind, node_at, reading_of, tree_blocks}
 use Rattle.h5_model.specs.Format.Reached.{Shape, level_at, shape_kind}
 use Rattle.h5_model.specs.Format.Rows.{Reading, row_below}
+use Rattle.h5_model.specs.Format.Superblock.{chunk_k}
 use Rattle.h5_model.proofs.Frames.{reading-same, tree-same}
 use Rattle.h5_model.proofs.OneTree.{level_is, owned_is}
 use Rattle.h5_model.proofs.RowLaws.{row_below-same}
@@ -29,7 +30,7 @@ bottom_read image kind root level owned children tree =
     row_below-same V (reading_of image kind owned) level (root ∷ []) same
     ∙ ap (λ (l : ℕ). row_below V l (root ∷ [])) (sym (level_is image kind root level owned children tree))
 
-module _ (old new : List ℕ) (shape : Shape) (root : ℕ) (read : AreChunksRead old shape root) where
+module _ (old new : List ℕ) (shape : Shape) (root : ℕ) (k : chunk_k new ≡ chunk_k old) (read : AreChunksRead old shape root) where
   -- where the bytes of the tree's nodes stay, whatever is written into its chunks
   module _ (kept : Keeps old new (tree_blocks (shape_kind old shape) (read.stored).owned)) where
     bottom_stays : bottom_row new (shape_kind new shape) root ≡ bottom_row old (shape_kind old shape) root
@@ -40,7 +41,7 @@ module _ (old new : List ℕ) (shape : Shape) (root : ℕ) (read : AreChunksRead
         let children : List ℕ = values (chunks_told old shape root) in
         let there : HasTree old kind root level owned children = (read.stored).tree in
         let here : HasTree new kind root level owned children = tree-same old new kind owned kept root level children there in
-        sym (bottom_read new kind root level owned children here)
+        ap (λ n. bottom_row new (chunk_kind n (length shape.sizes)) root) k ∙ sym (bottom_read new kind root level owned children here)
         ∙ ap (λ (V : Reading). row_below V level (root ∷ [])) (reading-same old new kind owned kept)
         ∙ bottom_read old kind root level owned children there
 

@@ -36,7 +36,7 @@ module _ (image : List ℕ) (shape : Shape) (level at : ℕ) (r : IsInSomeRow im
       at_listed (IsNodeAt image (OfChunks shape)) r.0 at (each_node image (OfChunks shape) r.0 (r.2).formed (r.2).inside)
       (owned_here image kind r.0 level at (r.2).low (level_in_row image kind r.0 level r.1 at r.2))
 
-  pub some_long : 20 ≤ length image
+  pub some_long : 26 ≤ length image
   some_long = omega (arith, some_stands.inside)
 
   module _ (node : Node) (is : node ≡ node_at image kind at) where

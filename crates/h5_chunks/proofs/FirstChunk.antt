@@ -10,6 +10,8 @@ use Rattle.h5_model.specs.Format.Reached.{Shape, shape_kind}
 use Rattle.h5_model.proofs.TextOrder.{before_le, not_after_itself}
 use Rattle.h5_laws.specs.ChunkLadders.{rising_chunk_sides}
 use Rattle.h5_laws.specs.KeyEdits.{IsPut}
+use Rattle.h5_model.specs.Format.Superblock.{k_values}
+use Rattle.h5_space.specs.Moves.{Moves}
 use Rattle.h5_space.specs.Space.{Space}
 use Rattle.h5_btree.specs.Insertion.{IsChildPut, IsEmptyTree}
 use Rattle.h5_btree.specs.Keyed.{items_of_tree}
@@ -17,11 +19,12 @@ use Rattle.h5_btree.proofs.EmptyTrees.{empty_tree}
 use Rattle.h5_btree.proofs.KeyedFills.{first_sorted}
 use Rattle.h5_chunks.specs.Put.{HasChunkPut, IsBlockBeside}
 use Rattle.h5_chunks.specs.Told.{chunk_blocks_told, chunks_told, listed_told}
-use Rattle.h5_chunks.proofs.ChunkBlocks.{chunk_put}
+use Rattle.h5_chunks.proofs.ChunkBlocks.{chunk_put, nodes_beside}
 use Rattle.h5_chunks.proofs.ChunkFound.{stored_there}
 use Rattle.h5_chunks.proofs.FullWays.{trees_apart}
 use Rattle.h5_chunks.proofs.InsertedChunk.{IsChunkBefore}
-use Rattle.h5_chunks.proofs.KeyedTold.{IsKeyedChunk, IsOrderedTree, chunk_numbers, chunk_of, items_told, keyed_at}
+use Rattle.h5_chunks.proofs.KeyedTold.{IsKeyedChunk, IsOrderedTree, chunk_numbers, chunk_of, items_told-kind, keyed_at, own_order, own_tree}
+use Rattle.h5_chunks.proofs.SuperblockStays.{k_stays, kind_stays}
 use Rattle.h5_chunks.proofs.ToldLaws.{entries_told}
 
 no_entries : (es : List (List ℕ × ℕ)) → map (λ (e : List ℕ × ℕ). e.1) es ≡ [] → es ≡ []
@@ -66,12 +69,21 @@ module _ (s : Space) (shape : Shape) (root chunk : ℕ) (beside : IsBlockBeside 
     own : all_offsets_in rank low ≡ offsets_in rank low ++ 0 ∷ []
     own = chunk_numbers shape.sizes shape.bytes low keyed
 
-    sorted : IsOrderedTree t.bytes shape root 0 all (chunk ∷ []) put.tree × (items_of_tree (chunk_of rank) t.bytes kind keyed_at 0 root ≡ x ∷ [])
+    sorted : IsOrderedTree kind t.bytes shape root 0 all (chunk ∷ []) put.tree × (items_of_tree (chunk_of rank) t.bytes kind keyed_at 0 root ≡ x ∷ [])
     sorted =
         let numbers = offsets_in rank low ++ 0 ∷ [] in
         first_sorted (rising_chunk_sides rank) (chunk_of rank) (IsKeyedChunk shape) x t.bytes kind root keyed_at low high chunk keys children keyed refl
         (subst (λ (ns : List ℕ). NotAfter ns numbers) (sym own) (not_after_itself numbers)) past
         (subst (λ (ns : List ℕ). NotAfter ns (all_offsets_in rank high)) (sym own) (before_le numbers (all_offsets_in rank high) past))
+
+    k_t : k_values t.bytes ≡ k_values s.bytes
+    k_t = k_stays s t (tree_blocks kind owned) (tree_blocks kind all) [] put.moves (nodes_beside s shape root chunk beside) beside.long
+
+    kind_t : shape_kind t.bytes shape ≡ kind
+    kind_t = kind_stays s t shape k_t
+
+    pub first_tree : HasTree t.bytes (shape_kind t.bytes shape) root 0 all (chunk ∷ [])
+    first_tree = own_tree kind t.bytes shape kind_t root 0 all (chunk ∷ []) put.tree sorted.0
 
     none_listed : listed_told s.bytes shape root ≡ []
     none_listed = sym (entries_told s.bytes shape root (chunks_told s.bytes shape root) (chunk_blocks_told s.bytes shape root) beside.read.stored)
@@ -82,7 +94,7 @@ module _ (s : Space) (shape : Shape) (root chunk : ℕ) (beside : IsBlockBeside 
       front = [];
       back = [];
       before = none_listed;
-      after = sym (items_told t.bytes shape root 0 all (chunk ∷ []) put.tree sorted.0) ∙ sorted.1;
+      after = sym (items_told-kind kind t.bytes shape kind_t root 0 all (chunk ∷ []) put.tree sorted.0) ∙ sorted.1;
       above = tt;
       below = tt;
     }
@@ -92,4 +104,6 @@ module _ (s : Space) (shape : Shape) (root chunk : ℕ) (beside : IsBlockBeside 
 
     -- THE FIRST CHUNK is put in
     pub first_put : HasChunkPut s t shape root (offsets_in (length shape.sizes) low) chunk
-    first_put = chunk_put s t shape root chunk beside some owned [] laid is_empty.2 0 all 0 put.moves put.tree sorted.0 (offsets_in rank low) more
+    first_put = chunk_put s t shape root chunk beside some owned [] laid is_empty.2 0 all 0 k_t
+        (subst (λ (k : Kind). Moves s t (tree_blocks kind owned) (tree_blocks k all)) (sym kind_t) put.moves) first_tree
+        (own_order kind t.bytes shape kind_t root 0 all (chunk ∷ []) put.tree sorted.0) (offsets_in rank low) more

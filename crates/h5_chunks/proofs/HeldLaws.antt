@@ -49,7 +49,7 @@ module _ (image : List ℕ) (shape : Shape) (root : ℕ) (read : AreChunksRead i
     inside = nodes_inside image shape root read;
   }
 
-  pub image_long : 20 ≤ length image
+  pub image_long : 26 ≤ length image
   image_long = omega (arith, (root_there image (OfChunks shape) root tree_there).inside)
 
   -- its chunks lie in the image

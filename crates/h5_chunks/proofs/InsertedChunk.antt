@@ -1,5 +1,5 @@
 -- A chunk more in a list of chunks that ascend, and in the map that the list is: and what is then told of a tree in order.
-use Rattle.std.proofs.Common.{◌≡◌, ℕ, zero, suc, List, [], ◌∷◌, ◌++◌, length, refl, sym, ap, ◌∙◌, subst, arith}
+use Rattle.std.proofs.Common.{◌≡◌, ℕ, zero, suc, ◌≤◌, List, [], ◌∷◌, ◌++◌, length, refl, sym, ap, ◌∙◌, subst, arith}
 use Rattle.std.specs.Prelude.{T}
 use Rattle.std.specs.Ordering.{nat_cmp, ordering_reverse, ordering_then}
 use Rattle.std.specs.declared.cmp.Ordering.{Ordering}
@@ -14,6 +14,7 @@ use Rattle.h5_model.specs.Format.Chunks.{Chunks}
 use Rattle.h5_model.specs.Format.Links.{Before}
 use Rattle.h5_model.specs.Format.Nodes.{HasTree}
 use Rattle.h5_model.specs.Format.Reached.{Shape, shape_kind}
+use Rattle.h5_model.specs.Format.Superblock.{chunk_k}
 use Rattle.h5_laws.specs.KeyEdits.{IsPut}
 use Rattle.h5_laws.proofs.Ascending.{less_of}
 use Rattle.h5_btree.specs.Walk.Forms.{OfChunks}
@@ -77,8 +78,8 @@ module _ (k : List ℕ) (v : ℕ) where
 
 -- ---- a tree with a chunk more
 
-module _ (old new : List ℕ) (shape : Shape) (root : ℕ) (read : AreChunksRead old shape root) (level : ℕ) (owned list : List ℕ)
-    (has : HasTree new (shape_kind new shape) root level owned list) (ordered : IsOrderedTree new shape root level owned list has) (offsets : List ℕ) (at : ℕ)
+module _ (old new : List ℕ) (shape : Shape) (root : ℕ) (k : chunk_k new ≡ chunk_k old) (read : AreChunksRead old shape root) (level : ℕ) (owned list : List ℕ)
+    (has : HasTree new (shape_kind new shape) root level owned list) (ordered : IsOrderedTree (shape_kind new shape) new shape root level owned list has) (offsets : List ℕ) (at : ℕ)
     (more : IsPut IsChunkBefore (offsets, at) (listed_told old shape root) (listed_told new shape root)) where
   abbrev chunks : Chunks
   chunks = with_chunk (chunks_told old shape root) offsets at
@@ -99,4 +100,5 @@ module _ (old new : List ℕ) (shape : Shape) (root : ℕ) (read : AreChunksRead
   pub read_with : Inside (length new) (nodes_blocks new (OfChunks shape) owned list) → AreChunksRead new shape root
   read_with inside =
       let order : AreChunksOrdered new shape root owned = record { ascending = ascending; ordered = ordered_nodes new shape root level owned list has ordered } in
-      chunks_read new shape root owned list (ordered_tree new shape root level owned list has ordered) order inside
+      chunks_read new shape root owned list (ordered_tree new shape root level owned list has ordered) order
+      (subst (λ n. 1 ≤ n) (sym k) read.k_some) (subst (λ n. n ≤ 32767) (sym k) read.k_few) inside

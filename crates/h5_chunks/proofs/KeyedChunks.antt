@@ -5,7 +5,7 @@ use Rattle.std.specs.Prelude.{slice_index_or}
 use Rattle.std.specs.List.{AllByRecursion, zip}
 use Rattle.h5_model.specs.Format.Chunks.{IsChunkKey, IsChunkOrdered, chunks_at, offsets_in}
 use Rattle.h5_model.specs.Format.Nodes.{HasTree, Kind, node_at, reading_of}
-use Rattle.h5_model.specs.Format.Reached.{Shape, shape_kind}
+use Rattle.h5_model.specs.Format.Reached.{Shape}
 use Rattle.h5_model.specs.Format.Rows.{Node, Reading, row_below}
 use Rattle.h5_laws.specs.ChunkLadders.{chunk_lists, rising_chunk_sides}
 use Rattle.h5_laws.specs.Ladders.{IsOrderedBy}
@@ -16,8 +16,8 @@ use Rattle.h5_laws.proofs.Subtrees.{read_same}
 use Rattle.h5_btree.specs.Keyed.{AtChild, IsInOrder, at_children, items_of_tree}
 use Rattle.h5_btree.specs.Walk.Forms.{IsKeyed, OfChunks}
 use Rattle.h5_btree.proofs.KeyedOrder.{IsBottomOf, IsNodeInOrder, items-under, nodes_in_order, tree_in_order}
+use Rattle.h5_btree.proofs.KeyedOwn.{keys_count}
 use Rattle.h5_chunks.proofs.KeyedTold.{at_bottom, bottom_level, bottom_owned}
-use Rattle.h5_chunks.proofs.NodeKeys.{one_more_key}
 
 -- a chunk at the bottom, by its key and its address
 abbrev pub keyed_chunk : AtChild (List (List ℕ × ℕ))
@@ -32,9 +32,9 @@ abbrev pub HasShape : Shape → List (List ℕ × ℕ) → Type 0
 HasShape shape keyed = AllByRecursion (λ (e : List ℕ × ℕ). IsChunkKey shape.sizes shape.bytes e.0) keyed
 
 -- the keys of the tree rise and have the chunks of this shape between them
-abbrev pub AreInOrder : List ℕ → Shape → ℕ → ℕ → Type 0
-AreInOrder image shape level root =
-    IsInOrder (rising_chunk_sides (length shape.sizes)) (chunks_of (length shape.sizes)) (HasShape shape) image (shape_kind image shape) keyed_chunk level root
+abbrev pub AreInOrder : Kind → List ℕ → Shape → ℕ → ℕ → Type 0
+AreInOrder kind image shape level root =
+    IsInOrder (rising_chunk_sides (length shape.sizes)) (chunks_of (length shape.sizes)) (HasShape shape) image kind keyed_chunk level root
 
 listed : (rank : ℕ) (keys : List (List ℕ)) (children : List ℕ)
     → map (λ (chunk : List ℕ × ℕ). chunk ∷ []) (zip (map (offsets_in rank) keys) children) ≡ map (chunks_of rank) (at_children keyed_chunk keys children)
@@ -64,10 +64,7 @@ module _ (shape : Shape) where
   each_keyed (key ∷ keys) (c ∷ children) few all zero low = all.0.0
   each_keyed (key ∷ keys) (c ∷ children) few all (suc i) low = each_keyed keys children (omega (arith, few)) all.1 i (omega (arith, low))
 
-module _ (image : List ℕ) (shape : Shape) (root level : ℕ) where
-  abbrev kind : Kind
-  kind = shape_kind image shape
-
+module _ (kind : Kind) (image : List ℕ) (shape : Shape) (root level : ℕ) where
   abbrev rank : ℕ
   rank = length shape.sizes
 
@@ -92,7 +89,7 @@ module _ (image : List ℕ) (shape : Shape) (root level : ℕ) where
     Rises n = IsOrderedBy (rising_chunk_sides rank) V (chunk_lists rank) (V n)
 
     -- A TREE IS IN ORDER where each of its nodes is, and its keys are those of chunks
-    pub chunks_in_order : AllByRecursion Rises owned → AllByRecursion (λ at. IsKeyed (OfChunks shape) (V at)) bottom → AreInOrder image shape level root
+    pub chunks_in_order : AllByRecursion Rises owned → AllByRecursion (λ at. IsKeyed (OfChunks shape) (V at)) bottom → AreInOrder kind image shape level root
     chunks_in_order rises keyed =
         tree_in_order (rising_chunk_sides rank) (chunks_of rank) (HasShape shape) keyed_chunk image kind root level owned list has (chunk_lists rank) (bottom_of rank Y)
         (all_in IsRight owned (λ n there.
@@ -101,10 +98,10 @@ module _ (image : List ℕ) (shape : Shape) (root level : ℕ) where
               (in_all Rises n owned rises there),
           λ low. subst (λ (o : Node). AllByRecursion (HasShape shape) (at_children keyed_chunk o.keys o.children)) (sym same)
               (all_keyed shape (V n).keys (V n).children
-              (in_all (λ at. IsKeyed (OfChunks shape) (V at)) n bottom keyed (at_bottom image shape root level owned list has n there (ap (λ (o : Node). o.level) (sym same) ∙ low)))),
+              (in_all (λ at. IsKeyed (OfChunks shape) (V at)) n bottom keyed (at_bottom kind image shape root level owned list has n there (ap (λ (o : Node). o.level) (sym same) ∙ low)))),
         )))
 
-    module _ (sorted : AreInOrder image shape level root) where
+    module _ (sorted : AreInOrder kind image shape level root) where
       all_right : AllByRecursion IsRight owned
       all_right =
           nodes_in_order (rising_chunk_sides rank) (chunks_of rank) (HasShape shape) keyed_chunk image kind root level owned list has
@@ -121,10 +118,10 @@ module _ (image : List ℕ) (shape : Shape) (root level : ℕ) where
       -- and the keys of the lowest row are those of chunks
       pub chunks_keyed : AllByRecursion (λ at. IsKeyed (OfChunks shape) (V at)) bottom
       chunks_keyed = all_in (λ at. IsKeyed (OfChunks shape) (V at)) bottom (λ n there.
-          let own : In n owned = bottom_owned image shape root level owned list has n there in
+          let own : In n owned = bottom_owned kind image shape root level owned list has n there in
           let same : Y n ≡ V n = read_same image kind root level owned list has n own in
-          let low : (V n).level ≡ 0 = bottom_level image shape root level owned list has n there in
+          let low : (V n).level ≡ 0 = bottom_level kind image shape root level owned list has n there in
           let all : AllByRecursion (HasShape shape) (at_children keyed_chunk (V n).keys (V n).children)
           = subst (λ (o : Node). AllByRecursion (HasShape shape) (at_children keyed_chunk o.keys o.children)) same
           ((in_all IsRight n owned all_right own).1 (ap (λ (o : Node). o.level) same ∙ low)) in
-          each_keyed shape (V n).keys (V n).children (let more = one_more_key image shape n (V n) refl in omega (arith, more)) all)
+          each_keyed shape (V n).keys (V n).children (let more = keys_count image kind n in omega (arith, more)) all)

@@ -23,9 +23,9 @@ use Rattle.h5_btree.specs.Keyed.{AtChild, IsInOrder, at_children, items_of_tree}
 use Rattle.h5_btree.specs.Walk.Forms.{IsKeyed, OfChunks}
 use Rattle.h5_btree.specs.Walk.Trees.{IsTree}
 use Rattle.h5_btree.proofs.KeyedOrder.{IsBottomOf, IsNodeInOrder, items-tree, nodes_in_order, tree_in_order}
+use Rattle.h5_btree.proofs.KeyedOwn.{keys_count}
 use Rattle.h5_btree.proofs.TreeReadings.{Listed, owned_at}
 use Rattle.h5_chunks.specs.Told.{listed_told}
-use Rattle.h5_chunks.proofs.NodeKeys.{one_more_key}
 use Rattle.h5_chunks.proofs.OrderFaults.{listed_is}
 use Rattle.h5_chunks.proofs.Readable.{each_formed}
 use Rattle.h5_chunks.proofs.Stored.{bottom_same, chunks_same}
@@ -76,12 +76,9 @@ chunk_numbers sizes bytes key keyed =
 
 -- ---- a tree in an image
 
-module _ (image : List ℕ) (shape : Shape) (root level : ℕ) (owned list : List ℕ) (has : HasTree image (shape_kind image shape) root level owned list) where
+module _ (kind : Kind) (image : List ℕ) (shape : Shape) (root level : ℕ) (owned list : List ℕ) (has : HasTree image kind root level owned list) where
   abbrev rank : ℕ
   rank = length shape.sizes
-
-  abbrev kind : Kind
-  kind = shape_kind image shape
 
   abbrev V : Reading
   V = node_at image kind
@@ -94,7 +91,7 @@ module _ (image : List ℕ) (shape : Shape) (root level : ℕ) (owned list : Lis
 
   -- its keys are in order, and each chunk has a key of its shape
   abbrev pub IsOrderedTree : Type 0
-  IsOrderedTree = IsInOrder (rising_chunk_sides (length shape.sizes)) (chunk_of (length shape.sizes)) (IsKeyedChunk shape) image (shape_kind image shape) keyed_at level root
+  IsOrderedTree = IsInOrder (rising_chunk_sides (length shape.sizes)) (chunk_of (length shape.sizes)) (IsKeyedChunk shape) image kind keyed_at level root
 
   bottom_is : IsBottomOf (chunk_of rank) keyed_at (chunk_lists rank) Y
   bottom_is n = keyed_listed rank (Y n).keys (Y n).children
@@ -119,9 +116,9 @@ module _ (image : List ℕ) (shape : Shape) (root level : ℕ) (owned list : Lis
       row_level V 0 undefined n bottom (row_is V 0 bottom (rows_below V level 0 level (root ∷ []) (omega arith) (tree_rows image kind root level owned list has))) there
 
   -- IT IS IN ORDER where each node is, and the nodes of level 0 have keys of chunks
-  pub to_order : AllByRecursion (λ at. IsOrderedBy (rising_chunk_sides (length shape.sizes)) (node_at image (shape_kind image shape)) (chunk_lists (length shape.sizes))
-      (node_at image (shape_kind image shape) at)) owned
-      → ((at : ℕ) → In at (row_below (node_at image (shape_kind image shape)) level (root ∷ [])) → IsKeyed (OfChunks shape) (node_at image (shape_kind image shape) at)) → IsOrderedTree
+  pub to_order : AllByRecursion (λ at. IsOrderedBy (rising_chunk_sides (length shape.sizes)) (node_at image kind) (chunk_lists (length shape.sizes))
+      (node_at image kind at)) owned
+      → ((at : ℕ) → In at (row_below (node_at image kind) level (root ∷ [])) → IsKeyed (OfChunks shape) (node_at image kind at)) → IsOrderedTree
   to_order rises keyed =
       tree_in_order (rising_chunk_sides rank) (chunk_of rank) (IsKeyedChunk shape) keyed_at image kind root level owned list has (chunk_lists rank) bottom_is
       (all_in InOrder owned (λ n there.
@@ -145,41 +142,70 @@ module _ (image : List ℕ) (shape : Shape) (root level : ℕ) (owned list : Lis
         let here = in_all InOrder n owned each is_owned in
         let all = subst (λ (o : Node). AllByRecursion (IsKeyedChunk shape) (at_children keyed_at o.keys o.children)) same
         (here.1 (ap (λ (o : Node). o.level) same ∙ bottom_level n there)) in
-        let long = one_more_key image shape n (V n) refl in
+        let long = keys_count image kind n in
         keyed_each (IsChunkKey shape.sizes shape.bytes) (V n).keys (V n).children (omega (arith, long)) all
 
     -- each key before a child of a node of level 0 is that of a chunk
-    pub key_there : (n : ℕ) → Listed owned n → (node_at image (shape_kind image shape) n).level ≡ 0 → (i : ℕ) → i < length (node_at image (shape_kind image shape) n).children
-        → IsChunkKey shape.sizes shape.bytes (get_or (node_at image (shape_kind image shape) n).keys i [])
+    pub key_there : (n : ℕ) → Listed owned n → (node_at image kind n).level ≡ 0 → (i : ℕ) → i < length (node_at image kind n).children
+        → IsChunkKey shape.sizes shape.bytes (get_or (node_at image kind n).keys i [])
     key_there n listed zero_level i low =
         let same = owned_at V owned n listed in
         let here = at_listed InOrder owned n each listed in
         let all = subst (λ (o : Node). AllByRecursion (IsKeyedChunk shape) (at_children keyed_at o.keys o.children)) same
         (here.1 (ap (λ (o : Node). o.level) same ∙ zero_level)) in
-        let long = one_more_key image shape n (V n) refl in
+        let long = keys_count image kind n in
         keyed_each (IsChunkKey shape.sizes shape.bytes) (V n).keys (V n).children (omega (arith, long)) all i low
-
-    -- THE TREE IS ONE OF CHUNKS where it is in order
-    pub ordered_tree : IsTree image (OfChunks shape) root owned list
-    ordered_tree = record {
-      level = level;
-      tree = has;
-      formed = each_formed image shape list;
-      keyed = all_in (λ at. IsKeyed (OfChunks shape) (V at)) bottom keyed_at_bottom;
-    }
 
     by_sides : (n : ℕ) → InOrder n → IsChunkOrdered Y rank (Y n)
     by_sides n is = let o = is.0 in chunks_by Y rank (Y n) (record { between = o.between; rising = λ i low. tt })
 
-    pub ordered_nodes : AllByRecursion (λ at. IsChunkOrdered (node_at image (shape_kind image shape)) (length shape.sizes) (node_at image (shape_kind image shape) at)) owned
-    ordered_nodes = chunk_order_there image kind root level owned list has rank (all_so InOrder (λ n. IsChunkOrdered Y rank (Y n)) owned by_sides each)
+    nodes_ordered : AllByRecursion (λ at. IsChunkOrdered (node_at image kind) (length shape.sizes) (node_at image kind at)) owned
+    nodes_ordered = chunk_order_there image kind root level owned list has rank (all_so InOrder (λ n. IsChunkOrdered Y rank (Y n)) owned by_sides each)
 
-    -- its items are the chunks that are told
-    pub items_told : items_of_tree (chunk_of (length shape.sizes)) image (shape_kind image shape) keyed_at level root ≡ listed_told image shape root
-    unfolding ordered_tree
-    items_told =
+    items_listed : items_of_tree (chunk_of rank) image kind keyed_at level root ≡ chunks_at Y rank (row_below Y level (root ∷ []))
+    items_listed =
         items-tree (rising_chunk_sides rank) (chunk_of rank) (IsKeyedChunk shape) keyed_at image kind root level owned list has (chunk_lists rank) bottom_is
         ∙ chunks_under Y rank level root
-        ∙ ap (chunks_at Y rank) (bottom_same image shape root owned list ordered_tree)
-        ∙ chunks_same image shape root owned list ordered_tree
-        ∙ sym (listed_is image shape root owned list ordered_tree)
+
+-- ---- of the kind that the image's trees have
+
+module _ (image : List ℕ) (shape : Shape) (root level : ℕ) (owned list : List ℕ) (has : HasTree image (shape_kind image shape) root level owned list)
+    (ordered : IsOrderedTree (shape_kind image shape) image shape root level owned list has) where
+  abbrev own : Kind
+  own = shape_kind image shape
+
+  -- THE TREE IS ONE OF CHUNKS where it is in order
+  pub ordered_tree : IsTree image (OfChunks shape) root owned list
+  ordered_tree = record {
+    level = level;
+    tree = has;
+    formed = each_formed image shape list;
+    keyed = all_in (λ at. IsKeyed (OfChunks shape) (node_at image own at)) (row_below (node_at image own) level (root ∷ []))
+        (keyed_at_bottom own image shape root level owned list has ordered);
+  }
+
+  pub ordered_nodes : AllByRecursion (λ at. IsChunkOrdered (node_at image (shape_kind image shape)) (length shape.sizes) (node_at image (shape_kind image shape) at)) owned
+  ordered_nodes = nodes_ordered own image shape root level owned list has ordered
+
+  -- its items are the chunks that are told
+  pub items_told : items_of_tree (chunk_of (length shape.sizes)) image (shape_kind image shape) keyed_at level root ≡ listed_told image shape root
+  unfolding ordered_tree
+  items_told =
+      items_listed own image shape root level owned list has ordered
+      ∙ ap (chunks_at (reading_of image own owned) (length shape.sizes)) (bottom_same image shape root owned list ordered_tree)
+      ∙ chunks_same image shape root owned list ordered_tree
+      ∙ sym (listed_is image shape root owned list ordered_tree)
+
+-- a tree of another image's kind, which is this one's too
+module _ (kind : Kind) (image : List ℕ) (shape : Shape) (same : shape_kind image shape ≡ kind) (root level : ℕ) (owned list : List ℕ) (has : HasTree image kind root level owned list)
+    (ordered : IsOrderedTree kind image shape root level owned list has) where
+  pub own_tree : HasTree image (shape_kind image shape) root level owned list
+  own_tree = subst (λ (k : Kind). HasTree image k root level owned list) (sym same) has
+
+  pub own_order : IsOrderedTree (shape_kind image shape) image shape root level owned list own_tree
+  own_order = subst (λ (k : Kind). IsInOrder (rising_chunk_sides (length shape.sizes)) (chunk_of (length shape.sizes)) (IsKeyedChunk shape) image k keyed_at level root)
+      (sym same) ordered
+
+  pub items_told-kind : items_of_tree (chunk_of (length shape.sizes)) image kind keyed_at level root ≡ listed_told image shape root
+  items_told-kind = subst (λ (k : Kind). items_of_tree (chunk_of (length shape.sizes)) image k keyed_at level root ≡ listed_told image shape root) same
+      (items_told image shape root level owned list own_tree own_order)

@@ -8,6 +8,7 @@ pub mod ReachedRows
 pub mod OrderFaults
 pub mod ChunkRows
 pub mod Stored
+pub mod SuperblockStays
 pub mod Readable
 pub mod KeysRise
 pub mod ChunkFound

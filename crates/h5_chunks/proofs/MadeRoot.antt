@@ -15,6 +15,8 @@ use Rattle.h5_model.specs.Format.Chunks.{chunks_in}
 use Rattle.h5_model.specs.Format.Nodes.{HasTree, IsNode, Kind, entries_in, node_at, node_bytes, node_length, reading_of}
 use Rattle.h5_model.specs.Format.Reached.{Shape, shape_kind}
 use Rattle.h5_model.specs.Format.Rows.{Node, Reading}
+use Rattle.h5_model.specs.Format.Superblock.{chunk_k, k_values, superblock_length}
+use Rattle.h5_model.proofs.KLaws.{same_chunk, same_length}
 use Rattle.h5_model.proofs.MapSteps.{empty_by_name}
 use Rattle.h5_model.proofs.RowLaws.{all_listed}
 use Rattle.h5_space.specs.Lending.{with_bytes_at}
@@ -36,6 +38,7 @@ use Rattle.h5_chunks.proofs.ChunkNodes.{length-chunks}
 use Rattle.h5_chunks.proofs.NodeKeys.{one_more_key}
 use Rattle.h5_chunks.proofs.OrderFaults.{listed_is}
 use Rattle.h5_chunks.proofs.Stored.{blocks_are, chunks_read}
+use Rattle.h5_chunks.proofs.SuperblockStays.{k_stays, kind_stays, superblock_of}
 
 -- ---- what the head says
 
@@ -140,11 +143,12 @@ module _ (t : Space) (shape : Shape) (at : ℕ) (inside : at + node_length (shap
   pub one_block : block at (node_length kind) ∷ [] ≡ chunk_blocks_told t.bytes shape at
   one_block = blocks_are t.bytes shape at (at ∷ []) [] stands
 
-  module _ (apart : IsApart (block 0 96 ∷ block at (node_length kind) ∷ []) t.free (length t.bytes)) (long : 96 ≤ length t.bytes) where
+  module _ (some : 1 ≤ chunk_k t.bytes) (few : chunk_k t.bytes ≤ 32767) (apart : IsApart (superblock_of t ∷ block at (node_length kind) ∷ []) t.free (length t.bytes))
+      (long : superblock_length t.bytes ≤ length t.bytes) where
     pub root_stands : AreChunksApart t shape at
     root_stands = record {
-      read = chunks_read t.bytes shape at (at ∷ []) [] stands ordered (inside, tt);
-      apart = subst (λ (bs : List Block). IsApart (block 0 96 ∷ bs) t.free (length t.bytes)) one_block apart;
+      read = chunks_read t.bytes shape at (at ∷ []) [] stands ordered some few (inside, tt);
+      apart = subst (λ (bs : List Block). IsApart (superblock_of t ∷ bs) t.free (length t.bytes)) one_block apart;
       long = long;
     }
 
@@ -152,7 +156,8 @@ module _ (t : Space) (shape : Shape) (at : ℕ) (inside : at + node_length (shap
 
 module _ (s u : Space) (shape : Shape) (at len : ℕ) (len_is : len ≡ node_length (shape_kind s.bytes shape)) (bytes : u.bytes ≡ s.bytes ++ replicate (growth len s.free) 0)
     (taken : (p : ℕ) → cover p u.free + holds p at len ≡ cover p s.free + holds p (length s.bytes) (growth len s.free)) (inside : at + len ≤ length u.bytes)
-    (apart : IsApart (block 0 96 ∷ []) s.free (length s.bytes)) (long : 96 ≤ length s.bytes) where
+    (apart : IsApart (superblock_of s ∷ []) s.free (length s.bytes)) (long : superblock_length s.bytes ≤ length s.bytes)
+    (some : 1 ≤ chunk_k s.bytes) (few : chunk_k s.bytes ≤ 32767) where
   abbrev t : Space
   t = with_bytes_at u at empty_head
 
@@ -169,20 +174,31 @@ module _ (s u : Space) (shape : Shape) (at len : ℕ) (len_is : len ≡ node_len
   made : Moves s t [] (block at len ∷ [])
   made = moves_then s u t [] (block at len ∷ []) (block at len ∷ []) (moves_take s u at len (growth len s.free) bytes taken) written
 
-  made_exact : Moves s t [] (block at (node_length (shape_kind s.bytes shape)) ∷ [])
-  made_exact = subst (λ (n : ℕ). Moves s t [] (block at n ∷ [])) len_is made
+  -- the superblock is apart from the new block
+  pub made_k : k_values t.bytes ≡ k_values s.bytes
+  made_k = k_stays s t [] (block at len ∷ []) [] made apart long
 
-  within : at + node_length (shape_kind s.bytes shape) ≤ length t.bytes
-  within = omega (arith, inside, same_long, len_is)
+  long_now : len ≡ node_length (shape_kind t.bytes shape)
+  long_now = len_is ∙ ap node_length (sym (kind_stays s t shape made_k))
+
+  made_exact : Moves s t [] (block at (node_length (shape_kind t.bytes shape)) ∷ [])
+  made_exact = subst (λ (n : ℕ). Moves s t [] (block at n ∷ [])) long_now made
+
+  within : at + node_length (shape_kind t.bytes shape) ≤ length t.bytes
+  within = omega (arith, inside, same_long, long_now)
 
   head_there : part at 24 t.bytes ≡ empty_head
   head_there = part-with_part_same at 24 empty_head u.bytes refl (omega (arith, roomy))
 
-  beside : IsApart (block 0 96 ∷ block at (node_length (shape_kind s.bytes shape)) ∷ []) t.free (length t.bytes)
-  beside p = let all = moves_apart s t [] (block at (node_length (shape_kind s.bytes shape)) ∷ []) (block 0 96 ∷ []) made_exact apart p in omega (arith, all)
+  beside : IsApart (superblock_of t ∷ block at (node_length (shape_kind t.bytes shape)) ∷ []) t.free (length t.bytes)
+  beside = subst (λ n. IsApart (block 0 n ∷ block at (node_length (shape_kind t.bytes shape)) ∷ []) t.free (length t.bytes)) (sym (same_length t.bytes s.bytes made_k))
+      (λ p. let all = moves_apart s t [] (block at (node_length (shape_kind t.bytes shape)) ∷ []) (superblock_of s ∷ []) made_exact apart p in omega (arith, all))
 
   pub made_stands : AreChunksApart t shape at
-  made_stands = root_stands t shape at within head_there beside (let more = made.grown in omega (arith, long, more))
+  made_stands =
+      let k = same_chunk t.bytes s.bytes made_k in
+      root_stands t shape at within head_there (subst (λ n. 1 ≤ n) (sym k) some) (subst (λ n. n ≤ 32767) (sym k) few) beside
+      (let more = made.grown in let same = same_length t.bytes s.bytes made_k in omega (arith, long, more, same))
 
   pub made_none : chunks_told t.bytes shape at ≡ empty
   made_none = none_told t shape at within head_there

@@ -16,6 +16,8 @@ use Rattle.h5_model.specs.Format.Nodes.{Kind, node_at, tree_blocks}
 use Rattle.h5_model.specs.Format.Reached.{Shape, level_at, shape_kind}
 use Rattle.h5_model.specs.Format.Rows.{Reading}
 use Rattle.h5_laws.specs.KeyEdits.{IsPut}
+use Rattle.h5_model.specs.Format.Superblock.{k_values}
+use Rattle.h5_space.specs.Moves.{Moves}
 use Rattle.h5_space.specs.Space.{Space}
 use Rattle.h5_space.proofs.MovesLaws.{moves_then}
 use Rattle.h5_btree.specs.Descent.{EndsAt, IsChildFor, IsWayTo}
@@ -26,7 +28,7 @@ use Rattle.h5_btree.specs.Widened.{IsWidened, ends_along}
 use Rattle.h5_btree.specs.declared.way.Step.{Step}
 use Rattle.h5_btree.proofs.KeyedOwn.{keys_count}
 use Rattle.h5_btree.proofs.WaysDown.{IsChosen, first_ends, way_chosen}
-use Rattle.h5_chunks.specs.Bushy.{IsBushy}
+use Rattle.h5_chunks.specs.Bushy.{IsBushy, IsBushyBelow}
 use Rattle.h5_chunks.specs.Edited.{CanBeStored, IsFullAt}
 use Rattle.h5_chunks.specs.Put.{HasChunkPut, IsBlockBeside, IsKeyBehind, IsPutBeside, IsWayWidened}
 use Rattle.h5_chunks.specs.Shapes.{AreChunkSizes}
@@ -35,15 +37,16 @@ use Rattle.h5_chunks.specs.Way.{chunk_behind}
 use Rattle.h5_chunks.proofs.BehindLaws.{length-offsets}
 use Rattle.h5_chunks.proofs.BushyPuts.{bushy_put, bushy_widened}
 use Rattle.h5_chunks.proofs.BushyTrees.{bushy_below, bushy_told}
-use Rattle.h5_chunks.proofs.ChunkBlocks.{chunk_put}
+use Rattle.h5_chunks.proofs.ChunkBlocks.{chunk_put, nodes_beside}
 use Rattle.h5_chunks.proofs.ChunkFound.{chunk_found, each_rises, stored_there}
 use Rattle.h5_chunks.proofs.SoughtWays.{behind_at, behind_same}
 use Rattle.h5_chunks.proofs.FullWays.{few_steps, full_of, own_ends, own_way}
 use Rattle.h5_chunks.proofs.InsertedChunk.{IsChunkBefore}
-use Rattle.h5_chunks.proofs.KeyedTold.{IsOrderedTree, chunk_numbers, chunk_of, items_told, keyed_at, to_order}
+use Rattle.h5_chunks.proofs.KeyedTold.{IsOrderedTree, chunk_numbers, chunk_of, items_told, items_told-kind, keyed_at, own_order, own_tree, to_order}
 use Rattle.h5_chunks.proofs.KeysPast.{key_past}
 use Rattle.h5_chunks.proofs.PutChunks.{chunk_comes}
 use Rattle.h5_chunks.proofs.Readable.{keyed_there}
+use Rattle.h5_chunks.proofs.SuperblockStays.{k_stays, kind_stays}
 use Rattle.h5_chunks.proofs.WidenedChunks.{admits, ends_now, first_left, first_low, full_before, items_now, moves_now, ordered_now}
 
 module _ (s : Space) (shape : Shape) (root chunk : ℕ) (beside : IsBlockBeside s shape root chunk) (short : length s.bytes < 2 ^ 64) where
@@ -65,9 +68,9 @@ module _ (s : Space) (shape : Shape) (root chunk : ℕ) (beside : IsBlockBeside 
   abbrev list : List ℕ
   list = values (chunks_told s.bytes shape root)
 
-  pub ordered_before : IsOrderedTree s.bytes shape root (beside.read.stored).level (beside.read.stored).owned (values (chunks_told s.bytes shape root))
+  pub ordered_before : IsOrderedTree (shape_kind s.bytes shape) s.bytes shape root (beside.read.stored).level (beside.read.stored).owned (values (chunks_told s.bytes shape root))
       (stored_there s.bytes shape root beside.read)
-  ordered_before = to_order s.bytes shape root level owned list (stored_there s.bytes shape root beside.read) (each_rises s.bytes shape root beside.read)
+  ordered_before = to_order kind s.bytes shape root level owned list (stored_there s.bytes shape root beside.read) (each_rises s.bytes shape root beside.read)
       (keyed_there s.bytes shape root (chunks_told s.bytes shape root) (chunk_blocks_told s.bytes shape root) beside.read.stored)
 
   module _ (sizes : AreChunkSizes shape.sizes) (storable : CanBeStored shape) (key : List ℕ) (keyed : IsChunkKey shape.sizes shape.bytes key)
@@ -123,7 +126,7 @@ module _ (s : Space) (shape : Shape) (root chunk : ℕ) (beside : IsBlockBeside 
       widened = subst (λ (b : List ℕ → Bool). IsWidened s u kind way (ends_along V b 1 way) key last) (behind_same rank offsets same) wide.widened
 
       pub ends_then : EndsInTree u (shape_kind s.bytes shape) root (beside.read.stored).level way (beside.read.stored).owned (values (chunks_told s.bytes shape root)) way_ends.0
-      ends_then = ends_now s u shape offsets root level way owned list way_ends.0 e key last wide.tree widened wide.others choices own past
+      ends_then = ends_now kind beside.read.k_some s u shape offsets root level way owned list way_ends.0 e key last wide.tree widened wide.others choices own past
 
       -- where the tree has room, the root can be raised
       pub low_then : (IsFullAt s.bytes shape root (offsets_in (length shape.sizes) key) → ⊥) → IsFullWay u.bytes (shape_kind s.bytes shape) way → length way < 16
@@ -132,7 +135,7 @@ module _ (s : Space) (shape : Shape) (root chunk : ℕ) (beside : IsBlockBeside 
         | inr high ↦
             let few = few_steps s shape root beside.read (λ p. omega (arith, beside.apart p)) short offsets same way to in
             let all : length way ≡ 16 = omega (arith, few, high) in
-            let full_then = full_before s u shape offsets root level way owned list way_ends.0 e key last wide.tree widened wide.others choices own past full in
+            let full_then = full_before kind beside.read.k_some s u shape offsets root level way owned list way_ends.0 e key last wide.tree widened wide.others choices own past full in
             absurd (roomy (full_of s shape root beside.read (λ p. omega (arith, beside.apart p)) short offsets same way to all full_then))
       ]
 
@@ -155,11 +158,11 @@ module _ (s : Space) (shape : Shape) (root chunk : ℕ) (beside : IsBlockBeside 
         above_same : e.above ≡ (e').above
         above_same = let both = both_steps in cc
 
-        ordered_u : IsOrderedTree u.bytes shape root level owned list (e').tree
-        ordered_u = ordered_now s u shape offsets root level way owned list way_ends.0 e key last wide.tree widened wide.others choices own past ordered_before
+        ordered_u : IsOrderedTree kind u.bytes shape root level owned list (e').tree
+        ordered_u = ordered_now kind beside.read.k_some s u shape offsets root level way owned list way_ends.0 e key last wide.tree widened wide.others choices own past ordered_before
 
         key_stays : get_or (U (e.step).node).keys (e.step).place [] ≡ kk
-        key_stays = first_low s u shape offsets root level way owned list way_ends.0 e key last wide.tree widened wide.others choices own past
+        key_stays = first_low kind beside.read.k_some s u shape offsets root level way owned list way_ends.0 e key last wide.tree widened wide.others choices own past
 
         test_here : behind ≡ behind_at rank offsets kk
         test_here = test ∙ ap (λ (b : List ℕ → Bool). b kk) (behind_same rank offsets same)
@@ -186,7 +189,7 @@ module _ (s : Space) (shape : Shape) (root chunk : ℕ) (beside : IsBlockBeside 
 
         left_u : Before (offsets ++ 0 ∷ []) (all_offsets_in rank (get_or (U (e').step.node).keys (suc (e').step.place) []))
         left_u = subst (λ (st : Step). Before (offsets ++ 0 ∷ []) (all_offsets_in rank (get_or (U st.node).keys (suc st.place) []))) step_same
-            (first_left s u shape offsets root level way owned list way_ends.0 e key last wide.tree widened wide.others choices own past)
+            (first_left kind beside.read.k_some s u shape offsets root level way owned list way_ends.0 e key last wide.tree widened wide.others choices own past)
 
         abbrev Admits : Step → Type 0
         Admits st = NotAfter (all_offsets_in rank (get_or (U st.node).keys st.place [])) (offsets ++ 0 ∷ [])
@@ -194,26 +197,37 @@ module _ (s : Space) (shape : Shape) (root chunk : ℕ) (beside : IsBlockBeside 
 
         admits_u : AllByRecursion Admits (e').above
         admits_u = subst (AllByRecursion Admits) above_same
-            (admits s u shape offsets root level way owned list way_ends.0 e key last wide.tree widened wide.others choices own past)
+            (admits kind beside.read.k_some s u shape offsets root level way owned list way_ends.0 e key last wide.tree widened wide.others choices own past)
 
         put_u : (height : ℕ) × (all : List ℕ) × IsChildPut u t kind root height (insert list (if behind then way_ends.0 + 1 else way_ends.0) chunk) owned all
         put_u = put.put root level way_ends.0 owned list e'
 
+        -- the tree's blocks are moved, and the superblock is none of them
+        moved : Moves s t (tree_blocks kind owned) (tree_blocks kind put_u.1)
+        moved = moves_then s u t (tree_blocks kind owned) (tree_blocks kind owned) (tree_blocks kind put_u.1)
+            (moves_now kind beside.read.k_some s u shape offsets root level way owned list way_ends.0 e key last wide.tree widened wide.others choices own past) (put_u.2).moves
+
+        k_t : k_values t.bytes ≡ k_values s.bytes
+        k_t = k_stays s t (tree_blocks kind owned) (tree_blocks kind put_u.1) [] moved (nodes_beside s shape root chunk beside) beside.long
+
+        kind_t : shape_kind t.bytes shape ≡ kind
+        kind_t = kind_stays s t shape k_t
+
         abbrev list' : List ℕ
         list' = insert list (if behind then way_ends.0 + 1 else way_ends.0) chunk
 
-        comes : IsOrderedTree t.bytes shape root put_u.0 put_u.1 list' (put_u.2).tree
+        comes : IsOrderedTree kind t.bytes shape root put_u.0 put_u.1 list' (put_u.2).tree
             × IsPut IsChunkBefore (offsets, chunk) (items_of_tree (chunk_of rank) u.bytes kind keyed_at level root) (items_of_tree (chunk_of rank) t.bytes kind keyed_at put_u.0 root)
         unfolding put_u
-        comes = chunk_comes u t shape root level way owned list way_ends.0 e' ordered_u behind key chunk put keyed last past test_u first_u other_u left_u admits_u
+        comes = chunk_comes kind beside.read.k_some u t shape root level way owned list way_ends.0 e' ordered_u behind key chunk put keyed last past test_u first_u other_u left_u admits_u
 
         more : IsPut IsChunkBefore (offsets, chunk) (listed_told s.bytes shape root) (listed_told t.bytes shape root)
         more =
             let was : items_of_tree (chunk_of rank) u.bytes kind keyed_at level root ≡ listed_told s.bytes shape root
-            = items_now s u shape offsets root level way owned list way_ends.0 e key last wide.tree widened wide.others choices own past ordered_before
+            = items_now kind beside.read.k_some s u shape offsets root level way owned list way_ends.0 e key last wide.tree widened wide.others choices own past ordered_before
             ∙ items_told s.bytes shape root level owned list (stored_there s.bytes shape root beside.read) ordered_before in
             let now : items_of_tree (chunk_of rank) t.bytes kind keyed_at put_u.0 root ≡ listed_told t.bytes shape root
-            = items_told t.bytes shape root put_u.0 put_u.1 list' (put_u.2).tree comes.0 in
+            = items_told-kind kind t.bytes shape kind_t root put_u.0 put_u.1 list' (put_u.2).tree comes.0 in
             subst (IsPut IsChunkBefore (offsets, chunk) (listed_told s.bytes shape root)) now
             (subst (λ (es : List (List ℕ × ℕ)). IsPut IsChunkBefore (offsets, chunk) es (items_of_tree (chunk_of rank) t.bytes kind keyed_at put_u.0 root)) was comes.1)
 
@@ -221,10 +235,10 @@ module _ (s : Space) (shape : Shape) (root chunk : ℕ) (beside : IsBlockBeside 
         pub put_in : HasChunkPut s t shape root (offsets_in (length shape.sizes) key) chunk
         put_in =
             chunk_put s t shape root chunk beside storable.some owned list (λ p. ap (cover p) (beside.read.stored).laid) refl put_u.0 put_u.1
-            (if behind then way_ends.0 + 1 else way_ends.0)
-            (moves_then s u t (tree_blocks kind owned) (tree_blocks kind owned) (tree_blocks kind put_u.1)
-            (moves_now s u shape offsets root level way owned list way_ends.0 e key last wide.tree widened wide.others choices own past) (put_u.2).moves)
-            (put_u.2).tree comes.0 offsets more
+            (if behind then way_ends.0 + 1 else way_ends.0) k_t
+            (subst (λ (k : Kind). Moves s t (tree_blocks kind owned) (tree_blocks k put_u.1)) (sym kind_t) moved)
+            (own_tree kind t.bytes shape kind_t root put_u.0 put_u.1 list' (put_u.2).tree comes.0)
+            (own_order kind t.bytes shape kind_t root put_u.0 put_u.1 list' (put_u.2).tree comes.0) offsets more
 
         -- and nodes that are half full stay so
         pub bushy_in : (up : ℕ) → IsBushy s.bytes shape root up → IsBushy t.bytes shape root up
@@ -232,6 +246,7 @@ module _ (s : Space) (shape : Shape) (root chunk : ℕ) (beside : IsBlockBeside 
             let old = bushy_below s.bytes shape root level up owned list (stored_there s.bytes shape root beside.read) bushy in
             let then_so = bushy_widened s.bytes u.bytes kind key last root level owned list (stored_there s.bytes shape root beside.read) way
             (ends_along V (behind_at rank offsets) 1 way) widened.keys (wide.others root level way_ends.0 owned list e) up old in
-            let now = bushy_put u t kind root level way owned list way_ends.0 e' (omega arith) behind put.keys chunk (put.along (e').step (e').above (e').way_is)
+            let now = bushy_put u t kind root level way owned list way_ends.0 e' beside.read.k_some behind put.keys chunk (put.along (e').step (e').above (e').way_is)
             (put.others root level way_ends.0 owned list e') up put_u.0 put_u.1 list' (put_u.2).tree then_so in
-            bushy_told t.bytes shape root put_u.0 up put_u.1 list' (put_u.2).tree now
+            bushy_told t.bytes shape root put_u.0 up put_u.1 list' (own_tree kind t.bytes shape kind_t root put_u.0 put_u.1 list' (put_u.2).tree comes.0)
+            (subst (λ (k : Kind). IsBushyBelow (node_at t.bytes k) k.k up put_u.0 root) (sym kind_t) now)

@@ -1,6 +1,6 @@
 -- A chunk comes into a tree of chunks beside the child at the end of a way: the keys stay in order, and the chunks are those of before with
 -- the new one at its place (File Format Specification 3.0, section III.A.1).
-use Rattle.std.proofs.Common.{◌≡◌, inr, ℕ, suc, ◌+◌, ◌<◌, Bool, true, false, List, [], ◌∷◌, ◌++◌, length, get_or, refl, sym, ap, ◌∙◌, subst, arith}
+use Rattle.std.proofs.Common.{◌≡◌, inr, ℕ, suc, ◌+◌, ◌<◌, ◌≤◌, Bool, true, false, List, [], ◌∷◌, ◌++◌, length, get_or, refl, sym, ap, ◌∙◌, subst, arith}
 use Rattle.std.specs.Prelude.{if◌then◌else◌}
 use Rattle.std.specs.declared.cmp.Ordering.TheVariants.{Equal}
 use Rattle.std.specs.Cmp.Lexicographic.{slice_cmp}
@@ -9,7 +9,7 @@ use Rattle.std.specs.Ordering.{nat_cmp}
 use Rattle.h5_model.specs.Format.Chunks.{IsChunkKey, all_offsets_in, offsets_in}
 use Rattle.h5_model.specs.Format.Links.{Before, NotAfter}
 use Rattle.h5_model.specs.Format.Nodes.{Kind, node_at, reading_of}
-use Rattle.h5_model.specs.Format.Reached.{Shape, shape_kind}
+use Rattle.h5_model.specs.Format.Reached.{Shape}
 use Rattle.h5_model.specs.Format.Rows.{Node, Reading}
 use Rattle.h5_model.proofs.TextOrder.{before_le, not_after_itself}
 use Rattle.h5_laws.specs.ChunkLadders.{rising_chunk_sides}
@@ -34,10 +34,7 @@ use Rattle.h5_chunks.proofs.KeyedTold.{IsKeyedChunk, IsOrderedTree, chunk_number
 use Rattle.h5_chunks.proofs.WidenedNode.{above_of, below_of}
 
 -- the node at the end of a way is of level 0, and its key before the child at the end is that of a chunk
-module _ (s : Space) (shape : Shape) (root level : ℕ) (way : List Step) (owned list : List ℕ) (k : ℕ) (e : EndsInTree s (shape_kind s.bytes shape) root level way owned list k) where
-  abbrev kind : Kind
-  kind = shape_kind s.bytes shape
-
+module _ (kind : Kind) (s : Space) (shape : Shape) (root level : ℕ) (way : List Step) (owned list : List ℕ) (k : ℕ) (e : EndsInTree s kind root level way owned list k) where
   abbrev V : Reading
   V = node_at s.bytes kind
 
@@ -54,24 +51,24 @@ module _ (s : Space) (shape : Shape) (root level : ℕ) (way : List Step) (owned
   end_place : (e.step).place < length (V (e.step).node).children
   end_place = subst (λ (o : Node). (e.step).place < length o.children) same e.place
 
-  pub end_keyed : IsOrderedTree s.bytes shape root level owned list e.tree
-      → IsChunkKey shape.sizes shape.bytes (get_or (node_at s.bytes (shape_kind s.bytes shape) (e.step).node).keys (e.step).place [])
+  pub end_keyed : IsOrderedTree kind s.bytes shape root level owned list e.tree
+      → IsChunkKey shape.sizes shape.bytes (get_or (node_at s.bytes kind (e.step).node).keys (e.step).place [])
   end_keyed ordered =
-      key_there s.bytes shape root level owned list e.tree ordered (e.step).node (first_owned s kind root level way owned list k e) end_level (e.step).place end_place
+      key_there kind s.bytes shape root level owned list e.tree ordered (e.step).node (first_owned s kind root level way owned list k e) end_level (e.step).place end_place
 
-module _ (s t : Space) (shape : Shape) (root level : ℕ) (way : List Step) (owned list : List ℕ) (k : ℕ) (e : EndsInTree s (shape_kind s.bytes shape) root level way owned list k)
-    (ordered : IsOrderedTree s.bytes shape root level owned list e.tree) (behind : Bool) (key : List ℕ) (chunk : ℕ)
-    (put : IsPutBeside s t (shape_kind s.bytes shape) way behind key chunk) (keyed : IsChunkKey shape.sizes shape.bytes key)
+module _ (kind : Kind) (some : 1 ≤ kind.k) (s t : Space) (shape : Shape) (root level : ℕ) (way : List Step) (owned list : List ℕ) (k : ℕ) (e : EndsInTree s kind root level way owned list k)
+    (ordered : IsOrderedTree kind s.bytes shape root level owned list e.tree) (behind : Bool) (key : List ℕ) (chunk : ℕ)
+    (put : IsPutBeside s t kind way behind key chunk) (keyed : IsChunkKey shape.sizes shape.bytes key)
     (high : List ℕ) (past : Before (offsets_in (length shape.sizes) key ++ 0 ∷ []) (all_offsets_in (length shape.sizes) high))
-    (test : behind ≡ behind_at (length shape.sizes) (offsets_in (length shape.sizes) key) (get_or (node_at s.bytes (shape_kind s.bytes shape) (e.step).node).keys (e.step).place []))
+    (test : behind ≡ behind_at (length shape.sizes) (offsets_in (length shape.sizes) key) (get_or (node_at s.bytes kind (e.step).node).keys (e.step).place []))
     (first : behind ≡ false → (e.step).place ≡ 0)
-    (other : slice_cmp nat_cmp (all_offsets_in (length shape.sizes) (get_or (node_at s.bytes (shape_kind s.bytes shape) (e.step).node).keys (e.step).place []))
+    (other : slice_cmp nat_cmp (all_offsets_in (length shape.sizes) (get_or (node_at s.bytes kind (e.step).node).keys (e.step).place []))
     (offsets_in (length shape.sizes) key ++ 0 ∷ []) ≡ Equal → ⊥)
     (left : Before (offsets_in (length shape.sizes) key ++ 0 ∷ [])
-    (all_offsets_in (length shape.sizes) (get_or (node_at s.bytes (shape_kind s.bytes shape) (e.step).node).keys (suc (e.step).place) [])))
-    (admits : AllByRecursion (λ (step : Step). NotAfter (all_offsets_in (length shape.sizes) (get_or (node_at s.bytes (shape_kind s.bytes shape) step.node).keys step.place []))
+    (all_offsets_in (length shape.sizes) (get_or (node_at s.bytes kind (e.step).node).keys (suc (e.step).place) [])))
+    (admits : AllByRecursion (λ (step : Step). NotAfter (all_offsets_in (length shape.sizes) (get_or (node_at s.bytes kind step.node).keys step.place []))
     (offsets_in (length shape.sizes) key ++ 0 ∷ [])
-    × Before (offsets_in (length shape.sizes) key ++ 0 ∷ []) (all_offsets_in (length shape.sizes) (get_or (node_at s.bytes (shape_kind s.bytes shape) step.node).keys (suc step.place) []))) e.above) where
+    × Before (offsets_in (length shape.sizes) key ++ 0 ∷ []) (all_offsets_in (length shape.sizes) (get_or (node_at s.bytes kind step.node).keys (suc step.place) []))) e.above) where
   abbrev rank : ℕ
   rank = length shape.sizes
 
@@ -91,10 +88,10 @@ module _ (s t : Space) (shape : Shape) (root level : ℕ) (way : List Step) (own
   new = chunk_let_in rank x key high own past
 
   abbrev K : List (List ℕ)
-  K = (node_at s.bytes (shape_kind s.bytes shape) (e.step).node).keys
+  K = (node_at s.bytes kind (e.step).node).keys
 
   abbrev C : List ℕ
-  C = (node_at s.bytes (shape_kind s.bytes shape) (e.step).node).children
+  C = (node_at s.bytes kind (e.step).node).children
 
   abbrev i : ℕ
   i = (e.step).place
@@ -110,7 +107,7 @@ module _ (s t : Space) (shape : Shape) (root level : ℕ) (way : List Step) (own
   c = (offsets_in rank kk, get_or C i 0)
 
   kk_keyed : IsChunkKey shape.sizes shape.bytes kk
-  kk_keyed = end_keyed s shape root level way owned list k e ordered
+  kk_keyed = end_keyed kind s shape root level way owned list k e ordered
 
   kk_own : all_offsets_in rank kk ≡ offsets_in rank kk ++ 0 ∷ []
   kk_own = chunk_numbers shape.sizes shape.bytes kk kk_keyed
@@ -159,19 +156,19 @@ module _ (s t : Space) (shape : Shape) (root level : ℕ) (way : List Step) (own
         ),
       )
 
-  abbrev pub is_put : (height : ℕ) × (all : List ℕ) × IsChildPut s t (shape_kind s.bytes shape) root height (insert list (if behind then k + 1 else k) chunk) owned all
+  abbrev pub is_put : (height : ℕ) × (all : List ℕ) × IsChildPut s t kind root height (insert list (if behind then k + 1 else k) chunk) owned all
   is_put = put.put root level k owned list e
 
   abbrev list' : List ℕ
   list' = insert list (if behind then k + 1 else k) chunk
 
   -- THE CHUNK COMES IN
-  pub chunk_comes : IsOrderedTree t.bytes shape root is_put.0 is_put.1 (insert list (if behind then k + 1 else k) chunk) (is_put.2).tree
-      × IsPut IsChunkBefore (offsets_in (length shape.sizes) key, chunk) (items_of_tree (chunk_of (length shape.sizes)) s.bytes (shape_kind s.bytes shape) keyed_at level root)
-      (items_of_tree (chunk_of (length shape.sizes)) t.bytes (shape_kind s.bytes shape) keyed_at is_put.0 root)
+  pub chunk_comes : IsOrderedTree kind t.bytes shape root is_put.0 is_put.1 (insert list (if behind then k + 1 else k) chunk) (is_put.2).tree
+      × IsPut IsChunkBefore (offsets_in (length shape.sizes) key, chunk) (items_of_tree (chunk_of (length shape.sizes)) s.bytes kind keyed_at level root)
+      (items_of_tree (chunk_of (length shape.sizes)) t.bytes kind keyed_at is_put.0 root)
   chunk_comes =
       put_sorted (rising_chunk_sides rank) (chunk_order rank) IsChunkBefore (chunk_through rank) (chunk_parts rank) (chunk_of rank) (IsKeyedChunk shape) x key high new (λ a b. true)
-      s t (shape_kind s.bytes shape) root level way owned list k e (omega arith) behind put.keys chunk (put.along e.step e.above e.way_is) (put.others root level k owned list e)
-      (put.held e.step e.above e.way_is) keyed_at keyed_at (all_stand (node_at s.bytes (shape_kind s.bytes shape)) (node_at t.bytes (shape_kind s.bytes shape)) keyed_at (remove list k))
+      s t kind root level way owned list k e some behind put.keys chunk (put.along e.step e.above e.way_is) (put.others root level k owned list e)
+      (put.held e.step e.above e.way_is) keyed_at keyed_at (all_stand (node_at s.bytes kind) (node_at t.bytes kind) keyed_at (remove list k))
       (subst (Comes behind) (sym put.first) (comes behind test first)) admits is_put.0 is_put.1 list' (is_put.2).tree
       (inr ((λ a b. refl), (λ b base. omega arith))) ordered

@@ -6,7 +6,7 @@ use Rattle.std.specs.Ordering.{is_le, nat_cmp}
 use Rattle.h5_bytes.proofs.BlockLaws.{all_left, all_right}
 use Rattle.h5_model.specs.Format.Chunks.{all_offsets_in}
 use Rattle.h5_model.specs.Format.Links.{NotAfter}
-use Rattle.h5_model.specs.Format.Nodes.{Kind, entries_in, node_at, node_bytes}
+use Rattle.h5_model.specs.Format.Nodes.{entries_in, node_at, node_bytes}
 use Rattle.h5_model.specs.Format.Reached.{Shape, shape_kind}
 use Rattle.h5_model.specs.Format.Rows.{Node, Reading}
 use Rattle.h5_laws.specs.Ladders.{IsOrderly}
@@ -45,8 +45,9 @@ way_moved V W behind (suc level) at way to all =
 
 -- ---- an image in which a way ends has a node at least
 
-pub long_by_way : (s : Space) (kind : Kind) (way : List Step) → EndsSomewhere s kind way → 20 ≤ length s.bytes
-long_by_way s kind way (root, level, owned, list, k, e) =
+pub long_by_way : (s : Space) (shape : Shape) (way : List Step) → EndsSomewhere s (shape_kind s.bytes shape) way → 26 ≤ length s.bytes
+long_by_way s shape way (root, level, owned, list, k, e) =
+    let kind = shape_kind s.bytes shape in
     let there = (subst (AllByRecursion (IsStep s kind)) e.way_is (way_there s kind root level way owned list k e)).0 in
     let inside = there.0 in
     omega (arith, inside)

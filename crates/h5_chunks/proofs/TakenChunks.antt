@@ -13,6 +13,8 @@ use Rattle.h5_model.specs.Format.Chunks.{chunks_at, offsets_in}
 use Rattle.h5_model.specs.Format.Nodes.{HasTree, Kind, node_at, tree_blocks}
 use Rattle.h5_model.specs.Format.Reached.{Shape, shape_kind}
 use Rattle.h5_model.specs.Format.Rows.{Reading, row_below}
+use Rattle.h5_model.specs.Format.Superblock.{chunk_k, k_values}
+use Rattle.h5_model.proofs.KLaws.{same_chunk, same_length}
 use Rattle.h5_laws.specs.ChunkLadders.{rising_chunk_sides}
 use Rattle.h5_laws.specs.KeyEdits.{IsTaken}
 use Rattle.h5_laws.proofs.ChunkLadders.{chunk_order}
@@ -39,6 +41,7 @@ use Rattle.h5_chunks.proofs.KeyedChunks.{AreInOrder, HasShape, chunks_in_order, 
 use Rattle.h5_chunks.proofs.OrderFaults.{listed_is}
 use Rattle.h5_chunks.proofs.Readable.{each_formed, stored_tree}
 use Rattle.h5_chunks.proofs.Stored.{blocks_are, chunks_read}
+use Rattle.h5_chunks.proofs.SuperblockStays.{k_stays, kind_stays, superblock_of}
 use Rattle.h5_chunks.proofs.TakenEntries.{taken_ascends, taken_map}
 
 inside_made : (f : ℕ → Block) (old new : ℕ) (xs : List ℕ) → old ≤ new → Inside old (map f xs) → Inside new (map f xs)
@@ -99,7 +102,7 @@ module _ (s u : Space) (shape : Shape) (root : ℕ) (chunks : AreChunksApart s s
   stored' = map chunk_block rest
 
   abbrev superblock : Block
-  superblock = block 0 96
+  superblock = superblock_of s
 
   abbrev step : Step
   step = e.step
@@ -161,9 +164,6 @@ module _ (s u : Space) (shape : Shape) (root : ℕ) (chunks : AreChunksApart s s
     abbrev V : Reading
     V = node_at s.bytes kind
 
-    abbrev W : Reading
-    W = node_at t.bytes kind
-
     abbrev before : List Block
     before = nodes ++ chunk_block x ∷ []
 
@@ -182,38 +182,52 @@ module _ (s u : Space) (shape : Shape) (root : ℕ) (chunks : AreChunksApart s s
     beside_now = moves_apart s t before nodes' (superblock ∷ stored') moved
         (λ p. omega (arith, chunks.apart p, parted p, cover-append p before stored', cover-append p before (superblock ∷ stored')))
 
-    tree : HasTree t.bytes kind root height own rest
-    tree = subst (λ (b : List ℕ). HasTree b kind root height own rest) (sym bytes) done.tree
+    -- the superblock is none of the blocks that are moved
+    k_now : k_values t.bytes ≡ k_values s.bytes
+    k_now = k_stays s t before nodes' stored' moved
+        (λ p. omega (arith, chunks.apart p, parted p, cover-append p before stored', cover-append p before (superblock ∷ stored'))) chunks.long
+
+    kind_now : shape_kind t.bytes shape ≡ kind
+    kind_now = kind_stays s t shape k_now
+
+    same_k : chunk_k t.bytes ≡ chunk_k s.bytes
+    same_k = same_chunk t.bytes s.bytes k_now
+
+    abbrev kind' : Kind
+    kind' = shape_kind t.bytes shape
+
+    tree : HasTree t.bytes kind' root height own rest
+    tree = subst (λ (k : Kind). HasTree t.bytes k root height own rest) (sym kind_now) (subst (λ (b : List ℕ). HasTree b kind root height own rest) (sym bytes) done.tree)
 
     -- ---- keys and chunks
 
-    abbrev IsLeft : List ℕ → Type 0
-    IsLeft image = AreInOrder image shape height root × IsTaken (offsets, x) (chunks_at V rank (row_below V level (root ∷ [])))
+    abbrev IsLeft : Kind → List ℕ → Type 0
+    IsLeft kind image = AreInOrder kind image shape height root × IsTaken (offsets, x) (chunks_at V rank (row_below V level (root ∷ [])))
         (chunks_at (node_at image kind) rank (row_below (node_at image kind) height (root ∷ [])))
 
-    left : IsLeft t.bytes
+    left : IsLeft kind' t.bytes
     left =
         let was = stored_tree s.bytes shape root (chunks_told s.bytes shape root) (chunk_blocks_told s.bytes shape root) (chunks.read).stored in
-        let order = chunks_in_order s.bytes shape root level owned list (stored_there s.bytes shape root chunks.read)
+        let order = chunks_in_order kind s.bytes shape root level owned list (stored_there s.bytes shape root chunks.read)
         (each_rises s.bytes shape root chunks.read) was.keyed in
         let one : chunks_of rank (keyed_chunk (get_or (V step.node).keys step.place []) (get_or (V step.node).children step.place 0)) ≡ (offsets, x) ∷ []
         = ap (λ (o : List ℕ). (o, get_or (V step.node).children step.place 0) ∷ []) key_has ∙ ap (λ (n : ℕ). (offsets, n) ∷ []) (sym there.1) in
         let now = taken_sorted (rising_chunk_sides rank) (chunk_order rank) (chunks_of rank) (HasShape shape) [] refl tt (offsets, x)
         s u kind root level way owned list k e taken
         (omega (arith, short, size)) keyed_chunk keyed_chunk (all_stand V V keyed_chunk rest) one order in
-        let exact : IsLeft u.bytes = (
+        let exact : IsLeft kind u.bytes = (
           now.0,
           subst (λ (es : List (List ℕ × ℕ)). IsTaken (offsets, x) es (chunks_at (node_at u.bytes kind) rank (row_below (node_at u.bytes kind) height (root ∷ []))))
-              (items_are s.bytes shape root level) (subst (IsTaken (offsets, x) _) (items_are u.bytes shape root height) now.1),
+              (items_are kind s.bytes shape root level) (subst (IsTaken (offsets, x) _) (items_are kind u.bytes shape root height) now.1),
         ) in
-        subst IsLeft (sym bytes) exact
+        subst (λ (k : Kind). IsLeft k t.bytes) (sym kind_now) (subst (IsLeft kind) (sym bytes) exact)
 
     stands : IsTree t.bytes (OfChunks shape) root own rest
     stands = record {
       level = height;
       tree = tree;
       formed = each_formed t.bytes shape rest;
-      keyed = chunks_keyed t.bytes shape root height own rest tree left.0;
+      keyed = chunks_keyed kind' t.bytes shape root height own rest tree left.0;
     }
 
     abbrev told_before : List (List ℕ × ℕ)
@@ -236,13 +250,13 @@ module _ (s u : Space) (shape : Shape) (root : ℕ) (chunks : AreChunksApart s s
     ordered : AreChunksOrdered t.bytes shape root own
     ordered = record {
       ascending = taken_ascends (offsets, x) told_before (listed_told t.bytes shape root) same_taken sorted;
-      ordered = chunks_ordered t.bytes shape root height own rest tree left.0;
+      ordered = chunks_ordered kind' t.bytes shape root height own rest tree left.0;
     }
 
     -- ---- the blocks now
 
     now_blocks : nodes' ++ stored' ≡ chunk_blocks_told t.bytes shape root
-    now_blocks = blocks_are t.bytes shape root own rest stands
+    now_blocks = ap (λ (k : Kind). tree_blocks k own ++ stored') (sym kind_now) ∙ blocks_are t.bytes shape root own rest stands
 
     inside_now : Inside (length t.bytes) (nodes' ++ stored')
     inside_now = all_append (λ (b : Block). b.at + b.len ≤ length t.bytes) nodes' stored'
@@ -250,7 +264,8 @@ module _ (s u : Space) (shape : Shape) (root : ℕ) (chunks : AreChunksApart s s
         (inside_made chunk_block (length s.bytes) (length t.bytes) rest moved.grown (inside_less chunk_block (length s.bytes) list k stored_inside))
 
     read_now : AreChunksRead t.bytes shape root
-    read_now = chunks_read t.bytes shape root own rest stands ordered inside_now
+    read_now = chunks_read t.bytes shape root own rest stands ordered (subst (λ n. 1 ≤ n) (sym same_k) (chunks.read).k_some)
+        (subst (λ n. n ≤ 32767) (sym same_k) (chunks.read).k_few) (subst (λ (k : Kind). Inside (length t.bytes) (tree_blocks k own ++ stored')) (sym kind_now) inside_now)
 
     abbrev IsApartNow : List Block → Type 0
     IsApartNow blocks = IsApart (superblock ∷ blocks) t.free (length t.bytes)
@@ -261,11 +276,12 @@ module _ (s u : Space) (shape : Shape) (root : ℕ) (chunks : AreChunksApart s s
       told = taken_map (offsets, x) told_before (listed_told t.bytes shape root) same_taken sorted;
       stand = record {
         read = read_now;
-        apart = subst IsApartNow now_blocks (λ p. omega (arith, beside_now p, cover-append p nodes' (superblock ∷ stored'), cover-append p nodes' stored'));
-        long = omega (arith, chunks.long, moved.grown);
+        apart = subst (λ n. IsApart (block 0 n ∷ chunk_blocks_told t.bytes shape root) t.free (length t.bytes)) (sym (same_length t.bytes s.bytes k_now))
+            (subst IsApartNow now_blocks (λ p. omega (arith, beside_now p, cover-append p nodes' (superblock ∷ stored'), cover-append p nodes' stored')));
+        long = omega (arith, chunks.long, moved.grown, same_length t.bytes s.bytes k_now);
       };
       moves = subst (Moves s t (chunk_blocks_told s.bytes shape root)) now_blocks
           (moves_same s t (before ++ stored') (nodes' ++ stored') (chunk_blocks_told s.bytes shape root) (nodes' ++ stored') parted (λ p. refl)
           (moves_beside s t before nodes' stored' moved));
-      k = refl;
+      k = k_now;
     }

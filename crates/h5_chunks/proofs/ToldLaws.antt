@@ -1,6 +1,6 @@
 -- Whatever chunks stand in the tree at a root, in whatever blocks, are those that the image tells; and they stay where the blocks'
 -- bytes do.
-use Rattle.std.proofs.Common.{◌≡◌, ℕ, List, ◌++◌, length, map, sym, ap, ap₂, ◌∙◌, subst}
+use Rattle.std.proofs.Common.{◌≡◌, ℕ, ◌≤◌, List, ◌++◌, length, map, sym, ap, ap₂, ◌∙◌, subst}
 use Rattle.std.specs.Prelude.{T}
 use Rattle.std.specs.Ordering.{nat_cmp}
 use Rattle.std.specs.Cmp.Lexicographic.{slice_cmp}
@@ -45,10 +45,12 @@ module _ (image : List ℕ) (shape : Shape) (root : ℕ) (chunks : Chunks) (bloc
       ∙ ap₂ (λ (ns xs : List ℕ). tree_blocks (shape_kind image shape) ns ++ map (λ (at : ℕ). block at shape.bytes) xs)
       (nodes_are image shape root has.owned (values chunks) tree) (addresses_are image shape root has.owned (values chunks) tree)
 
--- chunks stay where the bytes of their blocks stay
-module _ (old new : List ℕ) (shape : Shape) (root : ℕ) (read : AreChunksRead old shape root) (kept : Keeps old new (chunk_blocks_told old shape root)) where
+-- chunks stay where the bytes of their blocks stay, and K of their nodes
+module _ (old new : List ℕ) (shape : Shape) (root : ℕ) (read : AreChunksRead old shape root) (k : chunk_k new ≡ chunk_k old)
+    (kept : Keeps old new (chunk_blocks_told old shape root)) where
   stays : HasChunks new (chunk_k new) shape.sizes shape.bytes root (chunks_told old shape root) (chunk_blocks_told old shape root)
-  stays = chunks-same old new (chunk_k old) shape.sizes shape.bytes root (chunks_told old shape root) (chunk_blocks_told old shape root) kept read.stored
+  stays = subst (λ n. HasChunks new n shape.sizes shape.bytes root (chunks_told old shape root) (chunk_blocks_told old shape root)) (sym k)
+      (chunks-same old new (chunk_k old) shape.sizes shape.bytes root (chunks_told old shape root) (chunk_blocks_told old shape root) kept read.stored)
 
   pub chunks_told-same : chunks_told new shape root ≡ chunks_told old shape root
   chunks_told-same = sym (chunks_are_told new shape root (chunks_told old shape root) (chunk_blocks_told old shape root) stays)
@@ -58,6 +60,8 @@ module _ (old new : List ℕ) (shape : Shape) (root : ℕ) (read : AreChunksRead
 
   pub chunks_read-same : Inside (length new) (chunk_blocks_told old shape root) → AreChunksRead new shape root
   chunks_read-same inside = record {
+    k_some = subst (λ n. 1 ≤ n) (sym k) read.k_some;
+    k_few = subst (λ n. n ≤ 32767) (sym k) read.k_few;
     stored = subst (HasChunks new (chunk_k new) shape.sizes shape.bytes root (chunks_told new shape root)) (sym chunk_blocks_told-same)
         (subst (λ (c : Chunks). HasChunks new (chunk_k new) shape.sizes shape.bytes root c (chunk_blocks_told old shape root)) (sym chunks_told-same) stays);
     inside = subst (Inside (length new)) (sym chunk_blocks_told-same) inside;

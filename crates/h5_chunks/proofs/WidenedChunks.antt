@@ -5,7 +5,7 @@ use Rattle.h5_bytes.specs.Blocks.{cover}
 use Rattle.h5_model.specs.Format.Chunks.{all_offsets_in}
 use Rattle.h5_model.specs.Format.Links.{Before, NotAfter}
 use Rattle.h5_model.specs.Format.Nodes.{Kind, node_at, tree_blocks}
-use Rattle.h5_model.specs.Format.Reached.{Shape, shape_kind}
+use Rattle.h5_model.specs.Format.Reached.{Shape}
 use Rattle.h5_model.specs.Format.Rows.{Node, Reading}
 use Rattle.h5_laws.specs.ChunkLadders.{rising_chunk_sides}
 use Rattle.h5_laws.proofs.ChunkLadders.{chunk_order}
@@ -54,20 +54,17 @@ wide_each : (old new : List ℕ) (kind : Kind) (rank : ℕ) (offsets low high : 
 wide_each old new kind rank offsets low high [] are = tt
 wide_each old new kind rank offsets low high (step ∷ way) are = (are.0, wide_each old new kind rank offsets low high way are.1)
 
-module _ (s t : Space) (shape : Shape) (offsets : List ℕ) (root level : ℕ) (way : List Step) (owned list : List ℕ) (k : ℕ)
-    (e : EndsInTree s (shape_kind s.bytes shape) root level way owned list k) (low high : List ℕ)
-    (tree : (root height k : ℕ) (owned list : List ℕ) → EndsInTree s (shape_kind s.bytes shape) root height way owned list k
-    → EndsInTree t (shape_kind s.bytes shape) root height way owned list k)
-    (wide : IsWidened s t (shape_kind s.bytes shape) way (ends_along (node_at s.bytes (shape_kind s.bytes shape)) (behind_at (length shape.sizes) offsets) 1 way) low high)
-    (others : (root height k : ℕ) (owned list : List ℕ) → EndsInTree s (shape_kind s.bytes shape) root height way owned list k
-    → (n : ℕ) → Owns owned n → AllByRecursion (λ (step : Step). n ≢ step.node) way → node_at t.bytes (shape_kind s.bytes shape) n ≡ node_at s.bytes (shape_kind s.bytes shape) n)
-    (chosen : AllByRecursion (IsChosen (node_at s.bytes (shape_kind s.bytes shape)) (behind_at (length shape.sizes) offsets)) way)
+module _ (kind : Kind) (some : 1 ≤ kind.k) (s t : Space) (shape : Shape) (offsets : List ℕ) (root level : ℕ) (way : List Step) (owned list : List ℕ) (k : ℕ)
+    (e : EndsInTree s kind root level way owned list k) (low high : List ℕ)
+    (tree : (root height k : ℕ) (owned list : List ℕ) → EndsInTree s kind root height way owned list k
+    → EndsInTree t kind root height way owned list k)
+    (wide : IsWidened s t kind way (ends_along (node_at s.bytes kind) (behind_at (length shape.sizes) offsets) 1 way) low high)
+    (others : (root height k : ℕ) (owned list : List ℕ) → EndsInTree s kind root height way owned list k
+    → (n : ℕ) → Owns owned n → AllByRecursion (λ (step : Step). n ≢ step.node) way → node_at t.bytes kind n ≡ node_at s.bytes kind n)
+    (chosen : AllByRecursion (IsChosen (node_at s.bytes kind) (behind_at (length shape.sizes) offsets)) way)
     (own : all_offsets_in (length shape.sizes) low ≡ offsets ++ 0 ∷ []) (past : Before (offsets ++ 0 ∷ []) (all_offsets_in (length shape.sizes) high)) where
   abbrev rank : ℕ
   rank = length shape.sizes
-
-  abbrev kind : Kind
-  kind = shape_kind s.bytes shape
 
   abbrev V : Reading
   V = node_at s.bytes kind
@@ -75,7 +72,7 @@ module _ (s t : Space) (shape : Shape) (offsets : List ℕ) (root level : ℕ) (
   abbrev W : Reading
   W = node_at t.bytes kind
 
-  pub ends_now : EndsInTree t (shape_kind s.bytes shape) root level way owned list k
+  pub ends_now : EndsInTree t kind root level way owned list k
   ends_now = tree root level k owned list e
 
   along : AreWidened s.bytes t.bytes kind (e.step ∷ e.above) (ends_along V (behind_at rank offsets) 1 (e.step ∷ e.above)) low high
@@ -94,9 +91,6 @@ module _ (s t : Space) (shape : Shape) (offsets : List ℕ) (root level : ℕ) (
   keeps n owns apart =
       let same = others root level k owned list e n owns apart in
       (ap (λ (o : Node). o.keys) same, ap (λ (o : Node). o.children) same, ap (λ (o : Node). o.level) same)
-
-  abbrev some : 1 ≤ kind.k
-  some = omega arith
 
   abbrev Eased : Step → Type 0
   Eased = IsEased (rising_chunk_sides rank) (chunk_order rank) (chunk_of rank) (IsKeyedChunk shape) (offsets, 0) s t kind root level way owned list k e some keeps keyed_at
@@ -123,13 +117,13 @@ module _ (s t : Space) (shape : Shape) (offsets : List ℕ) (root level : ℕ) (
       )
 
   -- its key before the child stays, and the chunk is below the one behind it
-  pub first_low : get_or (node_at t.bytes (shape_kind s.bytes shape) (e.step).node).keys (e.step).place [] ≡ get_or (node_at s.bytes (shape_kind s.bytes shape) (e.step).node).keys (e.step).place []
+  pub first_low : get_or (node_at t.bytes kind (e.step).node).keys (e.step).place [] ≡ get_or (node_at s.bytes kind (e.step).node).keys (e.step).place []
   first_low = low_there rank offsets (V (e.step).node) (e.step).place choices.0 (keys_count s.bytes kind (e.step).node) false low high own past (W (e.step).node) first_keys
 
-  pub first_left : Before (offsets ++ 0 ∷ []) (all_offsets_in (length shape.sizes) (get_or (node_at t.bytes (shape_kind s.bytes shape) (e.step).node).keys (suc (e.step).place) []))
+  pub first_left : Before (offsets ++ 0 ∷ []) (all_offsets_in (length shape.sizes) (get_or (node_at t.bytes kind (e.step).node).keys (suc (e.step).place) []))
   first_left = left_there rank offsets (V (e.step).node) (e.step).place choices.0 (keys_count s.bytes kind (e.step).node) false low high own past (W (e.step).node) first_keys
 
-  pub first_children : (node_at t.bytes (shape_kind s.bytes shape) (e.step).node).children ≡ (node_at s.bytes (shape_kind s.bytes shape) (e.step).node).children
+  pub first_children : (node_at t.bytes kind (e.step).node).children ≡ (node_at s.bytes kind (e.step).node).children
   first_children = ap (λ (o : Node). o.children) first_wide
 
   -- ---- the nodes above
@@ -156,35 +150,35 @@ module _ (s t : Space) (shape : Shape) (offsets : List ℕ) (root level : ℕ) (
         left_there rank offsets (V step.node) step.place choice long true low high own past (W step.node) keys,
       )
 
-  pub admits : AllByRecursion (λ (step : Step). NotAfter (all_offsets_in (length shape.sizes) (get_or (node_at t.bytes (shape_kind s.bytes shape) step.node).keys step.place [])) (offsets ++ 0 ∷ [])
-      × Before (offsets ++ 0 ∷ []) (all_offsets_in (length shape.sizes) (get_or (node_at t.bytes (shape_kind s.bytes shape) step.node).keys (suc step.place) []))) e.above
+  pub admits : AllByRecursion (λ (step : Step). NotAfter (all_offsets_in (length shape.sizes) (get_or (node_at t.bytes kind step.node).keys step.place [])) (offsets ++ 0 ∷ [])
+      × Before (offsets ++ 0 ∷ []) (all_offsets_in (length shape.sizes) (get_or (node_at t.bytes kind step.node).keys (suc step.place) []))) e.above
   admits = all_both (IsWide V t.bytes kind rank offsets low high) (IsChosen V (behind_at rank offsets)) Admits e.above admit above_wide choices.1
 
   -- ---- the tree
 
-  both : IsOrderedTree s.bytes shape root level owned list e.tree → IsOrderedTree t.bytes shape root level owned list ends_now.tree
+  both : IsOrderedTree kind s.bytes shape root level owned list e.tree → IsOrderedTree kind t.bytes shape root level owned list ends_now.tree
       × (items_of_tree (chunk_of rank) t.bytes kind keyed_at level root ≡ items_of_tree (chunk_of rank) s.bytes kind keyed_at level root)
   unfolding first_eased
   both = eased_sorted (rising_chunk_sides rank) (chunk_order rank) (chunk_of rank) (IsKeyedChunk shape) (offsets, 0) s t kind root level way owned list k e some keeps keyed_at
       first_eased (all_both (IsWide V t.bytes kind rank offsets low high) (IsChosen V (behind_at rank offsets)) Eased e.above eases above_wide choices.1) refl
 
   -- ITS KEYS ARE IN ORDER STILL, and all chunks stay
-  pub ordered_now : IsOrderedTree s.bytes shape root level owned list e.tree → IsOrderedTree t.bytes shape root level owned list ends_now.tree
+  pub ordered_now : IsOrderedTree kind s.bytes shape root level owned list e.tree → IsOrderedTree kind t.bytes shape root level owned list ends_now.tree
   ordered_now ordered = (both ordered).0
 
-  pub items_now : IsOrderedTree s.bytes shape root level owned list e.tree
-      → items_of_tree (chunk_of (length shape.sizes)) t.bytes (shape_kind s.bytes shape) keyed_at level root
-      ≡ items_of_tree (chunk_of (length shape.sizes)) s.bytes (shape_kind s.bytes shape) keyed_at level root
+  pub items_now : IsOrderedTree kind s.bytes shape root level owned list e.tree
+      → items_of_tree (chunk_of (length shape.sizes)) t.bytes kind keyed_at level root
+      ≡ items_of_tree (chunk_of (length shape.sizes)) s.bytes kind keyed_at level root
   items_now ordered = (both ordered).1
 
-  pub moves_now : Moves s t (tree_blocks (shape_kind s.bytes shape) owned) (tree_blocks (shape_kind s.bytes shape) owned)
+  pub moves_now : Moves s t (tree_blocks kind owned) (tree_blocks kind owned)
   moves_now = moves_wider s t kind owned way (way_owned s kind root level way owned list k e) wide.moves
 
   -- each node on the way is as full as it was
   abbrev IsFull : Reading → Step → Type 0
   IsFull U step = length (U step.node).children ≡ 2 * kind.k
 
-  pub full_before : IsFullWay t.bytes (shape_kind s.bytes shape) way → IsFullWay s.bytes (shape_kind s.bytes shape) way
+  pub full_before : IsFullWay t.bytes kind way → IsFullWay s.bytes kind way
   full_before full =
       let all = subst (AllByRecursion (IsFull W)) e.way_is full in
       subst (AllByRecursion (IsFull V)) (sym e.way_is) (

@@ -5,7 +5,7 @@ use Rattle.h5_bytes.specs.Blocks.{block}
 use Rattle.h5_model.specs.Format.Chunks.{Chunks}
 use Rattle.h5_model.specs.Format.Nodes.{node_at, node_length}
 use Rattle.h5_model.specs.Format.Reached.{Shape, shape_kind}
-use Rattle.h5_model.specs.Format.Superblock.{chunk_k, superblock_length}
+use Rattle.h5_model.specs.Format.Superblock.{k_values, superblock_length}
 use Rattle.h5_space.specs.Moves.{Moves}
 use Rattle.h5_space.specs.Space.{Space}
 use Rattle.h5_space.specs.Whole.{IsApart}
@@ -27,7 +27,7 @@ pub record HasChunksNow (old new : Space) (shape : Shape) (root : ℕ) (chunks :
   pub told : chunks_told new.bytes shape root ≡ chunks
   pub stand : AreChunksApart new shape root
   pub moves : Moves old new (chunk_blocks_told old.bytes shape root) (chunk_blocks_told new.bytes shape root)
-  pub k : chunk_k new.bytes ≡ chunk_k old.bytes
+  pub k : k_values new.bytes ≡ k_values old.bytes
 
 -- ---- a chunk more
 

@@ -6,7 +6,7 @@ use Rattle.h5_bytes.specs.Blocks.{Keeps, block}
 use Rattle.h5_bytes.specs.Bytes.{number_at}
 use Rattle.h5_model.specs.Format.Nodes.{Kind, node_at}
 use Rattle.h5_model.specs.Format.Reached.{Shape}
-use Rattle.h5_model.specs.Format.Superblock.{superblock_length}
+use Rattle.h5_model.specs.Format.Superblock.{k_values, superblock_length}
 use Rattle.h5_space.specs.Moves.{Moves}
 use Rattle.h5_space.specs.Space.{Space}
 use Rattle.h5_space.specs.Whole.{IsApart}
@@ -26,11 +26,12 @@ pub record IsBlockBeside (s : Space) (shape : Shape) (root at : ℕ) : Type 0 wh
   pub apart : IsApart (block at shape.bytes ∷ block 0 (superblock_length s.bytes) ∷ chunk_blocks_told s.bytes shape root) s.free (length s.bytes)
   pub long : superblock_length s.bytes ≤ length s.bytes
 
--- The chunk in this block is one of the tree's now. Its bytes stay, and so do those of the others.
+-- The chunk in this block is one of the tree's now. Its bytes stay, and so do those of the others, and all K values.
 pub record HasChunkPut (old new : Space) (shape : Shape) (root : ℕ) (offsets : List ℕ) (at : ℕ) : Type 0 where
   pub told : chunks_told new.bytes shape root ≡ with_chunk (chunks_told old.bytes shape root) offsets at
   pub stand : AreChunksApart new shape root
   pub moves : Moves old new (block at shape.bytes ∷ chunk_blocks_told old.bytes shape root) (chunk_blocks_told new.bytes shape root)
+  pub k : k_values new.bytes ≡ k_values old.bytes
   pub kept : Keeps old.bytes new.bytes (block at shape.bytes ∷ map (λ (x : ℕ). block x shape.bytes) (values (chunks_told old.bytes shape root)))
 
 -- The key stands behind the chunk with this key, and is that of none: it has no bytes and no filter, the offsets of the key, each with the

@@ -7,8 +7,11 @@ use Rattle.h5_model.specs.Format.Chunks.{Chunks, HasChunks}
 use Rattle.h5_model.specs.Format.Reached.{Shape}
 use Rattle.h5_chunks.specs.Told.{chunk_blocks_told, chunks_told}
 
--- The chunks of this shape in the tree at this root stand in the image: those that are told, in the blocks that are told.
+-- The chunks of this shape in the tree at this root stand in the image: those that are told, in the blocks that are told. K of their
+-- nodes is one that an image may have.
 pub record AreChunksRead (image : List ℕ) (shape : Shape) (root : ℕ) : Type 0 where
+  pub k_some : 1 ≤ chunk_k image
+  pub k_few : chunk_k image ≤ 32767
   pub stored : HasChunks image (chunk_k image) shape.sizes shape.bytes root (chunks_told image shape root)
       (chunk_blocks_told image shape root)
   pub inside : Inside (length image) (chunk_blocks_told image shape root)

@@ -8,6 +8,11 @@ use Rattle.h5_model.specs.Format.Chunks.{all_offsets_in}
 use Rattle.h5_model.specs.Format.Reached.{Shape, level_at, shape_kind}
 use Rattle.h5_btree.specs.Descent.{EndsAt, IsInRow}
 
+-- a chunk that is sought: K of the nodes of the image's trees of chunks, and its offsets
+pub record SoughtOffsets : Type 0 where
+  pub k : ℕ
+  pub offsets : List ℕ
+
 -- whether the chunk at these offsets, whose offset for the element is 0, stands behind a key
 abbrev pub chunk_behind : List ℕ → List ℕ → Bool
 chunk_behind offsets key = is_le (slice_cmp nat_cmp (all_offsets_in (length offsets) key) (offsets ++ 0 ∷ []))

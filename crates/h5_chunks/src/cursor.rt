@@ -1,8 +1,9 @@
 //! The way to one chunk after another (File Format Specification 3.0, section III.A.1).
 
-ghost use Rattle.std.specs.Prelude.{◌≡◌, ℕ, ◌+◌, ◌*◌, List, None, IfSome, length};
+ghost use Rattle.std.specs.Prelude.{◌≡◌, ℕ, ◌+◌, ◌*◌, ◌≤◌, List, None, IfSome, length};
 ghost use Rattle.std.specs.FinMap.{get};
 ghost use Rattle.std.specs.List.{AllByRecursion};
+ghost use Rattle.h5_model.specs.Format.Superblock.{chunk_k as k_of};
 ghost use Rattle.h5_chunks.specs.Cursor.{IsCursor, IsCursorAt};
 ghost use Rattle.h5_chunks.specs.Read.{AreChunksRead};
 ghost use Rattle.h5_chunks.specs.Told.{chunks_told};
@@ -64,7 +65,7 @@ pub fn chunk_from(
     if let Some(last) = cursor.last {
         let node = tree_node(image, shape, last.node);
         let mut place = last.place;
-        if let Some(at) = chunk_near(&node, &mut place, shape, offsets) {
+        if let Some(at) = chunk_near(image, &node, &mut place, shape, offsets) {
             cursor.last = Some(Step { place, ..last });
             return Some(at);
         }
@@ -77,11 +78,14 @@ pub fn chunk_from(
 /// The child at `place` comes first, and then the next one. Only then the node is searched by halves, if the chunk is
 /// between its first key and its last.
 fn chunk_near(
+    image: &Image,
     node: &Node<'_>,
     place: &mut usize,
     shape: &ChunkShape<'_>,
     offsets: &[u64],
 ) -> Option<u64>
+    requires long { 26 ≤ length image.now.bytes }
+    requires few { k_of image.now.bytes ≤ 32767 }
     requires rank { length offsets.now ≡ length shape.now.sizes }
     requires keys { AllByRecursion (λ (key : List ℕ).
         length key ≡ 8 + 8 * (length offsets.now + 1)) node.now.keys }
@@ -90,7 +94,7 @@ fn chunk_near(
     if *place >= node.len() {
         return None;
     }
-    let sought = SoughtChunk::new(shape, offsets);
+    let sought = SoughtChunk::new(image, shape, offsets);
     if let Some(at) = chunk_here(node, *place, offsets) {
         return Some(at);
     }

@@ -23,11 +23,10 @@ mod write;
 
 pub use cursor::{ChunkCursor, chunk_from};
 pub use h5_btree::InsertFault;
-pub use h5_space::CHUNK_K;
 pub use held::{ChunkPlace, held_places};
 pub use key::{OFFSETS, key_length};
 pub use list::ChunkList;
-pub use low::is_low;
+pub use low::{is_low, is_low_level};
 pub use offsets::is_key_before;
 pub use outside::{chunks_outside, drop_outside};
 pub use put::{is_full_at, store};

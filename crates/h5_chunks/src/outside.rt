@@ -5,6 +5,7 @@ ghost use Rattle.std.specs.FinMap.{retain_keys, values};
 ghost use Rattle.std.specs.List.{filter};
 ghost use Rattle.h5_bytes.specs.Blocks.{Keeps, block};
 ghost use Rattle.h5_model.specs.Format.Chunks.{chunks_in, offsets_in};
+ghost use Rattle.h5_model.specs.Format.Superblock.{chunk_k as k_of};
 ghost use Rattle.h5_model.specs.Tree.Places.{is_inside};
 ghost use Rattle.h5_space.specs.Moves.{Spends};
 ghost use Rattle.h5_btree.specs.Walk.Below.{reading_in};
@@ -63,7 +64,8 @@ fn push_outside(
     at: u64,
     sizes: &[u64],
 ) -> Result<(), AllocError>
-    requires long { 20 ≤ length image.now.bytes }
+    requires long { 26 ≤ length image.now.bytes }
+    requires few { k_of image.now.bytes ≤ 32767 }
     requires node { IsBottomNode image.now.bytes shape.now at }
     requires rank { length sizes.now ≡ length shape.now.sizes }
     requires list { (outside.old.rank ≡ length shape.now.sizes) × (outside.old.bytes ≡ shape.now.bytes) }

@@ -8,6 +8,7 @@ ghost use Rattle.h5_bytes.specs.Bytes.{part};
 ghost use Rattle.h5_model.specs.Format.Chunks.{IsChunkKey, IsOffset, offsets_in};
 ghost use Rattle.h5_model.specs.Format.Nodes.{node_at, node_length as length_of_node};
 ghost use Rattle.h5_model.specs.Format.Reached.{shape_kind};
+ghost use Rattle.h5_model.specs.Format.Superblock.{chunk_k as k_of};
 ghost use Rattle.h5_space.specs.Moves.{Spends};
 ghost use Rattle.h5_btree.specs.Insertion.{IsFullWay};
 ghost use Rattle.h5_btree.specs.Removal.{EndsSomewhere};
@@ -120,6 +121,7 @@ fn put_chunk(image: &mut Image, shape: &ChunkShape<'_>, root: u64, key: &[u8], c
         → IsBushy image.new.bytes shape.now root low }
     ensures spends { Spends image.old image.new (17 * chunk_node_length image.old.bytes shape.now) 17 }
 {
+    let kind = shape.kind(image);
     let offsets = Offsets::of_key(shape.sizes.len(), key);
     let mut bytes = [0; LONGEST_KEY];
     let last = &mut bytes[..key.len()];
@@ -128,9 +130,9 @@ fn put_chunk(image: &mut Image, shape: &ChunkShape<'_>, root: u64, key: &[u8], c
         Some(way) => {
             let behind = is_behind_end(image, shape, offsets.as_slice(), &way);
             let_in(image, shape, offsets.as_slice(), &way, key, last);
-            put_beside(image, shape.kind(image), &way, behind, key, chunk);
+            put_beside(image, kind, &way, behind, key, chunk);
         }
-        None => put_first(image, shape.kind(image), root, key, last, chunk),
+        None => put_first(image, kind, root, key, last, chunk),
     }
 }
 
@@ -154,13 +156,14 @@ fn write_key_behind(key: &[u8], sizes: &[u64], out: &mut [u8])
 /// Whether the chunk at these offsets stands behind the key before the child at the end of a way.
 fn is_behind_end(image: &Image, shape: &ChunkShape<'_>, offsets: &[u64], way: &Way) -> bool
     requires ends { EndsSomewhere image.now (shape_kind image.now.bytes shape.now) way.now }
+    requires few { k_of image.now.bytes ≤ 32767 }
     requires rank { length offsets.now ≡ length shape.now.sizes }
     ensures { (step : Step) (above : List Step) → way.now ≡ step ∷ above
         → result ≡ chunk_behind offsets.now (slice_index_or (node_at image.now.bytes
         (shape_kind image.now.bytes shape.now) step.node).keys step.place []) }
 {
     let step = way.steps()[0];
-    let sought = SoughtChunk::new(shape, offsets);
+    let sought = SoughtChunk::new(image, shape, offsets);
     sought.is_behind(tree_node(image, shape, step.node).key(step.place))
 }
 
@@ -176,13 +179,14 @@ fn let_in(
     high: &[u8],
 )
     requires ends { EndsSomewhere image.old (shape_kind image.old.bytes shape.now) way.now }
+    requires few { k_of image.old.bytes ≤ 32767 }
     requires rank { length offsets.now ≡ length shape.now.sizes }
     requires low { length low.now ≡ length_of_key (length shape.now.sizes) }
     requires high { length high.now ≡ length_of_key (length shape.now.sizes) }
     ensures { IsWayWidened image.old image.new (shape_kind image.old.bytes shape.now) offsets.now way.now
         low.now high.now }
 {
-    let sought = SoughtChunk::new(shape, offsets);
+    let sought = SoughtChunk::new(image, shape, offsets);
     let ends = ends_to_widen(image, &sought, way, 1);
     widen(image, shape.kind(image), way, &ends, low, high);
 }

@@ -4,7 +4,7 @@ ghost use Rattle.std.specs.Prelude.{◌≡◌, ◌+◌, ◌*◌, ◌≤◌, ℕ,
 ghost use Rattle.std.specs.FinMap.{get};
 ghost use Rattle.std.specs.List.{AllByRecursion, Contains};
 ghost use Rattle.h5_model.specs.Format.Nodes.{chunk_kind, node_at};
-ghost use Rattle.h5_model.specs.Format.PlainSuperblock.{plain_chunk_k};
+ghost use Rattle.h5_model.specs.Format.Superblock.{chunk_k as k_of};
 ghost use Rattle.h5_model.specs.Format.Reached.{level_at, shape_kind};
 ghost use Rattle.h5_model.specs.Format.Rows.{row_below};
 ghost use Rattle.h5_btree.specs.Descent.{EndsAt, IsWayTo};
@@ -17,7 +17,7 @@ use crate::cursor::{ChunkCursor, chunk_down};
 use crate::offsets::key_order;
 use crate::shape::ChunkShape;
 use h5_btree::{Node, NodeKind, Sought, Step, Way, child_for, find_way, tree_node};
-use h5_space::{CHUNK_K, Image};
+use h5_space::{Image, chunk_k};
 use std::marker::Model;
 
 /// The address of the chunk at these offsets, which are in cells; `None` where it is not stored.
@@ -61,7 +61,7 @@ pub(crate) fn end_of_way(
     ensures few { length offsets.now ≤ 32 }
     ensures none { IfNone result (get (chunks_told image.now.bytes shape.now root) offsets.now ≡ None) }
 {
-    let sought = SoughtChunk::new(shape, offsets);
+    let sought = SoughtChunk::new(image, shape, offsets);
     let top = tree_node(image, shape, root);
     if top.is_empty() {
         return None;
@@ -78,9 +78,10 @@ fn end_below(
     sought: &SoughtChunk<'_>,
 ) -> Step
     requires row { IsInSomeRow image.now.bytes (shape_kind image.now.bytes shape.now) level at }
-    requires rank { length sought.now ≡ length shape.now.sizes }
+    requires few { k_of image.now.bytes ≤ 32767 }
+    requires rank { length sought.now.offsets ≡ length shape.now.sizes }
     ensures ends { EndsAt (node_at image.now.bytes (shape_kind image.now.bytes shape.now))
-        (chunk_behind sought.now) level at
+        (chunk_behind sought.now.offsets) level at
         (node_at image.now.bytes (shape_kind image.now.bytes shape.now) result.node) result.place }
     ensures bottom { Contains (row_below (node_at image.now.bytes (shape_kind image.now.bytes shape.now))
         level (at ∷ [])) result.node }
@@ -110,46 +111,55 @@ pub(crate) fn way_to(
         ((node_at image.now.bytes (shape_kind image.now.bytes shape.now) root).children ≡ []) }
     ensures none { IfNone result (get (chunks_told image.now.bytes shape.now root) offsets.now ≡ None) }
 {
-    let sought = SoughtChunk::new(shape, offsets);
+    let sought = SoughtChunk::new(image, shape, offsets);
     find_way(image.bytes(), root, &sought).unwrap()
 }
 
 /// A chunk that is sought by its offsets. It stands behind a key that is not above it.
 #[derive(Drop)]
 pub(crate) struct SoughtChunk<'a> {
+    /// K of the nodes of chunk trees.
+    k: u16,
     offsets: &'a [u64],
 }
 
 impl<'a> Model for SoughtChunk<'a> {
-    ghost use Rattle.std.specs.Prelude.{ℕ, ◌≤◌, List, length};
+    ghost use Rattle.std.specs.Prelude.{◌≤◌, length};
+    ghost use Rattle.h5_chunks.specs.Way.{SoughtOffsets};
 
-    ghost Value = { List ℕ };
+    ghost Value = { SoughtOffsets };
 
-    ghost view = { λ a. a.offsets.now };
+    ghost view = { λ a. record { k = a.k; offsets = a.offsets.now } };
 
-    ghost invariant = { λ a. length a.offsets.now ≤ 32 };
+    ghost invariant = { λ a. (a.k ≤ 32767) × (length a.offsets.now ≤ 32) };
 }
 
 impl<'a> SoughtChunk<'a> {
-    /// The chunk of this shape at these offsets.
-    pub(crate) fn new(shape: &ChunkShape<'_>, offsets: &'a [u64]) -> Self
-        requires { length offsets.now ≡ length shape.now.sizes }
-        ensures offsets { result ≡ offsets.now }
+    /// The chunk of this shape at these offsets, in this image.
+    pub(crate) fn new(image: &Image, shape: &ChunkShape<'_>, offsets: &'a [u64]) -> Self
+        requires long { 26 ≤ length image.now.bytes }
+        requires k { k_of image.now.bytes ≤ 32767 }
+        requires rank { length offsets.now ≡ length shape.now.sizes }
+        ensures k { result.k ≡ k_of image.now.bytes }
+        ensures offsets { result.offsets ≡ offsets.now }
         ensures few { length offsets.now ≤ 32 }
     {
         // A shape has at most 32 sizes.
         let _sizes = shape.sizes;
-        SoughtChunk { offsets }
+        SoughtChunk {
+            k: chunk_k(image.bytes()),
+            offsets,
+        }
     }
 }
 
 impl Sought for SoughtChunk<'_> {
-    ghost tree_kind = { λ s. chunk_kind plain_chunk_k (length s) };
+    ghost tree_kind = { λ s. chunk_kind s.k (length s.offsets) };
 
-    ghost behind = { λ s key. chunk_behind s key };
+    ghost behind = { λ s key. chunk_behind s.offsets key };
 
     fn kind(&self) -> NodeKind {
-        NodeKind::chunks(CHUNK_K, self.offsets.len())
+        NodeKind::chunks(self.k, self.offsets.len())
     }
 
     fn is_behind(&self, key: &[u8]) -> bool {

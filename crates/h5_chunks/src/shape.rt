@@ -14,7 +14,7 @@ use crate::key::is_chunk_key;
 use h5_btree::{Leaves, Node, NodeKind, Trees};
 use h5_bytes::Block;
 use h5_model::{Cause, OpenFault};
-use h5_space::{CHUNK_K, Claims, Image, claim, fault};
+use h5_space::{Claims, Image, chunk_k, claim, fault};
 use std::marker::Model;
 
 /// The sizes of a dataset's chunks in cells, and how many bytes one chunk has.
@@ -50,8 +50,8 @@ impl<'a> ChunkShape<'a> {
 impl Trees for ChunkShape<'_> {
     ghost form = { λ s. OfChunks s };
 
-    fn kind(&self, _image: &Image) -> NodeKind {
-        NodeKind::chunks(CHUNK_K, self.sizes.len())
+    fn kind(&self, image: &Image) -> NodeKind {
+        NodeKind::chunks(chunk_k(image.bytes()), self.sizes.len())
     }
 }
 

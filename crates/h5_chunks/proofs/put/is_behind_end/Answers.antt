@@ -35,9 +35,13 @@ module _ (c : After-steps) where
       subst (λ (st : Step). st.place < length (node_at c.args.image.now.bytes (shape_kind c.args.image.now.bytes c.args.shape.now) st.node).children)
       (sym (first_is c e.step e.above e.way_is)) (first_place c.args.image.now c.args.shape.now c.args.way.now c.requires.ends e.step e.above e.way_is)
 
+pub new-sought-requires-clause-long : goal.new-sought-requires-clause-long
+new-sought-requires-clause-long c =
+    long_by_way c.args.image.now c.args.shape.now c.args.way.now c.requires.ends
+
 pub tree_node-requires-clause-long : goal.tree_node-requires-clause-long
 tree_node-requires-clause-long c =
-    long_by_way c.args.image.now (shape_kind c.args.image.now.bytes c.args.shape.now) c.args.way.now c.requires.ends
+    long_by_way c.args.image.now c.args.shape.now c.args.way.now c.requires.ends
 
 pub tree_node-requires-clause-there : goal.tree_node-requires-clause-there
 tree_node-requires-clause-there c = stands (goal.at.tree_node-requires-clause-there c).After-steps
@@ -56,7 +60,7 @@ is_behind-requires c =
     let at = (goal.at.is_behind-requires c).After-steps in
     let long = key_long c.args.image.now.bytes c.args.shape.now (step at).node c.tree_node.result c.tree_node.ensures (stands at) (step at).place c.key.result.now
     (low at c.tree_node.result c.tree_node.ensures) c.key.ensures in
-    let rank : length c.new-sought.result ≡ length c.args.shape.now.sizes = ap (λ (xs : List ℕ). length xs) c.new-sought.ensures.offsets ∙ c.requires.rank in
+    let rank : length c.new-sought.result.offsets ≡ length c.args.shape.now.sizes = ap (λ (xs : List ℕ). length xs) c.new-sought.ensures.offsets ∙ c.requires.rank in
     omega (arith, long, rank)
 
 pub returns : goal.returns

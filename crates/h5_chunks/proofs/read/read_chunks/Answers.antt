@@ -49,7 +49,8 @@ returns-clause-stored c =
     let root = c.args.root in
     let nodes = c.in_ok-tree.tree.nodes.items in
     let leaves = c.in_ok-tree.tree.leaves.items in
-    chunks_read image shape root nodes leaves c.in_ok-tree.ensures.tree c.in_ok-check_order.ensures.ordered c.in_ok-tree.ensures.inside
+    chunks_read image shape root nodes leaves c.in_ok-tree.ensures.tree c.in_ok-check_order.ensures.ordered (c.requires.superblock).chunk_low
+    (c.requires.superblock).chunk_high c.in_ok-tree.ensures.inside
 
 pub returns-clause-claimed : goal.returns-clause-claimed
 returns-clause-claimed c =

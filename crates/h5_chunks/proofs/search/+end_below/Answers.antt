@@ -24,13 +24,13 @@ child_for-place-requires-clause-keys t c =
 pub end_below-requires : goal.end_below-requires
 end_below-requires t c =
     let row = some_child c.args.image.now.bytes c.args.shape.now c.args.level c.args.at c.requires.row c.tree_node-node.result c.tree_node-node.ensures
-    (chunk_behind c.args.sought.now) c.child_for-place.result c.child.result c.child_for-place.ensures c.child.ensures c.if-level-eq0.false in
-    (omega (arith, c.if-level-eq0.false, c.decreases), (row, c.requires.rank))
+    (chunk_behind c.args.sought.now.offsets) c.child_for-place.result c.child.result c.child_for-place.ensures c.child.ensures c.if-level-eq0.false in
+    (omega (arith, c.if-level-eq0.false, c.decreases), (row, (c.requires.few, c.requires.rank)))
 
 pub returns-clause-ends : goal.returns-clause-ends
 returns-clause-ends t c =
     let V = node_at c.args.image.now.bytes (shape_kind c.args.image.now.bytes c.args.shape.now) in
-    ends_on c.args.image.now.bytes (shape_kind c.args.image.now.bytes c.args.shape.now) (chunk_behind c.args.sought.now) c.args.at c.tree_node-node.result
+    ends_on c.args.image.now.bytes (shape_kind c.args.image.now.bytes c.args.shape.now) (chunk_behind c.args.sought.now.offsets) c.args.at c.tree_node-node.result
     c.child_for-place.result c.child.result c.tree_node-node.ensures c.child_for-place.ensures c.child.ensures c.args.level (V c.end_below.result.node) c.end_below.result.place
     c.if-level-eq0.false c.end_below.ensures.ends
 
