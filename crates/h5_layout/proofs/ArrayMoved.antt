@@ -10,7 +10,8 @@ use Rattle.h5_bytes.proofs.PartLaws.{length-part, length-with_part, part-with_pa
 use Rattle.h5_model.specs.Format.Layout.{Layout, layout_of}
 use Rattle.h5_model.specs.Format.Messages.{Message, count_of, first_body, reference_count}
 use Rattle.h5_model.specs.Format.Reads.{IsChunkSmall, is_attribute_message, is_kept, kept_of}
-use Rattle.h5_model.specs.Format.Superblock.{superblock_length}
+use Rattle.h5_model.specs.Format.Superblock.{k_values}
+use Rattle.h5_model.proofs.KLaws.{same_chunk, same_length}
 use Rattle.h5_space.specs.Moves.{Moves, Spends}
 use Rattle.h5_space.specs.Space.{Space}
 use Rattle.h5_space.specs.Whole.{IsApart}
@@ -24,6 +25,7 @@ use Rattle.h5_header.proofs.BlockPuts.{count_kept, standing_kept}
 use Rattle.h5_header.proofs.FirstWritten.{HasNewBody, IsBodyWritten, body_written, same_count, same_filter, written_covered}
 use Rattle.h5_header.proofs.FoundLaws.{first_body-in, within_at}
 use Rattle.h5_header.proofs.KeptLaws.{listed-same}
+use Rattle.h5_chunks.proofs.SuperblockStays.{k_stays, superblock_of}
 use Rattle.h5_layout.specs.ArrayEdits.{IsArrayApart, IsArrayMoved, array_blocks, described_in}
 use Rattle.h5_layout.specs.Data.{AreDataRead, data_blocks}
 use Rattle.h5_layout.specs.Described.{Described, HasArray}
@@ -32,12 +34,17 @@ use Rattle.h5_layout.specs.Told.{array_told}
 use Rattle.h5_layout.proofs.Relaid.{relaid}
 use Rattle.h5_layout.proofs.ToldLaws.{told}
 
+-- what is apart from the superblock is apart from one of the same length
+pub beside_superblock : (s t : Space) → k_values t.bytes ≡ k_values s.bytes → (bs : List Block) → IsApart (superblock_of s ∷ bs) t.free (length t.bytes)
+    → IsApart (superblock_of t ∷ bs) t.free (length t.bytes)
+beside_superblock s t k bs apart = subst (λ n. IsApart (block 0 n ∷ bs) t.free (length t.bytes)) (sym (same_length t.bytes s.bytes k)) apart
+
 -- ---- the data are moved
 
 module _ (s t : Space) (m : Listed) (was : IsArrayApart s m) (a b : List Block)
     (blocks_were : data_blocks s.bytes (described_in s.bytes m).fixed (described_in s.bytes m).layout ≡ a) (moves : Moves s t a b) where
   abbrev others : List Block
-  others = block 0 (superblock_length s.bytes) ∷ m.blocks
+  others = superblock_of s ∷ m.blocks
 
   pub others_apart : IsApart (a ++ others) s.free (length s.bytes)
   others_apart p =
@@ -56,6 +63,10 @@ module _ (s t : Space) (m : Listed) (was : IsArrayApart s m) (a b : List Block)
   pub array_still : described_in t.bytes m ≡ described_in s.bytes m
   array_still = ap array_told said_still
 
+  -- the superblock is none of the blocks that are moved
+  pub k_still : k_values t.bytes ≡ k_values s.bytes
+  k_still = k_stays s t a b m.blocks moves others_apart was.long
+
   now_apart : IsApart (b ++ others) t.free (length t.bytes)
   now_apart = moves_apart s t a b others moves others_apart
 
@@ -70,10 +81,12 @@ module _ (s t : Space) (m : Listed) (was : IsArrayApart s m) (a b : List Block)
       kinds = subst IsOfDataset (sym said_still) was.kinds;
       array = subst (λ (ms : List Message). HasArray ms (array_told ms)) (sym said_still) was.array;
       read = subst (λ (x : Described). AreDataRead t.bytes x.fixed x.layout) (sym array_still) read;
-      apart = λ p.
+      apart = beside_superblock s t k_still (array_blocks t.bytes m) (λ p.
           let laid = ap (cover p) blocks_now in
-          omega (arith, now_apart p, laid, cover-append p b others, cover-append p m.blocks (data_blocks t.bytes (described_in t.bytes m).fixed (described_in t.bytes m).layout));
-      long = omega (arith, was.long, moves.grown);
+          omega (arith, now_apart p, laid, cover-append p b others, cover-append p m.blocks (data_blocks t.bytes (described_in t.bytes m).fixed (described_in t.bytes m).layout)));
+      long = omega (arith, was.long, moves.grown, same_length t.bytes s.bytes k_still);
+      k_some = subst (λ n. 1 ≤ n) (sym (same_chunk t.bytes s.bytes k_still)) was.k_some;
+      k_few = subst (λ n. n ≤ 32767) (sym (same_chunk t.bytes s.bytes k_still)) was.k_few;
     }
 
     pub data_moved : IsArrayMoved s t m m
@@ -92,7 +105,7 @@ module _ (s t : Space) (m : Listed) (was : IsArrayApart s m) (a b : List Block)
           (λ p. let laid = ap (cover p) blocks_now in
           omega (arith, laid, cover-append p b m.blocks, cover-append p m.blocks (data_blocks t.bytes (described_in t.bytes m).fixed (described_in t.bytes m).layout)))
           (moves_beside s t a b m.blocks moves);
-      k = refl;
+      k = k_still;
     }
 
 -- ---- one move after another, of which the first leaves the messages as they are
@@ -108,7 +121,7 @@ moved_then s t u m m' first second = record {
     kept = second.others.kept ∙ first.others.kept;
   };
   moves = moves_then s t u (array_blocks s.bytes m) (array_blocks t.bytes m) (array_blocks u.bytes m') first.moves second.moves;
-  k = refl;
+  k = second.k ∙ first.k;
 }
 
 -- ---- blocks are taken, and the Data Layout message is written
@@ -167,20 +180,33 @@ module _ (old mid new : Space) (m : Listed) (was : IsArrayApart old m)
 
   -- the blocks that were taken, and the header's, are apart from each other
   abbrev all : List Block
-  all = m.blocks ++ (block 0 (superblock_length old.bytes) ∷ bs)
+  all = m.blocks ++ (superblock_of old ∷ bs)
 
   mid_apart : IsApart all mid.free (length mid.bytes)
   mid_apart p =
-      let others = block 0 (superblock_length old.bytes) ∷ m.blocks in
+      let others = superblock_of old ∷ m.blocks in
       let both = moves_apart old mid [] bs others taken (others_apart old mid m was [] bs none taken) p in
-      omega (arith, both, cover-append p bs others, cover-append p m.blocks (block 0 (superblock_length old.bytes) ∷ bs))
+      omega (arith, both, cover-append p bs others, cover-append p m.blocks (superblock_of old ∷ bs))
 
   header_writes : Moves mid new m.blocks m.blocks
   header_writes = moves_covered mid new w (x.at + from) m.blocks covered fit bytes_are free_is
 
+  k_mid : k_values mid.bytes ≡ k_values old.bytes
+  k_mid = k_still old mid m was [] bs none taken
+
+  -- nor is it written
+  pub layout_k : k_values new.bytes ≡ k_values mid.bytes
+  layout_k =
+      let same = same_length mid.bytes old.bytes k_mid in
+      k_stays mid new m.blocks m.blocks bs header_writes (subst (λ n. IsApart (m.blocks ++ (block 0 n ∷ bs)) mid.free (length mid.bytes)) (sym same) mid_apart)
+      (omega (arith, was.long, taken.grown, same))
+
+  k_new : k_values new.bytes ≡ k_values old.bytes
+  k_new = layout_k ∙ k_mid
+
   pub taken_keeps : Inside (length mid.bytes) bs → Keeps mid.bytes new.bytes bs
   taken_keeps within =
-      (moves_kept mid new m.blocks m.blocks (block 0 (superblock_length old.bytes) ∷ bs) header_writes mid_apart (omega (arith, was.long, taken.grown), within)).1
+      (moves_kept mid new m.blocks m.blocks (superblock_of old ∷ bs) header_writes mid_apart (omega (arith, was.long, taken.grown), within)).1
 
   -- the body is the old one with these bytes
   abbrev pub body_now : List ℕ
@@ -232,7 +258,7 @@ module _ (old mid new : Space) (m : Listed) (was : IsArrayApart old m)
     blocks_now_are = ap (λ (y : Described). data_blocks new.bytes y.fixed y.layout) layout_told_now ∙ blocks_are
 
     new_apart : IsApart all new.free (length new.bytes)
-    new_apart = moves_apart mid new m.blocks m.blocks (block 0 (superblock_length old.bytes) ∷ bs) header_writes mid_apart
+    new_apart = moves_apart mid new m.blocks m.blocks (superblock_of old ∷ bs) header_writes mid_apart
 
     kinds_now : IsOfDataset said
     kinds_now = record {
@@ -248,16 +274,18 @@ module _ (old mid new : Space) (m : Listed) (was : IsArrayApart old m)
         kinds = kinds_now;
         array = subst (HasArray said) (sym layout_told_now) has_now;
         read = subst (λ (y : Described). AreDataRead new.bytes y.fixed y.layout) (sym layout_told_now) read;
-        apart = λ p.
+        apart = beside_superblock old new k_new (array_blocks new.bytes m) (λ p.
             let laid = ap (cover p) blocks_now_are in
             omega (
               arith,
               new_apart p,
               laid,
-              cover-append p m.blocks (block 0 (superblock_length old.bytes) ∷ bs),
+              cover-append p m.blocks (superblock_of old ∷ bs),
               cover-append p m.blocks (data_blocks new.bytes (described_in new.bytes m).fixed (described_in new.bytes m).layout),
-            );
-        long = omega (arith, was.long, taken.grown, layout_long);
+            ));
+        long = omega (arith, was.long, taken.grown, layout_long, same_length new.bytes old.bytes k_new);
+        k_some = subst (λ n. 1 ≤ n) (sym (same_chunk new.bytes old.bytes k_new)) was.k_some;
+        k_few = subst (λ n. n ≤ 32767) (sym (same_chunk new.bytes old.bytes k_new)) was.k_few;
       };
       header = refl;
       count = ap reference_count written.prefix ∙ count_kept old.bytes mid.bytes m was.standing (header_keeps old mid m was [] bs none taken);
@@ -274,5 +302,5 @@ module _ (old mid new : Space) (m : Listed) (was : IsArrayApart old m)
           (moves_same mid new (m.blocks ++ bs) (m.blocks ++ bs) (bs ++ m.blocks) (bs ++ m.blocks)
           (λ p. omega (arith, cover-append p bs m.blocks, cover-append p m.blocks bs)) (λ p. omega (arith, cover-append p bs m.blocks, cover-append p m.blocks bs))
           (moves_beside mid new m.blocks m.blocks bs header_writes)));
-      k = refl;
+      k = k_new;
     }

@@ -15,6 +15,8 @@ use Rattle.h5_bytes.proofs.PartLaws.{length-with_part, part-with_part_same}
 use Rattle.h5_model.specs.Format.Chunks.{Chunks}
 use Rattle.h5_model.specs.Format.Nodes.{tree_blocks}
 use Rattle.h5_model.specs.Format.Reached.{Shape, shape_kind}
+use Rattle.h5_model.specs.Format.Superblock.{chunk_k, k_values}
+use Rattle.h5_model.proofs.KLaws.{same_chunk, same_length}
 use Rattle.h5_space.specs.Lending.{with_bytes_at}
 use Rattle.h5_space.specs.Moves.{Moves}
 use Rattle.h5_space.specs.Space.{Space}
@@ -29,6 +31,7 @@ use Rattle.h5_chunks.specs.Bushy.{IsBushy}
 use Rattle.h5_chunks.specs.Edited.{AreChunksApart, HasChunksNow}
 use Rattle.h5_layout.specs.Filled.{HasFilledChunks}
 use Rattle.h5_chunks.proofs.BushyTrees.{bushy_kept}
+use Rattle.h5_chunks.proofs.SuperblockStays.{k_stays}
 use Rattle.h5_layout.proofs.GridLaws.{chunk_inside}
 use Rattle.h5_layout.proofs.NodesStay.{blocks_stay, chunks_stay, read_stays}
 use Rattle.h5_layout.proofs.StandingLaws.{among, one_around}
@@ -105,17 +108,28 @@ module _ (s new : Space) (shape : Shape) (root : ℕ) (was : AreChunksApart s sh
       moves_kept s new (block at shape.bytes ∷ []) (block at shape.bytes ∷ []) node_blocks (moves_write s new at shape.bytes w long fit bytes_are free_is)
       (λ p. omega (arith, was.apart p, parts p, among_boxes offsets at found p)) nodes_inside
 
+  -- the superblock is not written
+  pub written_k : k_values new.bytes ≡ k_values s.bytes
+  written_k =
+      k_stays s new (block at shape.bytes ∷ []) (block at shape.bytes ∷ []) [] (moves_write s new at shape.bytes w long fit bytes_are free_is)
+      (λ p. omega (arith, was.apart p, parts p, among_boxes offsets at found p)) was.long
+
+  same_k : chunk_k new.bytes ≡ chunk_k s.bytes
+  same_k = same_chunk new.bytes s.bytes written_k
+
   pub written_chunks : chunks_told new.bytes shape root ≡ chunks
-  written_chunks = chunks_stay s.bytes new.bytes shape root was.read same_long nodes_keep
+  written_chunks = chunks_stay s.bytes new.bytes shape root same_k was.read same_long nodes_keep
 
   written_blocks : chunk_blocks_told new.bytes shape root ≡ chunk_blocks_told s.bytes shape root
-  written_blocks = blocks_stay s.bytes new.bytes shape root was.read same_long nodes_keep
+  written_blocks = blocks_stay s.bytes new.bytes shape root same_k was.read same_long nodes_keep
 
   pub written_apart : AreChunksApart new shape root
   written_apart = record {
-    read = read_stays s.bytes new.bytes shape root was.read same_long nodes_keep;
-    apart = λ p. omega (arith, was.apart p, ap (cover p) written_blocks, ap (cover p) free_is, ap (λ n. holds p 0 n) same_long);
-    long = omega (arith, was.long, same_long);
+    read = read_stays s.bytes new.bytes shape root same_k was.read same_long nodes_keep;
+    apart = λ p.
+        let first = ap (λ n. holds p 0 n) (same_length new.bytes s.bytes written_k) in
+        omega (arith, was.apart p, first, ap (cover p) written_blocks, ap (cover p) free_is, ap (λ n. holds p 0 n) same_long);
+    long = omega (arith, was.long, same_long, same_length new.bytes s.bytes written_k);
   }
 
   pub written_moves : Moves s new (chunk_blocks_told s.bytes shape root) (chunk_blocks_told new.bytes shape root)
@@ -128,7 +142,7 @@ module _ (s new : Space) (shape : Shape) (root : ℕ) (was : AreChunksApart s sh
   pub written_bushy : (low : ℕ) → IsBushy s.bytes shape root low → IsBushy new.bytes shape root low
   written_bushy low =
       let told = nodes_are s.bytes shape root was.read.stored.owned (values chunks) (stored_tree s.bytes shape root chunks (chunk_blocks_told s.bytes shape root) was.read.stored) in
-      bushy_kept s.bytes new.bytes shape root low (subst (λ (ns : List ℕ). Keeps s.bytes new.bytes (tree_blocks (shape_kind s.bytes shape) ns)) told nodes_keep)
+      bushy_kept s.bytes new.bytes shape root low same_k (subst (λ (ns : List ℕ). Keeps s.bytes new.bytes (tree_blocks (shape_kind s.bytes shape) ns)) told nodes_keep)
 
   -- the chunk has these bytes, and the others have theirs
   pub written_here : part at shape.bytes new.bytes ≡ w
@@ -195,6 +209,7 @@ module _ (s mid new : Space) (shape : Shape) (root : ℕ) (offsets : List ℕ) (
           ap (λ (c : Chunks). get c o) chunks_now ∙ found_other old offsets at o apart ∙ there,
           written_others mid new shape root stored.stand offsets at there_now w long wrote o a mid_there apart ∙ kept_mid o a there,
         );
+    k = written_k mid new shape root stored.stand offsets at there_now w long wrote ∙ stored.k;
     moves = moves_then s mid new (chunk_blocks_told s.bytes shape root) (chunk_blocks_told mid.bytes shape root) (chunk_blocks_told new.bytes shape root) stored.moves
         (written_moves mid new shape root stored.stand offsets at there_now w long wrote);
     bushy = λ low is. written_bushy mid new shape root stored.stand offsets at there_now w long wrote low (bushy low is);

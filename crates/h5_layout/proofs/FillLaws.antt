@@ -6,7 +6,7 @@ use Rattle.std.proofs.lemmas.Nat.{pow_pos}
 use Rattle.std.proofs.lemmas.Option.{same_Some}
 use Rattle.h5_model.specs.Format.Fixed.{Fixed, IsFixed, is_size, fixed_from, fits, value_at}
 use Rattle.h5_model.specs.Format.Datatype.{fixed_of, is_fixed_point, type_size, is_signed, is_high_first}
-use Rattle.h5_model.specs.Format.Fill.{sized_value, fill_value, old_fill_value}
+use Rattle.h5_model.specs.Format.Fill.{sized_value, fill_value, flagged_value, marked_value, old_fill_value}
 use Rattle.h5_model.proofs.StoredValues.{fits_value_at}
 
 -- the bytes are numbers below 256
@@ -39,9 +39,25 @@ by_flag true true c t v o fit h = subst (λ (x : ℤ). fits t x ≡ true) (same_
 by_flag true false true t v o fit h = fit h
 by_flag true false false t v o fit h = absurd (cc)
 
+marked_fits : (t : Fixed) (body : List ℕ) (v : ℤ) → IsFixed t → AreBytes body → marked_value t body ≡ Some v → fits t v ≡ true
+marked_fits t body v is low h = by_flag _ _ _ t v (sized_value t body 4) (sized_fits t body 4 v is low) h
+
+by_flags : (a b : Bool) (t : Fixed) (v : ℤ) (o : Option ℤ) → (o ≡ Some v → fits t v ≡ true) → cond a (cond b o (Some (pos 0))) None ≡ Some v → fits t v ≡ true
+by_flags false b t v o fit h = absurd (cc)
+by_flags true true t v o fit h = fit h
+by_flags true false t v o fit h = subst (λ (x : ℤ). fits t x ≡ true) (same_Some (pos 0) v h) (zero_fits t)
+
+flagged_fits : (t : Fixed) (body : List ℕ) (v : ℤ) → IsFixed t → AreBytes body → flagged_value t body ≡ Some v → fits t v ≡ true
+flagged_fits t body v is low h = by_flags _ _ t v (sized_value t body 2) (sized_fits t body 2 v is low) h
+
+by_version : (a b : Bool) (x y : Option ℤ) (P : Type 0) (v : ℤ) → (x ≡ Some v → P) → (y ≡ Some v → P) → cond a x (cond b y None) ≡ Some v → P
+by_version true b x y P v first second h = first h
+by_version false true x y P v first second h = second h
+by_version false false x y P v first second h = absurd (cc)
+
 pub fill_fits : (t : Fixed) (body : List ℕ) (v : ℤ) → IsFixed t → AreBytes body → fill_value t body ≡ Some v → fits t v ≡ true
 unfolding fill_value
-fill_fits t body v is low h = by_flag _ _ _ t v (sized_value t body 4) (sized_fits t body 4 v is low) h
+fill_fits t body v is low h = by_version _ _ (marked_value t body) (flagged_value t body) _ v (marked_fits t body v is low) (flagged_fits t body v is low) h
 
 -- ---- the type
 

@@ -1,20 +1,23 @@
 -- Chunks stored with each cell the fill, some after others.
-use Rattle.std.proofs.Common.{◌≡◌, ℕ, ◌*◌, ℤ, inl, inr, List, [], ◌++◌, length, replicate, Option, Some, refl, sym, ap, ◌∙◌, subst}
-use Rattle.std.specs.Prelude.{OnOk, IfErr, Result, Ok, Err}
+use Rattle.std.proofs.Common.{◌≡◌, ℕ, ◌+◌, ◌*◌, ℤ, inl, inr, List, [], ◌++◌, length, replicate, Option, Some, refl, sym, ap, ◌∙◌, subst}
+use Rattle.std.specs.Prelude.{OnErr, OnOk, IfErr, Result, Ok, Err}
 use Rattle.std.specs.FinMap.{get}
 use Rattle.std.specs.List.{Contains}
 use Rattle.std.proofs.lemmas.Option.{same_Some}
 use Rattle.std.proofs.lemmas.List.{length-replicate}
 use Rattle.h5_bytes.specs.Bytes.{part}
 use Rattle.h5_model.specs.Format.Fixed.{Fixed}
+use Rattle.h5_model.specs.Format.Nodes.{Kind, node_length}
 use Rattle.h5_model.specs.Format.Reached.{Shape}
+use Rattle.h5_model.specs.Format.Superblock.{k_values}
 use Rattle.h5_model.proofs.PlainValues.{length-cells_bytes}
 use Rattle.h5_space.specs.Space.{Space}
 use Rattle.h5_space.proofs.MovesLaws.{moves_none, moves_then}
 use Rattle.h5_laws.proofs.Lists.{In, contains_in, in_contains, in_either, in_left, in_right}
 use Rattle.h5_chunks.specs.InsertFaultType.{InsertFault}
 use Rattle.h5_chunks.specs.Told.{chunk_blocks_told, chunks_told}
-use Rattle.h5_chunks.specs.Edited.{AreChunksApart}
+use Rattle.h5_chunks.specs.Edited.{AreChunksApart, store_room}
+use Rattle.h5_chunks.proofs.SuperblockStays.{kind_stays}
 use Rattle.h5_layout.specs.Filled.{FillsChunk, HasFilledChunks, cells_of_fill}
 
 -- as many bytes as the cells take
@@ -34,6 +37,7 @@ module _ (shape : Shape) (root : ℕ) (bytes : List ℕ) where
     stored = record { added = λ offsets at. absurd (in_contains offsets [] at); others = λ offsets no. refl };
     filled = λ offsets at there found. absurd (in_contains offsets [] there);
     kept = λ offsets at found. (found, refl);
+    k = refl;
     moves = moves_none s (chunk_blocks_told s.bytes shape root);
     bushy = λ low bushy. bushy;
   }
@@ -79,18 +83,24 @@ module _ (shape : Shape) (root : ℕ) (bytes : List ℕ) where
           let f = first.kept offsets at found in
           let g = second.kept offsets at f.0 in
           (g.0, g.1 ∙ f.1);
+      k = second.k ∙ first.k;
       moves = moves_then s t u (chunk_blocks_told s.bytes shape root) (chunk_blocks_told t.bytes shape root) (chunk_blocks_told u.bytes shape root) first.moves second.moves;
       bushy = λ low bushy. second.bushy low (first.bushy low bushy);
     }
 
 -- ---- how the storing ends
 
--- where it can't fail, it has not
-pub not_failed : {P Q : Type 0} (r : Result (Unit {0}) InsertFault) → OnOk r P → IfErr r (λ fault. Q → ⊥) → Q → P
-not_failed (Ok done) stored never q = stored
-not_failed (Err fault) stored never q = absurd (never q)
+-- where it can't fail, a refusal leaves whatever is asked
+pub never_refused : {P Q : Type 0} (R : Type 0) (r : Result (Unit {0}) InsertFault) → IfErr r (λ fault. P) → IfErr r (λ fault. Q) → (P → Q → ⊥) → OnErr r R
+never_refused R (Ok done) turn low never = tt
+never_refused R (Err fault) turn low never = absurd (never turn low)
 
 -- what follows where it has ended well
 pub then_ok : {P Q : Type 0} (r : Result (Unit {0}) InsertFault) → OnOk r P → (P → Q) → OnOk r Q
 then_ok (Ok done) p next = next p
 then_ok (Err fault) p next = tt
+
+-- ---- the room that a chunk may take, where K stays
+
+pub store_room_same : (s t : Space) (shape : Shape) → k_values t.bytes ≡ k_values s.bytes → store_room t.bytes shape ≡ store_room s.bytes shape
+store_room_same s t shape k = ap (λ (kind : Kind). shape.bytes + 17 * node_length kind) (kind_stays s t shape k)

@@ -14,6 +14,8 @@ use Rattle.h5_model.specs.Format.Messages.{first_body}
 use Rattle.h5_model.specs.Format.Nodes.{Kind, node_at, tree_blocks}
 use Rattle.h5_model.specs.Format.Reached.{Shape, level_at, shape_kind}
 use Rattle.h5_model.specs.Format.Rows.{Reading, nodes}
+use Rattle.h5_model.specs.Format.Superblock.{chunk_k}
+use Rattle.h5_model.proofs.KLaws.{same_chunk}
 use Rattle.h5_model.specs.Tree.Places.{cells}
 use Rattle.h5_space.specs.Moves.{Moves, Spends}
 use Rattle.h5_space.specs.Space.{Space}
@@ -29,7 +31,7 @@ use Rattle.h5_layout.specs.Data.{AreDataRead, chunk_shape, data_blocks}
 use Rattle.h5_layout.specs.Described.{Described, HasArray}
 use Rattle.h5_layout.specs.LayoutEdits.{HasLayoutRoom, IsLayoutWritten}
 use Rattle.h5_layout.specs.NewTrees.{IsTreeNamed}
-use Rattle.h5_layout.proofs.ArrayMoved.{body_now, layout_long, layout_moved, layout_spends, layout_told_now, layout_was, taken_keeps}
+use Rattle.h5_layout.proofs.ArrayMoved.{body_now, layout_k, layout_long, layout_moved, layout_spends, layout_told_now, layout_was, taken_keeps}
 use Rattle.h5_layout.proofs.LayoutBodies.{block_room, tree_named, tree_room}
 use Rattle.h5_layout.proofs.StorableLaws.{small_told}
 
@@ -121,14 +123,17 @@ module _ (old mid new : Space) (m : Listed) (was : IsArrayApart old m) (shape : 
   pub named_spends : Spends mid new 0 0
   named_spends = layout_spends old mid new m was no_blocks bs taken 3 (little_bytes 8 root) wrote
 
+  same_k : chunk_k new.bytes ≡ chunk_k mid.bytes
+  same_k = same_chunk new.bytes mid.bytes (layout_k old mid new m was no_blocks bs taken 3 (little_bytes 8 root) wrote)
+
   chunks_now : chunks_told new.bytes shape root ≡ empty
-  chunks_now = chunks_told-same mid.bytes new.bytes shape root stand.read keeps ∙ empty_told
+  chunks_now = chunks_told-same mid.bytes new.bytes shape root stand.read same_k keeps ∙ empty_told
 
   blocks_now : chunk_blocks_told new.bytes shape root ≡ bs
-  blocks_now = chunk_blocks_told-same mid.bytes new.bytes shape root stand.read keeps
+  blocks_now = chunk_blocks_told-same mid.bytes new.bytes shape root stand.read same_k keeps
 
   read_now : AreChunksRead new.bytes shape root
-  read_now = chunks_read-same mid.bytes new.bytes shape root stand.read keeps (subst (λ (n : ℕ). Inside n bs) (sym long) stand.read.inside)
+  read_now = chunks_read-same mid.bytes new.bytes shape root stand.read same_k keeps (subst (λ (n : ℕ). Inside n bs) (sym long) stand.read.inside)
 
   abbrev l : Layout
   l = InChunks shape.sizes (Some root)

@@ -1,8 +1,8 @@
 -- Where the cells of an array stand is as it was once values were written into these cells.
-use Rattle.std.proofs.Common.{◌≡◌, ℕ, ◌+◌, ◌*◌, ◌<◌, ◌≤◌, ℤ, List, length, Some, true, sym, ap, ◌∙◌, subst, arith}
+use Rattle.std.proofs.Common.{◌≡◌, ℕ, ◌+◌, ◌*◌, ◌<◌, ◌≤◌, ℤ, List, ◌∷◌, length, Some, true, sym, ap, ◌∙◌, subst, arith}
 use Rattle.std.specs.FinMap.{get}
 use Rattle.std.specs.List.{list_all}
-use Rattle.h5_bytes.specs.Blocks.{cover}
+use Rattle.h5_bytes.specs.Blocks.{block, cover}
 use Rattle.h5_bytes.specs.Bytes.{with_part}
 use Rattle.h5_header.specs.declared.message.Message.{Message as Placed}
 use Rattle.h5_model.specs.Format.Chunks.{Chunks}
@@ -11,6 +11,7 @@ use Rattle.h5_model.specs.Format.Layout.{Layout, InMessage, InChunks}
 use Rattle.h5_model.specs.Format.Messages.{Message}
 use Rattle.h5_model.specs.Format.Plain.{cells_bytes}
 use Rattle.h5_model.specs.Format.Reached.{Shape}
+use Rattle.h5_model.specs.Format.Superblock.{superblock_length}
 use Rattle.h5_model.specs.Tree.Grid.{corner_of}
 use Rattle.h5_model.specs.Tree.Places.{cells, index_of}
 use Rattle.h5_chunks.specs.Cursor.{IsCursor}
@@ -27,7 +28,7 @@ use Rattle.h5_layout.proofs.StandingWritten.{IsCursorIn, stored_chunks_stay, sto
 -- ---- cells in a block or in chunks
 
 module _ (old : List ℕ) (a : Described) (ms : List Message) (has : HasArray ms a) (is : IsFixed a.fixed) (read : AreDataRead old a.fixed a.layout)
-    (once : (p : ℕ) → cover p (data_blocks old a.fixed a.layout) ≤ 1) (place at : ℕ) (values : List ℤ) (some : 0 < length values)
+    (once : (p : ℕ) → cover p (block 0 (superblock_length old) ∷ data_blocks old a.fixed a.layout) ≤ 1) (whole : superblock_length old ≤ length old) (place at : ℕ) (values : List ℤ) (some : 0 < length values)
     (stand : IsStandingAt old a place (length values) at) (room : place + length values ≤ cells a.sizes) (all : list_all (fits a.fixed) values ≡ true)
     (new : List ℕ) (wrote : new ≡ with_part at (cells_bytes a.fixed values) old) where
   pub stored_places : (list : List Placed) (places : KeptPlaces) → ArePlacesOf old list a places → ArePlacesOf new list a places
@@ -35,20 +36,20 @@ module _ (old : List ℕ) (a : Described) (ms : List Message) (has : HasArray ms
     go : (s : CellStand) → DoStandAs old list a s → DoStandAs new list a s
     go Nowhere none = none
     go (InLine start) line =
-        let long = stored_long old a ms has is read once place at values some stand room all new wrote in
+        let long = stored_long old a ms has is read once whole place at values some stand room all new wrote in
         (line.0, omega (arith, long, line.1))
     go (InIndex g) of =
         let chunks : AreDataRead new a.fixed (InChunks g.shape.sizes (Some g.root))
-        = subst (AreDataRead new a.fixed) of.layout (stored_read old a ms has is read once place at values some stand room all new wrote) in
+        = subst (AreDataRead new a.fixed) of.layout (stored_read old a ms has is read once whole place at values some stand room all new wrote) in
         let cursor : IsCursorIn old a.fixed a.layout g.cursor
         = subst (λ (l : Layout). IsCursorIn old a.fixed l g.cursor) (sym of.layout) (subst (λ (s : Shape). IsCursor old s g.root g.cursor) of.shape of.kept.cursor) in
         let still : IsCursorIn new a.fixed (InChunks g.shape.sizes (Some g.root)) g.cursor
         = subst (λ (l : Layout). IsCursorIn new a.fixed l g.cursor) of.layout
-        (stored_cursors old a ms has is read once place at values some stand room all new wrote g.cursor cursor) in
+        (stored_cursors old a ms has is read once whole place at values some stand room all new wrote g.cursor cursor) in
         let stored : chunks_told new g.shape g.root ≡ chunks_told old g.shape g.root
         = (λ i. chunks_told new (of.shape i) g.root)
         ∙ subst (λ (l : Layout). stored_chunks new a.fixed l ≡ stored_chunks old a.fixed l) of.layout
-        (stored_chunks_stay old a ms has is read once place at values some stand room all new wrote)
+        (stored_chunks_stay old a ms has is read once whole place at values some stand room all new wrote)
         ∙ sym (λ i. chunks_told old (of.shape i) g.root) in
         record {
           sizes = of.sizes;

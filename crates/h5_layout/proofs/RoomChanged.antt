@@ -21,6 +21,7 @@ module _ (old : Space) (bytes blocks : ℕ) where
     stored = f.stored;
     filled = f.filled;
     kept = f.kept;
+    k = f.k;
     moves = moves_from new _ _ f.moves;
     bushy = f.bushy;
   }

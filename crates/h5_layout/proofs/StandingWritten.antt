@@ -5,7 +5,7 @@ use Rattle.std.proofs.lemmas.Bool.{cases_lt}
 use Rattle.std.proofs.lemmas.List.{places}
 use Rattle.std.proofs.lemmas.List.Folds.{list_all-append}
 use Rattle.std.proofs.lemmas.Nat.{div-add-mod', div_below}
-use Rattle.h5_bytes.specs.Blocks.{cover, holds, Inside, IsKept, Keeps}
+use Rattle.h5_bytes.specs.Blocks.{block, cover, holds, Inside, IsKept, Keeps}
 use Rattle.h5_bytes.specs.Bytes.{byte_at, part, with_part}
 use Rattle.h5_bytes.specs.declared.Block.{Block}
 use Rattle.h5_bytes.proofs.BlockLaws.{all_left, held, holds-le, holds_in, holds_none}
@@ -17,6 +17,8 @@ use Rattle.h5_model.specs.Format.Fixed.{Fixed, IsFixed, fits, value_at, value_of
 use Rattle.h5_model.specs.Format.Layout.{Layout, InMessage, InBlock, InChunks, layout_of}
 use Rattle.h5_model.specs.Format.Messages.{Message}
 use Rattle.h5_model.specs.Format.Plain.{cells_bytes}
+use Rattle.h5_model.specs.Format.Superblock.{k_values, superblock_length}
+use Rattle.h5_model.proofs.KLaws.{k_values_stay, same_chunk, same_length}
 use Rattle.h5_model.specs.Tree.Places.{cells, index_of}
 use Rattle.h5_model.proofs.FixedLaws.{value_back, length-bytes_of}
 use Rattle.h5_model.proofs.PlainValues.{length-cells_bytes, size-low}
@@ -69,12 +71,13 @@ cell_around s some x n low =
 
 -- ---- the data stay
 
--- the data can be written where they stand: they are read, and no two of their blocks share a byte
+-- the data can be written where they stand: they are read, and no two of their blocks and the superblock share a byte
 pub record AreApart (image : List ℕ) (t : Fixed) (sizes : List ℕ) (layout : Layout) : Type 0 where
   pub read : AreDataRead image t layout
   pub room : has_room sizes t.size layout ≡ true
   pub boxes : HasBoxes layout
-  pub once : (p : ℕ) → cover p (data_blocks image t layout) ≤ 1
+  pub once : (p : ℕ) → cover p (block 0 (superblock_length image) ∷ data_blocks image t layout) ≤ 1
+  pub long : superblock_length image ≤ length image
 
 -- where the tree of the chunks was left last
 abbrev pub IsCursorIn : List ℕ → Fixed → Layout → ChunkCursor → Type 0
@@ -88,6 +91,7 @@ pub record DoStay (image new : List ℕ) (t : Fixed) (sizes : List ℕ) (layout 
   pub apart : AreApart new t sizes layout
   pub chunks : stored_chunks new t layout ≡ stored_chunks image t layout
   pub blocks : data_blocks new t layout ≡ data_blocks image t layout
+  pub k : k_values new ≡ k_values image
   pub cursors : (cursor : ChunkCursor) → IsCursorIn image t layout cursor → IsCursorIn new t layout cursor
 
 module _ (image new : List ℕ) (t : Fixed) (sizes : List ℕ) (long : length new ≡ length image) (x : ℕ)
@@ -115,29 +119,58 @@ module _ (image new : List ℕ) (t : Fixed) (sizes : List ℕ) (long : length ne
         ])
       ])))
 
-  apart_still : (layout : Layout) → AreApart image t sizes layout → AreDataRead new t layout → data_blocks new t layout ≡ data_blocks image t layout → AreApart new t sizes layout
-  apart_still layout was read blocks = record {
+  -- nor has the superblock
+  k_kept : (layout : Layout) → AreApart image t sizes layout → (place : ℕ) → place < cells sizes → stands image t sizes layout place ≡ Some x → k_values new ≡ k_values image
+  k_kept layout was place low is =
+      let n = superblock_length image in
+      let h = held_cell image t sizes layout was.read was.room was.boxes place x low is in
+      k_values_stay image new n (omega arith) (part-same 0 n image new (omega (arith, was.long)) (omega (arith, long)) (λ p since until. kept p (elim (cases_lt p x) [
+        | inl below ↦ inl below
+        | inr above ↦ inr (elim (cases_lt p (x + t.size)) [
+          | inl within ↦ absurd (
+              let first : holds p 0 n ≡ 1 = holds_in p 0 n since until in
+              let mine : holds p h.b.at h.b.len ≡ 1 = holds_in p h.b.at h.b.len (omega (arith, h.at, above)) (omega (arith, h.at, h.room, within)) in
+              omega (arith, first, mine, h.within p, was.once p))
+          | inr past ↦ past
+        ])
+      ])))
+
+  apart_still : (layout : Layout) → AreApart image t sizes layout → k_values new ≡ k_values image → AreDataRead new t layout → data_blocks new t layout ≡ data_blocks image t layout
+      → AreApart new t sizes layout
+  apart_still layout was k read blocks = record {
     read = read;
     room = was.room;
     boxes = was.boxes;
-    once = subst (λ (bs : List Block). (p : ℕ) → cover p bs ≤ 1) (sym blocks) was.once;
+    once = subst (λ n. (p : ℕ) → cover p (block 0 n ∷ data_blocks new t layout) ≤ 1) (sym (same_length new image k))
+        (subst (λ (bs : List Block). (p : ℕ) → cover p (block 0 (superblock_length image) ∷ bs) ≤ 1) (sym blocks) was.once);
+    long = omega (arith, was.long, long, same_length new image k);
   }
 
-  pub do_stay : (layout : Layout) → AreApart image t sizes layout → (place : ℕ) → stands image t sizes layout place ≡ Some x → DoStay image new t sizes layout
-  do_stay (InMessage bytes) was place is = record { apart = apart_still (InMessage bytes) was tt refl; chunks = refl; blocks = refl; cursors = λ cursor is. tt }
-  do_stay (InBlock None) was place is = record { apart = apart_still (InBlock None) was tt refl; chunks = refl; blocks = refl; cursors = λ cursor is. tt }
-  do_stay (InBlock (Some b)) was place is =
+  pub do_stay : (layout : Layout) → AreApart image t sizes layout → (place : ℕ) → place < cells sizes → stands image t sizes layout place ≡ Some x → DoStay image new t sizes layout
+  do_stay (InMessage bytes) was place low is =
+      let k = k_kept (InMessage bytes) was place low is in
+      record { apart = apart_still (InMessage bytes) was k tt refl; chunks = refl; blocks = refl; k = k; cursors = λ cursor is. tt }
+  do_stay (InBlock None) was place low is =
+      let k = k_kept (InBlock None) was place low is in
+      record { apart = apart_still (InBlock None) was k tt refl; chunks = refl; blocks = refl; k = k; cursors = λ cursor is. tt }
+  do_stay (InBlock (Some b)) was place low is =
+      let k = k_kept (InBlock (Some b)) was place low is in
       let read : b.at + b.len ≤ length new = omega (arith, long, was.read) in
-      record { apart = apart_still (InBlock (Some b)) was read refl; chunks = refl; blocks = refl; cursors = λ cursor is. tt }
-  do_stay (InChunks chunk None) was place is = record { apart = apart_still (InChunks chunk None) was tt refl; chunks = refl; blocks = refl; cursors = λ cursor is. tt }
-  do_stay (InChunks chunk (Some root)) was place is =
-      let kept = nodes_kept chunk root was.read (grind (arith, was.room)) was.boxes was.once place is in
-      let blocks = blocks_stay image new (chunk_shape t chunk) root was.read long kept in
+      record { apart = apart_still (InBlock (Some b)) was k read refl; chunks = refl; blocks = refl; k = k; cursors = λ cursor is. tt }
+  do_stay (InChunks chunk None) was place low is =
+      let k = k_kept (InChunks chunk None) was place low is in
+      record { apart = apart_still (InChunks chunk None) was k tt refl; chunks = refl; blocks = refl; k = k; cursors = λ cursor is. tt }
+  do_stay (InChunks chunk (Some root)) was place low is =
+      let k = k_kept (InChunks chunk (Some root)) was place low is in
+      let same = same_chunk new image k in
+      let kept = nodes_kept chunk root was.read (grind (arith, was.room)) was.boxes (λ p. omega (arith, was.once p)) place is in
+      let blocks = blocks_stay image new (chunk_shape t chunk) root same was.read long kept in
       record {
-        apart = apart_still (InChunks chunk (Some root)) was (read_stays image new (chunk_shape t chunk) root was.read long kept) blocks;
-        chunks = chunks_stay image new (chunk_shape t chunk) root was.read long kept;
+        apart = apart_still (InChunks chunk (Some root)) was k (read_stays image new (chunk_shape t chunk) root same was.read long kept) blocks;
+        chunks = chunks_stay image new (chunk_shape t chunk) root same was.read long kept;
         blocks = blocks;
-        cursors = cursors_stay image new (chunk_shape t chunk) root was.read long kept;
+        k = k;
+        cursors = cursors_stay image new (chunk_shape t chunk) root same was.read long kept;
       }
 
   -- ---- one cell
@@ -167,7 +200,7 @@ module _ (image new : List ℕ) (t : Fixed) (sizes : List ℕ) (long : length ne
             | inl under ↦ inl under
             | inr above ↦ inr (elim (cases_lt p (x + t.size)) [
               | inl within ↦ absurd (
-                  let one = one_cell image t sizes layout was.read was.room was.boxes was.once j place y x p below low there is since until above within in
+                  let one = one_cell image t sizes layout was.read was.room was.boxes (λ p. omega (arith, was.once p)) j place y x p below low there is since until above within in
                   elim far [ inl less ↦ omega (arith, one, less) | inr more ↦ omega (arith, one, more) ])
               | inr past ↦ past
             ])
@@ -176,7 +209,7 @@ module _ (image new : List ℕ) (t : Fixed) (sizes : List ℕ) (long : length ne
 
     pub cell_set : cells_of new t fill sizes layout (stored_chunks new t layout) ≡ set (cells_of image t fill sizes layout (stored_chunks image t layout)) place v
     cell_set =
-        ap (cells_of new t fill sizes layout) (do_stay layout was place is).chunks
+        ap (cells_of new t fill sizes layout) (do_stay layout was place low is).chunks
         ∙ table_set (λ j. cell_of image t fill sizes layout chunks (index_of sizes j)) (λ j. cell_of new t fill sizes layout chunks (index_of sizes j)) (cells sizes) place v low
         (value_now new long place x (held_cell image t sizes layout was.read was.room was.boxes place x low is) ∙ here) other
 
@@ -205,7 +238,7 @@ module _ (t : Fixed) (is : IsFixed t) (fill : ℤ) (sizes : List ℕ) (layout : 
       → IsRunWritten image (with_part at (cells_bytes t values) image) t fill sizes layout place values
   run_written [] place at image was all room low stand =
       subst (λ (new : List ℕ). IsRunWritten image new t fill sizes layout place []) (sym (with_part-none at image (omega (arith, low))))
-      (record { stay = record { apart = was; chunks = refl; blocks = refl; cursors = λ cursor is. is }; long = refl; cells = refl })
+      (record { stay = record { apart = was; chunks = refl; blocks = refl; k = refl; cursors = λ cursor is. is }; long = refl; cells = refl })
   run_written (v ∷ vs) place at image was all room low stand =
       let first : List ℕ = with_part at (bytes_of t v) image in
       let wide = length-bytes_of t v in
@@ -217,7 +250,7 @@ module _ (t : Fixed) (is : IsFixed t) (fill : ℤ) (sizes : List ℕ) (layout : 
       = ap (stands image t sizes layout) (let same : place ≡ place + 0 = omega arith in same) ∙ stand 0 (omega arith) ∙ ap (λ (n : ℕ). Some n) (let same : at + 0 * t.size ≡ at = omega arith in same) in
       let kept : (p : ℕ) → (p < at) ⊎ (at + t.size ≤ p) → byte_at first p ≡ byte_at image p
       = λ p far. byte_beside at (bytes_of t v) image p fit (elim far [ inl under ↦ inl under | inr past ↦ inr (omega (arith, past, wide)) ]) in
-      let one = do_stay image first t sizes long at kept layout was place here in
+      let one = do_stay image first t sizes long at kept layout was place (omega (arith, room)) here in
       let set_one = cell_set image first t sizes long at kept fill layout was place (omega (arith, room)) here v
       (first_value image at v (and_left (fits t v) (list_all (fits t) vs) all) (omega (arith, fit, wide))) (size-low t is) in
       let next : DoStand first (place + 1) (length vs) (at + t.size) = λ k few.
@@ -234,6 +267,7 @@ module _ (t : Fixed) (is : IsFixed t) (fill : ℤ) (sizes : List ℕ) (layout : 
           apart = rest.stay.apart;
           chunks = rest.stay.chunks ∙ one.chunks;
           blocks = rest.stay.blocks ∙ one.blocks;
+          k = rest.stay.k ∙ one.k;
           cursors = λ cursor is. rest.stay.cursors cursor (one.cursors cursor is);
         };
         long = rest.long ∙ long;
@@ -304,7 +338,7 @@ moves_within old new at w bs fit is free covered =
     }
 
 module _ (old : List ℕ) (a : Described) (ms : List Message) (has : HasArray ms a) (is : IsFixed a.fixed) (read : AreDataRead old a.fixed a.layout)
-    (once : (p : ℕ) → cover p (data_blocks old a.fixed a.layout) ≤ 1) (place at : ℕ) (values : List ℤ) (some : 0 < length values)
+    (once : (p : ℕ) → cover p (block 0 (superblock_length old) ∷ data_blocks old a.fixed a.layout) ≤ 1) (whole : superblock_length old ≤ length old) (place at : ℕ) (values : List ℤ) (some : 0 < length values)
     (stand : IsStandingAt old a place (length values) at) (room : place + length values ≤ cells a.sizes) where
   apart : AreApart old a.fixed a.sizes a.layout
   apart =
@@ -314,6 +348,7 @@ module _ (old : List ℕ) (a : Described) (ms : List Message) (has : HasArray ms
         room = room_of a.sizes a.fixed.size (layout.0).body a.layout layout.3;
         boxes = boxes_of a.sizes a.fixed.size (layout.0).body a.layout layout.3;
         once = once;
+        long = whole;
       }
 
   -- the cells lie in the image
@@ -350,6 +385,9 @@ module _ (old : List ℕ) (a : Described) (ms : List Message) (has : HasArray ms
 
     pub stored_blocks_stay : data_blocks new a.fixed a.layout ≡ data_blocks old a.fixed a.layout
     stored_blocks_stay = run.stay.blocks
+
+    pub stored_k : k_values new ≡ k_values old
+    stored_k = run.stay.k
 
     pub stored_cursors : (cursor : ChunkCursor) → IsCursorIn old a.fixed a.layout cursor → IsCursorIn new a.fixed a.layout cursor
     stored_cursors = run.stay.cursors

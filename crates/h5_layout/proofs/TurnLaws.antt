@@ -56,6 +56,7 @@ module _ (s t : Space) (shape : Shape) (root : ℕ) (bytes : List ℕ) (new : Ch
       (
         t,
         filled.stand,
+        filled.k,
         subst (λ (m : ℕ). HasStoredMore (chunks_told s.bytes shape root) (chunks_told t.bytes shape root) (take m new.offsets)) same filled.stored,
         subst (λ (m : ℕ). IsFullAt t.bytes shape root (slice_index_or new.offsets m [])) same full,
       ),

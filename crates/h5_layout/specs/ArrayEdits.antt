@@ -5,7 +5,7 @@ use Rattle.h5_bytes.specs.Blocks.{block}
 use Rattle.h5_bytes.specs.declared.Block.{Block}
 use Rattle.h5_model.specs.Format.Messages.{Message, prefix_at, reference_count}
 use Rattle.h5_model.specs.Format.Reads.{is_attribute_message, is_kept, kept_of}
-use Rattle.h5_model.specs.Format.Superblock.{chunk_k, superblock_length}
+use Rattle.h5_model.specs.Format.Superblock.{chunk_k, k_values, superblock_length}
 use Rattle.h5_space.specs.Moves.{Moves}
 use Rattle.h5_space.specs.Space.{Space}
 use Rattle.h5_space.specs.Whole.{IsApart}
@@ -26,7 +26,7 @@ abbrev pub array_blocks : List ℕ → Listed → List Block
 array_blocks image m = m.blocks ++ data_blocks image (type_told (messages_in image m.list)) (layout_told (messages_in image m.list))
 
 -- The header of an array stands in the image with these messages, and so do the array's data, on blocks that share no byte with each
--- other, with the superblock or with a free block.
+-- other, with the superblock or with a free block. K of the nodes of chunk trees is one that an image may have.
 pub record IsArrayApart (s : Space) (m : Listed) : Type 0 where
   pub standing : IsStanding s.bytes m
   pub kinds : IsOfDataset (messages_in s.bytes m.list)
@@ -34,13 +34,15 @@ pub record IsArrayApart (s : Space) (m : Listed) : Type 0 where
   pub read : AreDataRead s.bytes (type_told (messages_in s.bytes m.list)) (layout_told (messages_in s.bytes m.list))
   pub apart : IsApart (block 0 (superblock_length s.bytes) ∷ array_blocks s.bytes m) s.free (length s.bytes)
   pub long : superblock_length s.bytes ≤ length s.bytes
+  pub k_some : 1 ≤ chunk_k s.bytes
+  pub k_few : chunk_k s.bytes ≤ 32767
 
 -- what attributes and kept messages say is as before
 pub record AreOthersKept (old new : List Message) : Type 0 where
   pub attributes : map (λ (m : Message). m.body) (filter is_attribute_message new) ≡ map (λ (m : Message). m.body) (filter is_attribute_message old)
   pub kept : map kept_of (filter is_kept new) ≡ map kept_of (filter is_kept old)
 
--- The array stands in the image still, with these messages now. Its blocks were moved, and no others.
+-- The array stands in the image still, with these messages now. Its blocks were moved, and no others, and all K values stay.
 pub record IsArrayMoved (old new : Space) (m m' : Listed) : Type 0 where
   pub stand : IsArrayApart new m'
   pub header : m'.header ≡ m.header
@@ -48,4 +50,4 @@ pub record IsArrayMoved (old new : Space) (m m' : Listed) : Type 0 where
   pub known : AllByRecursion (λ x. IsTrue (is_read x.kind)) m.list → AllByRecursion (λ x. IsTrue (is_read x.kind)) m'.list
   pub others : AreOthersKept (messages_in old.bytes m.list) (messages_in new.bytes m'.list)
   pub moves : Moves old new (array_blocks old.bytes m) (array_blocks new.bytes m')
-  pub k : chunk_k new.bytes ≡ chunk_k old.bytes
+  pub k : k_values new.bytes ≡ k_values old.bytes

@@ -7,6 +7,7 @@ use Rattle.h5_model.specs.Format.Chunks.{Chunks, IsOffset}
 use Rattle.h5_model.specs.Format.Fixed.{Fixed, IsFixed, fits}
 use Rattle.h5_model.specs.Format.Plain.{cells_bytes}
 use Rattle.h5_model.specs.Format.Reached.{Shape}
+use Rattle.h5_model.specs.Format.Superblock.{k_values}
 use Rattle.h5_space.specs.Moves.{Moves}
 use Rattle.h5_space.specs.Space.{Space}
 use Rattle.h5_chunks.specs.Told.{chunk_blocks_told, chunks_told}
@@ -35,7 +36,7 @@ pub record AreToStore (stored : Chunks) (shape : Shape) (new : ChunkOffsets) : T
   pub absent : AllByRecursion (λ offsets. get stored offsets ≡ None) new.offsets
 
 -- Chunks at these offsets were stored in the tree at this root, each with these bytes. Those that were there have the bytes that they had.
--- The tree's blocks were moved, and no others.
+-- The tree's blocks were moved, and no others, and all K values stay.
 pub record HasFilledChunks (old new : Space) (shape : Shape) (root : ℕ) (bytes : List ℕ) (more : List (List ℕ)) : Type 0 where
   pub stand : AreChunksApart new shape root
   pub stored : HasStoredMore (chunks_told old.bytes shape root) (chunks_told new.bytes shape root) more
@@ -43,5 +44,6 @@ pub record HasFilledChunks (old new : Space) (shape : Shape) (root : ℕ) (bytes
       → part at shape.bytes new.bytes ≡ bytes
   pub kept : (offsets : List ℕ) (at : ℕ) → get (chunks_told old.bytes shape root) offsets ≡ Some at
       → (get (chunks_told new.bytes shape root) offsets ≡ Some at) × (part at shape.bytes new.bytes ≡ part at shape.bytes old.bytes)
+  pub k : k_values new.bytes ≡ k_values old.bytes
   pub moves : Moves old new (chunk_blocks_told old.bytes shape root) (chunk_blocks_told new.bytes shape root)
   pub bushy : (low : ℕ) → IsBushy old.bytes shape root low → IsBushy new.bytes shape root low

@@ -1,16 +1,18 @@
 -- Storage made for the cells of an array, where the array stands (File Format Specification 3.0, sections III.A.1 and IV.A.2.i).
-use Rattle.std.specs.Prelude.{◌≡◌, ℕ, zero, suc, ◌+◌, ◌*◌, ◌<◌, ◌||◌, Bool, true, false, nat_le, Some, List, [], length, take, slice_index_or}
-use Rattle.std.specs.FinMap.{get}
+use Rattle.std.specs.Prelude.{◌≡◌, ℕ, zero, suc, ◌+◌, ◌*◌, ◌<◌, ◌||◌, Bool, true, false, nat_le, None, Some, List, [], length, take, slice_index_or}
+use Rattle.std.specs.FinMap.{empty, get}
 use Rattle.std.specs.List.{Contains}
 use Rattle.h5_model.specs.Edits.Refusal.{is_chunked}
 use Rattle.h5_model.specs.Format.Chunks.{Chunks}
 use Rattle.h5_model.specs.Format.Layout.{Layout, InChunks}
 use Rattle.h5_model.specs.Format.Reached.{Shape, level_at, shape_kind}
 use Rattle.h5_model.specs.Format.Reads.{storage_of}
+use Rattle.h5_model.specs.Format.Superblock.{chunk_k, k_values}
 use Rattle.h5_model.specs.Tree.Places.{cells}
 use Rattle.h5_model.specs.Views.Selection.{Slab}
 use Rattle.h5_space.specs.Space.{Space}
 use Rattle.h5_header.specs.Listed.{Listed}
+use Rattle.h5_chunks.specs.Bushy.{is_low_level}
 use Rattle.h5_chunks.specs.Edited.{AreChunksApart, IsFullAt, chunk_node_length}
 use Rattle.h5_chunks.specs.Told.{chunks_told}
 use Rattle.h5_layout.specs.ArrayEdits.{IsArrayMoved, described_in}
@@ -43,9 +45,10 @@ storage_calls (missing.Chunks new) = 18 * length new.offsets + 1
 
 -- ---- whether a tree has no room
 
--- a root so low that its tree never gets too deep, or none yet
+-- a root so low that its tree never gets too deep, or one that is to be made, at level 0
 abbrev pub is_low_root : List ℕ → Described → Layout → Bool
-is_low_root image a (InChunks chunk (Some root)) = nat_le (level_at image (shape_kind image (chunk_shape a.fixed chunk)) root) 10
+is_low_root image a (InChunks chunk None) = is_low_level (chunk_k image) 0
+is_low_root image a (InChunks chunk (Some root)) = is_low_level (chunk_k image) (level_at image (shape_kind image (chunk_shape a.fixed chunk)) root)
 is_low_root image a _ = true
 
 -- A refusal comes before any change: one chunk at most is missing, or the tree never gets too deep.
@@ -63,12 +66,21 @@ pub record HasStoredMore (old new : Chunks) (more : List (List ℕ)) : Type 0 wh
 abbrev pub IsFullInTurn : List ℕ → Shape → ℕ → List (List ℕ) → ℕ → Type 0
 IsFullInTurn image shape root all zero = (0 < length all) × IsFullAt image shape root (slice_index_or all 0 [])
 IsFullInTurn image shape root all (suc n) =
-    (suc n < length all) × ((now : Space) × AreChunksApart now shape root
+    (suc n < length all) × ((now : Space) × AreChunksApart now shape root × (k_values now.bytes ≡ k_values image)
     × HasStoredMore (chunks_told image shape root) (chunks_told now.bytes shape root) (take (suc n) all)
+    × IsFullAt now.bytes shape root (slice_index_or all (suc n) []))
+
+-- the same where a tree is made for them; the first one finds room in any
+abbrev pub IsFullInNewTree : List ℕ → Shape → List (List ℕ) → ℕ → Type 0
+IsFullInNewTree image shape all zero = ⊥
+IsFullInNewTree image shape all (suc n) =
+    (suc n < length all) × ((now : Space) × (root : ℕ) × AreChunksApart now shape root × (k_values now.bytes ≡ k_values image)
+    × HasStoredMore empty (chunks_told now.bytes shape root) (take (suc n) all)
     × IsFullAt now.bytes shape root (slice_index_or all (suc n) []))
 
 -- so of the chunks that are missing of an array
 abbrev pub IsDeepIn : List ℕ → Described → List (List ℕ) → ℕ → Layout → Type 0
+IsDeepIn image a all n (InChunks chunk None) = IsFullInNewTree image (chunk_shape a.fixed chunk) all n
 IsDeepIn image a all n (InChunks chunk (Some root)) = IsFullInTurn image (chunk_shape a.fixed chunk) root all n
 IsDeepIn image a all n _ = ⊥
 

@@ -6,10 +6,11 @@ ghost use Rattle.std.specs.FinMap.{get};
 ghost use Rattle.h5_bytes.specs.Bytes.{part};
 ghost use Rattle.h5_model.specs.Format.Chunks.{IsChunkKey, offsets_in};
 ghost use Rattle.h5_model.specs.Format.Fixed.{fits};
+ghost use Rattle.h5_model.specs.Format.Superblock.{chunk_k};
 ghost use Rattle.h5_space.specs.Lending.{with_bytes_at};
 ghost use Rattle.h5_space.specs.Moves.{Spends};
 ghost use Rattle.h5_chunks.specs.Told.{chunks_told};
-ghost use Rattle.h5_chunks.specs.Bushy.{IsBushy};
+ghost use Rattle.h5_chunks.specs.Bushy.{IsBushy, is_low_level};
 ghost use Rattle.h5_chunks.specs.Edited.{AreChunksApart, CanBeStored, IsFullAt, store_room};
 ghost use Rattle.h5_layout.specs.Filled.{AreToStore, FillsChunk, HasFilledChunks, cells_of_fill};
 ghost use Rattle.h5_chunks.specs.Lists.{key_length as length_of_key};
@@ -51,7 +52,8 @@ pub(crate) fn store_all(
     ensures deep { IfErr result (λ fault. fault ≡ InsertFault.TreeTooDeep) }
     ensures turn { IfErr result (λ fault. (n : ℕ)
         × IsFullInTurn image.old.bytes shape.now root new.now.offsets n) }
-    ensures low { IfErr result (λ fault. IsBushy image.old.bytes shape.now root 10 → ⊥) }
+    ensures low { IfErr result (λ fault. (low : ℕ) → is_low_level (chunk_k image.old.bytes) low ≡ true
+        → IsBushy image.old.bytes shape.now root low → ⊥) }
 {
     for k in 0..new.len() {
         let key = new.key(k);

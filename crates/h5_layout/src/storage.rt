@@ -6,6 +6,7 @@ ghost use Rattle.std.specs.FinMap.{empty};
 ghost use Rattle.h5_model.specs.Format.Fixed.{fits};
 ghost use Rattle.h5_model.specs.Format.Layout.{InBlock, InChunks};
 ghost use Rattle.h5_model.specs.Format.Reached.{level_at, shape_kind};
+ghost use Rattle.h5_model.specs.Format.Superblock.{chunk_k};
 ghost use Rattle.h5_model.specs.Tree.Places.{cells as cells_of};
 ghost use Rattle.h5_model.specs.Views.Selection.{Slab};
 ghost use Rattle.h5_space.specs.Moves.{Spends};
@@ -13,13 +14,14 @@ ghost use Rattle.h5_space.specs.declared.image.SpaceFault.{SpaceFault as FaultOf
 ghost use Rattle.h5_chunks.specs.Told.{chunks_told};
 ghost use Rattle.h5_layout.specs.ArrayChunks.{IsInChunksOf};
 ghost use Rattle.h5_layout.specs.ArrayEdits.{IsArrayApart, described_in};
+ghost use Rattle.h5_chunks.specs.Bushy.{is_low_level};
 ghost use Rattle.h5_chunks.specs.Edited.{AreChunksApart, CanBeStored, chunk_node_length};
 ghost use Rattle.h5_layout.specs.Data.{chunk_shape};
 ghost use Rattle.h5_layout.specs.Filled.{AreToStore, FillsChunk, HasFilledChunks, cells_of_fill};
 ghost use Rattle.h5_layout.specs.Lacking.{IsMissing};
 ghost use Rattle.h5_layout.specs.NewChunks.{AreMissing};
 ghost use Rattle.h5_layout.specs.NewTrees.{IsTreeMade, IsTreeNamed};
-ghost use Rattle.h5_layout.specs.Storage.{IsDeepFor, IsFullInTurn, IsStorageMade, chunks_room, is_low_root, is_refused_first as refuses_first, storage_bytes};
+ghost use Rattle.h5_layout.specs.Storage.{IsDeepFor, IsFullInNewTree, IsFullInTurn, IsStorageMade, chunks_room, is_low_root, is_refused_first as refuses_first, storage_bytes};
 ghost use Rattle.h5_layout.specs.declared.lacking.Missing.TheVariants as missing;
 
 use crate::chunked::ChunkedArray;
@@ -29,7 +31,8 @@ use crate::header::{set_block, set_root};
 use crate::lacking::Missing;
 use crate::read::known_array;
 use h5_chunks::{
-    ChunkList, ChunkShape, InsertFault, chunk_node_length, is_full_at, is_low, make_root,
+    ChunkList, ChunkShape, InsertFault, chunk_node_length, is_full_at, is_low, is_low_level,
+    make_root,
 };
 use h5_header::Messages;
 use h5_msg::Layout;
@@ -37,7 +40,7 @@ use h5_space::{Image, MAXIMUM_IMAGE, SpaceFault};
 use std::alloc::Global;
 
 /// Whether `make_storage` is refused before any change, if it is refused: one chunk at most is missing, or the root of the
-/// tree is so low that the tree never gets too deep. Takes no memory.
+/// tree, or one that is to be made, is so low that the tree never gets too deep. Takes no memory.
 ///
 /// That the array was read, with its data, is the caller's condition.
 pub fn is_refused_first(
@@ -55,7 +58,8 @@ pub fn is_refused_first(
     }
 }
 
-/// Whether the root of the tree of chunks, where there is one, is so low that the tree never gets too deep.
+/// Whether the root of the tree of chunks, or one that is made where there is none, is so low that the tree never gets too
+/// deep.
 fn has_low_root(alloc: Global, image: &Image, messages: &Messages) -> bool
     requires array { IsArrayApart image.now messages.now }
     ensures { result ≡ is_low_root image.now.bytes (described_in image.now.bytes messages.now)
@@ -69,7 +73,7 @@ fn has_low_root(alloc: Global, image: &Image, messages: &Messages) -> bool
             let chunks = ChunkedArray::of(&array);
             match chunks.root() {
                 Some(root) => is_low(image, &chunks.shape(), root),
-                None => true,
+                None => is_low_level(image, 0),
             }
         }
     }
@@ -263,6 +267,8 @@ fn make_chunks(
 
 /// How many bytes chunks may take, or `u64::MAX` where these are more.
 fn room_for(image: &Image, shape: &ChunkShape<'_>, length: u64, new: &ChunkList) -> u64
+    requires long { 26 ≤ length_of image.now.bytes }
+    requires k { chunk_k image.now.bytes ≤ 32767 }
     requires few { length_of shape.now.sizes ≤ 32 }
     requires length { length ≡ shape.now.bytes }
     requires small { length ≤ 2 ^ 30 }
@@ -311,7 +317,8 @@ fn add_chunks(
         × (2 ^ 31 < length_of image.old.bytes
         + chunks_room image.old.bytes shape.now (length_of new.now.offsets))) }
     ensures refused { (nat_le (length_of new.now.offsets) 1
-        || nat_le (level_at image.old.bytes (shape_kind image.old.bytes shape.now) root) 10) ≡ true
+        || is_low_level (chunk_k image.old.bytes)
+        (level_at image.old.bytes (shape_kind image.old.bytes shape.now) root)) ≡ true
         → OnErr result (image.new ≡ image.old) }
 {
     if is_first_full(image, shape, root, new) {
@@ -345,18 +352,20 @@ fn make_tree(
         (cells_of_fill cells.now.fixed cells.now.fill cells.now.count) new.now.offsets) }
     ensures spends { OnOk result (length_of image.new.bytes ≤ length_of image.old.bytes
         + chunks_room image.old.bytes shape.now (length_of new.now.offsets)) }
-    ensures space { IfErr result (λ fault. (f : FaultOfSpace) × (fault ≡ InsertFault.Space f)) }
+    ensures deep { result ≡ Err InsertFault.TreeTooDeep
+        → (n : ℕ) × IsFullInNewTree image.old.bytes shape.now new.now.offsets n }
     ensures full { (result ≡ Err (InsertFault.Space SpaceFault.ImageFull))
         ↔ (2 ^ 31 < length_of image.old.bytes
         + chunks_room image.old.bytes shape.now (length_of new.now.offsets)) }
-    ensures refused { OnErr result (image.new ≡ image.old) }
+    ensures refused { (nat_le (length_of new.now.offsets) 1 || is_low_level (chunk_k image.old.bytes) 0)
+        ≡ true
+        → OnErr result (image.new ≡ image.old) }
 {
     if let Err(fault) = image.reserve(bytes, calls_for(new)) {
         return Err(InsertFault::Space(fault));
     }
     let root = name_tree(image, messages, shape);
-    let _ = store_all(image, shape, root, new, cells);
-    Ok(())
+    store_all(image, shape, root, new, cells)
 }
 
 /// Makes a tree for the chunks of an array, without a chunk, and names it in the array's header. Gives its root.

@@ -2,12 +2,15 @@ use Rattle.std.proofs.Common.{◌≡◌, [], ◌+◌, ◌*◌, ◌^◌, ◌≤�
 use Rattle.std.specs.Prelude.{slice_index_or}
 use Rattle.std.specs.FinMap.{get}
 use Rattle.h5_model.specs.Format.Chunks.{offsets_in}
+use Rattle.h5_space.specs.Moves.{Spends}
 use Rattle.h5_space.proofs.MovesLaws.{spends_none, spends_then, spends_within}
+use Rattle.h5_model.proofs.KLaws.{same_chunk}
+use Rattle.h5_chunks.specs.Bushy.{is_low_level}
 use Rattle.h5_chunks.specs.Told.{chunks_told}
 use Rattle.h5_chunks.specs.Edited.{IsFullAt, store_room}
 use Rattle.h5_layout.specs.Filled.{cells_of_fill}
 use Rattle.h5_chunks.proofs.BushyFull.{never_full}
-use Rattle.h5_layout.proofs.FilledLaws.{filled_none}
+use Rattle.h5_layout.proofs.FilledLaws.{filled_none, store_room_same}
 use Rattle.h5_layout.proofs.TurnLaws.{turn_absent, turn_full, turn_next, turn_offsets, turn_room}
 use Rattle.h5_layout.proofs.filled.store_all.Goals as goal
 use Rattle.h5_layout.proofs.filled.store_all.Goals.{After-key-key}
@@ -42,14 +45,32 @@ returns-then-is_full_at-clause-turn c =
     (c.loop-k.k, turn_full c.args.image.now now s c.args.root bytes c.args.new.now c.loop-k.k (omega arith) c.requires.new c.loop-k.invariant.filled c.loop-k.invariant.first full)
 
 pub returns-then-is_full_at-clause-low : goal.returns-then-is_full_at-clause-low
-returns-then-is_full_at-clause-low c bushy =
+returns-then-is_full_at-clause-low c low is_low bushy =
     let s = c.args.shape.now in
     let now = c.loop-k.image in
     let room = store_room c.args.image.now.bytes s in
     let more = turn_room (length c.args.new.now.offsets) c.loop-k.k room (omega arith) in
     let grown = c.loop-k.invariant.spends.grown in
     let short : length now.bytes ≤ 2 ^ 31 = omega (arith, more, grown, c.requires.short) in
-    never_full now s c.args.root _ c.loop-k.invariant.filled.stand c.requires.storable short (c.loop-k.invariant.filled.bushy 10 bushy) (c.is_full_at.ensures.0 c.if-is_full_at.true)
+    let k = same_chunk now.bytes c.args.image.now.bytes c.loop-k.invariant.filled.k in
+    never_full now s c.args.root low _ c.loop-k.invariant.filled.stand c.requires.storable short (ap (λ n. is_low_level n low) k ∙ is_low)
+    (c.loop-k.invariant.filled.bushy low bushy) (c.is_full_at.ensures.0 c.if-is_full_at.true)
+
+pub store_filled-requires-clause-bytes : goal.store_filled-requires-clause-bytes
+store_filled-requires-clause-bytes c =
+    let s = c.args.shape.now in
+    let same = store_room_same c.args.image.now c.loop-k.image s c.loop-k.invariant.filled.k in
+    let more = turn_room (length c.args.new.now.offsets) c.loop-k.k (store_room c.args.image.now.bytes s) (omega arith) in
+    let left = c.loop-k.invariant.spends.bytes_left in
+    omega (arith, same, more, left, c.requires.bytes)
+
+pub store_filled-requires-clause-short : goal.store_filled-requires-clause-short
+store_filled-requires-clause-short c =
+    let s = c.args.shape.now in
+    let same = store_room_same c.args.image.now c.loop-k.image s c.loop-k.invariant.filled.k in
+    let more = turn_room (length c.args.new.now.offsets) c.loop-k.k (store_room c.args.image.now.bytes s) (omega arith) in
+    let grown = c.loop-k.invariant.spends.grown in
+    omega (arith, same, more, grown, c.requires.short)
 
 pub store_filled-requires-clause-absent : goal.store_filled-requires-clause-absent
 store_filled-requires-clause-absent c =
@@ -73,6 +94,7 @@ loop-k-preserved c =
       filled = turn_next c.args.image.now now s c.args.root bytes c.args.new.now k (omega arith) c.requires.new c.loop-k.invariant.filled c.key-key.result.now c.key-key.ensures.key
           c.key-key.ensures.offsets c.store_filled.new.image c.store_filled.ensures.stored;
       spends = spends_within c.args.image.now c.store_filled.new.image (k * room + room) ((k + 1) * room) (18 * k + 18) (18 * (k + 1)) (omega arith) (omega arith)
-          (spends_then c.args.image.now now c.store_filled.new.image (k * room) room (18 * k) 18 c.loop-k.invariant.spends c.store_filled.ensures.spends);
+          (spends_then c.args.image.now now c.store_filled.new.image (k * room) room (18 * k) 18 c.loop-k.invariant.spends
+          (subst (λ n. Spends now c.store_filled.new.image n 18) (store_room_same c.args.image.now now s c.loop-k.invariant.filled.k) c.store_filled.ensures.spends));
       first = λ never. absurd (omega (arith, never));
     }

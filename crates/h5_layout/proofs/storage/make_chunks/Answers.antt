@@ -17,7 +17,7 @@ use Rattle.h5_layout.specs.Data.{chunk_shape, stored_chunks}
 use Rattle.h5_layout.specs.Described.{Described}
 use Rattle.h5_layout.specs.Filled.{AreToStore, FillsChunk, HasFilledChunks, cells_of_fill}
 use Rattle.h5_layout.specs.NewTrees.{IsTreeMade}
-use Rattle.h5_layout.specs.Storage.{IsDeepIn, IsFullInTurn, chunks_room, chunks_room_in}
+use Rattle.h5_layout.specs.Storage.{IsDeepIn, IsFullInNewTree, IsFullInTurn, chunks_room, chunks_room_in}
 use Rattle.h5_layout.specs.declared.copied.CellsToFill.{CellsToFill}
 use Rattle.h5_layout.proofs.FilledLaws.{then_ok}
 use Rattle.h5_layout.proofs.NewTreeLaws.{chunks_apart}
@@ -156,3 +156,13 @@ returns-in-None-clause-made c =
     let made = subst (λ (bs : List ℕ). IsTreeMade old new (m d) (form d) bs all) (bytes d) (subst (λ (s : Shape). IsTreeMade old new (m d) s kept all) (shape d) was) in
     tree_made old made.named new (m d) c.requires.array (k d).chunk made.root (laid d None c.in-None.is) made.tree c.cells-cells.ensures.sound.sizes (sound d) (of_type d) c.args.new.now
     made.filled slab missing)
+
+pub returns-in-None-clause-deep : goal.returns-in-None-clause-deep
+returns-in-None-clause-deep c is =
+    let d = (goal.at.returns-in-None-clause-deep c).After-root in
+    let all = c.args.new.now.offsets in
+    let turn = c.make_tree.ensures.deep is in (
+      turn.0,
+      subst (IsDeepIn (image d) (a d) all turn.0) (sym (laid d None c.in-None.is))
+          (subst (λ (s : Shape). IsFullInNewTree (image d) s all turn.0) (shape d) turn.1),
+    )
