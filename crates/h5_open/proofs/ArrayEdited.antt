@@ -3,14 +3,15 @@ use Rattle.std.proofs.Common.{◌≡◌, ℕ, ◌+◌, ◌≤◌, ◌^◌, true,
 use Rattle.std.specs.Prelude.{slice_get, ◌==◌}
 use Rattle.std.specs.BTreeMap.{BTreeMap}
 use Rattle.std.specs.Option.{option_flatten}
-use Rattle.h5_bytes.specs.Blocks.{cover, Inside, IsKept, Keeps}
+use Rattle.h5_bytes.specs.Blocks.{block, cover, Inside, IsKept, Keeps}
 use Rattle.h5_bytes.specs.declared.Block.{Block}
-use Rattle.h5_bytes.proofs.BlockLaws.{all_append, all_left, all_right, cover-append, holds-inner}
+use Rattle.h5_bytes.proofs.BlockLaws.{all_append, all_left, all_right, cover-append}
 use Rattle.h5_model.specs.Edits.Applied.{with_dataset}
 use Rattle.h5_model.specs.Format.Messages.{Message, prefix_at, reference_count}
-use Rattle.h5_model.specs.Format.Superblock.{end_of_file, end_field}
+use Rattle.h5_model.specs.Format.Superblock.{end_of_file, end_field, k_values}
 use Rattle.h5_model.specs.Tree.Objects.{Array, Dataset, Tree, with_object}
 use Rattle.h5_model.proofs.Frames.{prefix-same}
+use Rattle.h5_model.proofs.KLaws.{k_values_stay, same_chunk}
 use Rattle.h5_space.specs.Moves.{Moves}
 use Rattle.h5_space.specs.Space.{Space}
 use Rattle.h5_space.proofs.MovesLaws.{moves_beside, moves_kept, moves_same, moves_then}
@@ -33,10 +34,12 @@ use Rattle.h5_open.specs.Opened.State.{opened_state}
 use Rattle.h5_open.specs.SlotsInPlace.{IsOneRemade}
 use Rattle.h5_open.proofs.ArrayOpened.{array_content}
 use Rattle.h5_open.proofs.DataLaws.{data_blocks-same, data_inside, data_read-same, dataset_told-same}
+use Rattle.h5_open.proofs.EndKept.{field_kept}
 use Rattle.h5_open.proofs.HeaderInPlace.{header_standing}
 use Rattle.h5_open.proofs.OneRemade.{one_changed, one_cover, one_opened, one_tree}
 use Rattle.h5_open.proofs.OpenedLaws.Sounds.{object_of}
 use Rattle.h5_open.proofs.OthersKept.{attributes_kept, has_kept, names_kept}
+use Rattle.h5_open.proofs.SuperblockKept.{end_split}
 use Rattle.h5_open.proofs.TrimmedKept.{trimmed-same}
 
 -- The array of one object was edited where it stands, its header with room for any number of messages more, and then the end of file
@@ -85,6 +88,8 @@ module _ (old : Space) (slots : List (Option OpenedObject)) (numbers : BTreeMap 
     read = held.1;
     apart = λ q. let same = ap (cover q) blocks_were in omega (arith, opened.apart q, one_cover q (object_blocks old.bytes) slots number p at, same);
     long = opened.reads.1.holds.superblock.whole;
+    k_some = opened.reads.1.holds.superblock.chunk_low;
+    k_few = opened.reads.1.holds.superblock.chunk_high;
   }
 
   -- ---- edited, and then the end of file address was written
@@ -108,17 +113,26 @@ module _ (old : Space) (slots : List (Option OpenedObject)) (numbers : BTreeMap 
 
     -- ---- what stays
 
-    stays : Keeps mid.bytes new.bytes (array_blocks mid.bytes m')
-    stays = moves_kept mid new (end_field mid.bytes ∷ []) (end_field new.bytes ∷ []) (array_blocks mid.bytes m') is.ended
-        (λ q. omega (arith, stand.apart q, cover-append q (end_field mid.bytes ∷ []) (array_blocks mid.bytes m'), holds-inner q 40 8 0 96 (omega arith) (omega arith)))
-        (all_append (λ (b : Block). b.at + b.len ≤ length mid.bytes) p'.messages.blocks data_now stand.standing.inside
-        (data_inside mid.bytes (type_told mid_ms) (layout_told mid_ms) stand.read))
+    -- the superblock before the field
+    abbrev front : Block
+    front = block 0 (end_field mid.bytes).at
+
+    stays : Keeps mid.bytes new.bytes (front ∷ array_blocks mid.bytes m')
+    stays = moves_kept mid new (end_field mid.bytes ∷ []) (end_field new.bytes ∷ []) (front ∷ array_blocks mid.bytes m') is.ended
+        (λ q. omega (arith, stand.apart q, cover-append q (end_field mid.bytes ∷ []) (front ∷ array_blocks mid.bytes m'), end_split mid.bytes q)) (
+          omega (arith, stand.long),
+          all_append (λ (b : Block). b.at + b.len ≤ length mid.bytes) p'.messages.blocks data_now stand.standing.inside
+              (data_inside mid.bytes (type_told mid_ms) (layout_told mid_ms) stand.read),
+        )
+
+    pub edited_k_stays : k_values new.bytes ≡ k_values mid.bytes
+    edited_k_stays = k_values_stay mid.bytes new.bytes (end_field mid.bytes).at (omega arith) stays.0
 
     header_stays : Keeps mid.bytes new.bytes p'.messages.blocks
-    header_stays = all_left (IsKept mid.bytes new.bytes) p'.messages.blocks data_now stays
+    header_stays = all_left (IsKept mid.bytes new.bytes) p'.messages.blocks data_now stays.1
 
     pub edited_data_stays : Keeps mid.bytes new.bytes data_now
-    edited_data_stays = all_right (IsKept mid.bytes new.bytes) p'.messages.blocks data_now stays
+    edited_data_stays = all_right (IsKept mid.bytes new.bytes) p'.messages.blocks data_now stays.1
 
     pub edited_list_stays : new_ms ≡ mid_ms
     edited_list_stays = listed-same mid.bytes new.bytes m' stand.standing.has stand.standing.within header_stays
@@ -140,11 +154,11 @@ module _ (old : Space) (slots : List (Option OpenedObject)) (numbers : BTreeMap 
 
     read_now : AreDataRead new.bytes (type_told new_ms) (layout_told new_ms)
     read_now = subst (λ (l : List Message). AreDataRead new.bytes (type_told l) (layout_told l)) (sym edited_list_stays)
-        (data_read-same mid.bytes new.bytes grown (type_told mid_ms) (layout_told mid_ms) stand.read edited_data_stays)
+        (data_read-same mid.bytes new.bytes grown (same_chunk new.bytes mid.bytes edited_k_stays) (type_told mid_ms) (layout_told mid_ms) stand.read edited_data_stays)
 
     trimmed_now : AreChunksTrimmed mid.bytes (array_told mid_ms) → AreChunksTrimmed new.bytes (array_told new_ms)
     trimmed_now was = subst (λ (l : List Message). AreChunksTrimmed new.bytes (array_told l)) (sym edited_list_stays)
-        (λ chunked. trimmed-same mid.bytes new.bytes grown (array_told mid_ms) stand.read edited_data_stays (array_told mid_ms).sizes (was chunked))
+        (λ chunked. trimmed-same mid.bytes new.bytes grown (same_chunk new.bytes mid.bytes edited_k_stays) (array_told mid_ms) stand.read edited_data_stays (array_told mid_ms).sizes (was chunked))
 
     kept_now : IsObjectKept new.bytes p'
     kept_now = record {
@@ -165,7 +179,7 @@ module _ (old : Space) (slots : List (Option OpenedObject)) (numbers : BTreeMap 
         ap (λ (c : OpenedContent). p'.messages.blocks ++ content_blocks new.bytes new_ms c) is.content
         ∙ ap (λ (l : List Message). p'.messages.blocks ++ data_blocks new.bytes (type_told l) (layout_told l)) edited_list_stays
         ∙ ap (λ (bs : List Block). p'.messages.blocks ++ bs)
-        (data_blocks-same mid.bytes new.bytes grown (type_told mid_ms) (layout_told mid_ms) stand.read edited_data_stays)
+        (data_blocks-same mid.bytes new.bytes grown (same_chunk new.bytes mid.bytes edited_k_stays) (type_told mid_ms) (layout_told mid_ms) stand.read edited_data_stays)
 
     count_stays : reference_count (prefix_at new.bytes p.messages.header) ≡ reference_count (prefix_at old.bytes p.messages.header)
     count_stays =
@@ -180,17 +194,26 @@ module _ (old : Space) (slots : List (Option OpenedObject)) (numbers : BTreeMap 
     own = array_blocks old.bytes m ++ end_field old.bytes ∷ []
 
     abbrev own' : List Block
-    own' = array_blocks mid.bytes m' ++ end_field mid.bytes ∷ []
+    own' = array_blocks mid.bytes m' ++ end_field new.bytes ∷ []
+
+    -- the field stands where it stood when the array was edited
+    field_mid : end_field mid.bytes ≡ end_field old.bytes
+    field_mid = field_kept old slots numbers opened mid (array_blocks old.bytes m) (array_blocks mid.bytes m') is.moved.moves
+        (λ q. let same = ap (cover q) blocks_were in omega (arith, one_cover q (object_blocks old.bytes) slots number p at, same))
 
     both : Moves old new own own'
     both =
-        let first : Moves old mid own own' = moves_beside old mid (array_blocks old.bytes m) (array_blocks mid.bytes m') (end_field old.bytes ∷ []) is.moved.moves in
-        let turned : (q : ℕ) → cover q own' ≡ cover q (end_field mid.bytes ∷ array_blocks mid.bytes m')
-        = λ q. omega (arith, cover-append q (array_blocks mid.bytes m') (end_field mid.bytes ∷ [])) in
-        let second : Moves mid new own' own'
-        = moves_same mid new (end_field mid.bytes ∷ array_blocks mid.bytes m') (end_field new.bytes ∷ array_blocks mid.bytes m') own' own' turned turned
+        let between : List Block = array_blocks mid.bytes m' ++ end_field mid.bytes ∷ [] in
+        let first : Moves old mid own between
+        = subst (λ (b : Block). Moves old mid own (array_blocks mid.bytes m' ++ b ∷ [])) (sym field_mid)
+        (moves_beside old mid (array_blocks old.bytes m) (array_blocks mid.bytes m') (end_field old.bytes ∷ []) is.moved.moves) in
+        let turned : (field : Block) (q : ℕ) → cover q (array_blocks mid.bytes m' ++ field ∷ []) ≡ cover q (field ∷ array_blocks mid.bytes m')
+        = λ field q. omega (arith, cover-append q (array_blocks mid.bytes m') (field ∷ [])) in
+        let second : Moves mid new between own'
+        = moves_same mid new (end_field mid.bytes ∷ array_blocks mid.bytes m') (end_field new.bytes ∷ array_blocks mid.bytes m') between own'
+        (turned (end_field mid.bytes)) (turned (end_field new.bytes))
         (moves_beside mid new (end_field mid.bytes ∷ []) (end_field new.bytes ∷ []) (array_blocks mid.bytes m') is.ended) in
-        moves_then old mid new own own' own' first second
+        moves_then old mid new own between own' first second
 
     remade : IsOneRemade old new slots slots' number p p'
     remade = record {
@@ -204,7 +227,7 @@ module _ (old : Space) (slots : List (Option OpenedObject)) (numbers : BTreeMap 
       counted = count_stays;
       moves = moves_same old new own own' (end_field old.bytes ∷ object_blocks old.bytes p) (end_field new.bytes ∷ object_blocks new.bytes p')
           (λ q. let are = ap (cover q) blocks_were in omega (arith, are, cover-append q (array_blocks old.bytes m) (end_field old.bytes ∷ [])))
-          (λ q. let are = ap (cover q) blocks_now in omega (arith, are, cover-append q (array_blocks mid.bytes m') (end_field mid.bytes ∷ [])))
+          (λ q. let are = ap (cover q) blocks_now in omega (arith, are, cover-append q (array_blocks mid.bytes m') (end_field new.bytes ∷ [])))
           both;
       end = is.end;
       small = let low = is.small in let same = is.long in omega (arith, low, same);
@@ -215,7 +238,7 @@ module _ (old : Space) (slots : List (Option OpenedObject)) (numbers : BTreeMap 
     dataset_now : dataset_told new.bytes (array_told new_ms) ≡ change (dataset_told old.bytes (array_told ms))
     dataset_now =
         ap (λ (l : List Message). dataset_told new.bytes (array_told l)) edited_list_stays
-        ∙ dataset_told-same mid.bytes new.bytes grown (array_told mid_ms) stand.read edited_data_stays
+        ∙ dataset_told-same mid.bytes new.bytes grown (same_chunk new.bytes mid.bytes edited_k_stays) (array_told mid_ms) stand.read edited_data_stays
         ∙ is.dataset
 
     object_now : object_in new.bytes (table_of slots') p' ≡ with_dataset change (object_in old.bytes (table_of slots) p)

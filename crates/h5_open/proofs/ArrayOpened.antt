@@ -6,11 +6,12 @@ use Rattle.std.specs.Ordering.{nat_cmp}
 use Rattle.std.specs.BTreeMap.{BTreeMap}
 use Rattle.std.specs.FinMap.{FinMap}
 use Rattle.std.proofs.lemmas.Option.{same_Some}
-use Rattle.h5_bytes.specs.Blocks.{cover, Inside, Keeps}
+use Rattle.h5_bytes.specs.Blocks.{block, cover, Inside, Keeps}
 use Rattle.h5_bytes.specs.declared.Block.{Block}
 use Rattle.h5_bytes.proofs.BlockLaws.{cover-append, holds-le}
 use Rattle.h5_model.specs.Edits.Applied.{with_dataset}
 use Rattle.h5_model.specs.Format.Messages.{Message, reference_count}
+use Rattle.h5_model.specs.Format.Superblock.{superblock_length}
 use Rattle.h5_model.specs.Tree.Objects.{Tree, Object, Array, Dataset, dataset_in, dataset_of, with_object}
 use Rattle.h5_space.specs.Space.{Space}
 use Rattle.h5_space.specs.Moves.{Moves}
@@ -86,9 +87,12 @@ module _ (old : Space) (slots : List (Option OpenedObject)) (numbers : BTreeMap 
         let content = ap (λ (c : OpenedContent). cover q (content_blocks old.bytes ms c)) is_array in
         omega (arith, content, cover-append q p.messages.blocks (content_blocks old.bytes ms p.content))
 
-    -- share no byte
-    pub data_once : (q : ℕ) → cover q its_blocks ≤ 1
+    -- share no byte with each other and with the superblock
+    pub data_once : (q : ℕ) → cover q (block 0 (superblock_length old.bytes) ∷ its_blocks) ≤ 1
     data_once q = omega (arith, opened.apart q, one_cover q (object_blocks old.bytes) slots number p at, parts q, holds-le q 0 (length old.bytes))
+
+    pub superblock_whole : superblock_length old.bytes ≤ length old.bytes
+    superblock_whole = opened.reads.1.holds.superblock.whole
 
     module _ (new : Space) (moves : Moves old new its_blocks its_blocks) (long : length new.bytes ≡ length old.bytes) where
       pub header_kept : Keeps old.bytes new.bytes p.messages.blocks

@@ -4,8 +4,10 @@ use Rattle.std.specs.Ordering.{nat_cmp}
 use Rattle.std.specs.FinMap.{FinMap}
 use Rattle.h5_bytes.specs.Blocks.{Inside, Keeps}
 use Rattle.h5_bytes.specs.declared.Block.{Block}
+use Rattle.h5_model.specs.Format.Superblock.{k_values}
 use Rattle.h5_model.specs.Format.Messages.{Message}
 use Rattle.h5_model.specs.Tree.Objects.{Content, Array}
+use Rattle.h5_model.proofs.KLaws.{same_chunk}
 use Rattle.h5_header.specs.Listed.{messages_in}
 use Rattle.h5_header.specs.Standing.{IsStanding}
 use Rattle.h5_layout.specs.Data.{data_blocks, dataset_told}
@@ -36,20 +38,20 @@ module _ (old : List ℕ) (o : OpenedObject) (kept : IsObjectKept old o) (array 
   pub array_data : Inside (length old) (data_of old o)
   array_data = data_inside old (type_told ms) (layout_told ms) kept_array.1
 
-  module _ (new : List ℕ) (grown : length old ≤ length new) (standing : IsStanding new o.messages) (list_stays : messages_in new o.messages.list ≡ messages_in old o.messages.list)
+  module _ (new : List ℕ) (k : k_values new ≡ k_values old) (grown : length old ≤ length new) (standing : IsStanding new o.messages) (list_stays : messages_in new o.messages.list ≡ messages_in old o.messages.list)
       (data_stay : Keeps old new (data_of old o)) where
     abbrev ms' : List Message
     ms' = messages_in new o.messages.list
 
     content_now : IsContentKept new ms' o.content
     content_now = subst (IsContentKept new ms') (sym array) (subst (λ (l : List Message). IsContentKept new l content.Array) (sym list_stays)
-        (kept_array.0, data_read-same old new grown (type_told ms) (layout_told ms) kept_array.1 data_stay))
+        (kept_array.0, data_read-same old new grown (same_chunk new old k) (type_told ms) (layout_told ms) kept_array.1 data_stay))
 
     trimmed_now : IsContentTrimmed old ms o.content → IsContentTrimmed new ms' o.content
     trimmed_now was =
         let before : IsContentTrimmed old ms content.Array = subst (IsContentTrimmed old ms) array was in
         subst (IsContentTrimmed new ms') (sym array) (subst (λ (l : List Message). IsContentTrimmed new l content.Array) (sym list_stays)
-        (λ chunked. trimmed-same old new grown (array_told ms) kept_array.1 data_stay (array_told ms).sizes (before chunked)))
+        (λ chunked. trimmed-same old new grown (same_chunk new old k) (array_told ms) kept_array.1 data_stay (array_told ms).sizes (before chunked)))
 
     pub array_kept : IsObjectKept new o
     array_kept = record {
@@ -69,7 +71,7 @@ module _ (old : List ℕ) (o : OpenedObject) (kept : IsObjectKept old o) (array 
     array_blocks =
         ap (λ (c : OpenedContent). o.messages.blocks ++ content_blocks new ms' c) array
         ∙ ap (λ (l : List Message). o.messages.blocks ++ content_blocks new l content.Array) list_stays
-        ∙ ap (λ (bs : List Block). o.messages.blocks ++ bs) (data_blocks-same old new grown (type_told ms) (layout_told ms) kept_array.1 data_stay)
+        ∙ ap (λ (bs : List Block). o.messages.blocks ++ bs) (data_blocks-same old new grown (same_chunk new old k) (type_told ms) (layout_told ms) kept_array.1 data_stay)
         ∙ sym array_parts
 
     pub array_same : (table : FinMap nat_cmp ℕ) → object_in new table o ≡ object_in old table o
@@ -77,6 +79,6 @@ module _ (old : List ℕ) (o : OpenedObject) (kept : IsObjectKept old o) (array 
         let content_is : content_in new table ms' o.content ≡ content_in old table ms o.content
         = ap (content_in new table ms') array
         ∙ ap (λ (l : List Message). Array (dataset_told new (array_told l))) list_stays
-        ∙ ap Array (dataset_told-same old new grown (array_told ms) kept_array.1 data_stay)
+        ∙ ap Array (dataset_told-same old new grown (same_chunk new old k) (array_told ms) kept_array.1 data_stay)
         ∙ sym (ap (content_in old table ms) array) in
         ap (λ (c : Content). object_with c ms') content_is ∙ ap (object_with (content_in old table ms o.content)) list_stays

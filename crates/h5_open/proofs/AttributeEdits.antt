@@ -1,17 +1,18 @@
 -- Steps of an edit of attributes in an opened image: room that is made, the end of file address that is written, and the slot that is
 -- changed.
-use Rattle.std.proofs.Common.{◌≡◌, ℕ, zero, suc, ◌<◌, ◌≤◌, ◌==◌, ◌^◌, true, false, List, [], ◌∷◌, length, refl, sym, ap, ◌∙◌, subst, arith, Option, Some}
+use Rattle.std.proofs.Common.{◌≡◌, inl, ℕ, zero, suc, ◌<◌, ◌≤◌, ◌==◌, ◌^◌, true, false, List, [], ◌∷◌, length, refl, sym, ap, ◌∙◌, subst, arith, Option, Some}
 use Rattle.std.specs.Prelude.{slice_get, slice_set}
 use Rattle.std.specs.BTreeMap.{BTreeMap}
 use Rattle.std.specs.List.{AllByRecursion}
 use Rattle.std.proofs.lemmas.Bool.Decides.{nat_tests}
 use Rattle.std.proofs.lemmas.Option.{same_Some}
-use Rattle.h5_bytes.specs.Bytes.{little_bytes, number_at, with_field}
+use Rattle.h5_bytes.specs.Bytes.{little_bytes, number_at, part, with_field}
 use Rattle.h5_bytes.specs.declared.Block.{Block}
 use Rattle.h5_bytes.proofs.FieldLaws.{number_at-with_field}
-use Rattle.h5_bytes.proofs.PartLaws.{length-with_part}
+use Rattle.h5_bytes.proofs.PartLaws.{length-with_part, part-with_part_other}
 use Rattle.h5_model.specs.Format.Reads.{Reads}
-use Rattle.h5_model.specs.Format.Superblock.{end_of_file, end_field}
+use Rattle.h5_model.specs.Format.Superblock.{end_of_file, end_field, k_values, superblock_length}
+use Rattle.h5_model.proofs.KLaws.{k_values_stay, same_end_field}
 use Rattle.h5_space.specs.Moves.{Moves}
 use Rattle.h5_space.specs.Space.{Space}
 use Rattle.h5_space.specs.Whole.{IsApart}
@@ -36,20 +37,35 @@ room_opened old new slots numbers bytes free opened = record {
 
 -- ---- the end of file address
 
-module _ (mid new : Space) (low : 48 ≤ length mid.bytes) (bytes : new.bytes ≡ with_field mid.bytes 40 8 (length mid.bytes)) where
+module _ (mid new : Space) (low : superblock_length mid.bytes ≤ length mid.bytes)
+    (bytes : new.bytes ≡ with_field mid.bytes (end_field mid.bytes).at 8 (length mid.bytes)) where
+  abbrev place : ℕ
+  place = (end_field mid.bytes).at
+
+  abbrev written : List ℕ
+  written = little_bytes 8 (length mid.bytes)
+
+  eight : length written ≡ 8
+  eight = refl
+
   pub end_length : length new.bytes ≡ length mid.bytes
-  end_length =
-      let eight : length (little_bytes 8 (length mid.bytes)) ≡ 8 = refl in
-      ap length bytes ∙ length-with_part 40 (little_bytes 8 (length mid.bytes)) mid.bytes (omega (arith, low, eight))
+  end_length = ap length bytes ∙ length-with_part place written mid.bytes (omega (arith, low, eight))
+
+  -- what stands before the field stays
+  pub end_k : k_values new.bytes ≡ k_values mid.bytes
+  end_k = k_values_stay mid.bytes new.bytes place (omega arith)
+      (ap (part 0 place) bytes ∙ part-with_part_other place written mid.bytes 0 place (omega (arith, low, eight)) (inl (omega arith)))
 
   pub end_is : length mid.bytes ≤ 2 ^ 31 → end_of_file new.bytes ≡ length new.bytes
   end_is small =
-      ap (λ (b : List ℕ). number_at b 40 8) bytes
-      ∙ number_at-with_field mid.bytes 40 8 (length mid.bytes) (omega (arith, low)) (omega (arith, small))
+      ap (λ (b : Block). number_at new.bytes b.at 8) (same_end_field new.bytes mid.bytes end_k)
+      ∙ ap (λ (b : List ℕ). number_at b place 8) bytes
+      ∙ number_at-with_field mid.bytes place 8 (length mid.bytes) (omega (arith, low)) (omega (arith, small))
       ∙ sym end_length
 
   pub end_moves : new.free ≡ mid.free → Moves mid new (end_field mid.bytes ∷ []) (end_field new.bytes ∷ [])
-  end_moves free = moves_write mid new 40 8 (little_bytes 8 (length mid.bytes)) refl (omega (arith, low)) bytes free
+  end_moves free = subst (λ (b : Block). Moves mid new (end_field mid.bytes ∷ []) (b ∷ [])) (sym (same_end_field new.bytes mid.bytes end_k))
+      (moves_write mid new place 8 written refl (omega (arith, low)) bytes free)
 
 -- ---- the slot
 

@@ -8,15 +8,15 @@ use Rattle.std.specs.BTreeMap.{BTreeMap}
 use Rattle.std.specs.FinMap.{FinMap}
 use Rattle.h5_bytes.specs.Blocks.{block, cover, Inside, Keeps}
 use Rattle.h5_bytes.specs.declared.Block.{Block}
-use Rattle.h5_bytes.proofs.BlockLaws.{all_so, cover-append, holds_join}
-use Rattle.h5_bytes.proofs.FieldLaws.{number_at-same}
+use Rattle.h5_bytes.proofs.BlockLaws.{all_so, cover-append}
 use Rattle.h5_model.specs.Edits.Applied.{with_attributes}
 use Rattle.h5_model.specs.Format.Messages.{Message, first_size, prefix_at, reference_count}
 use Rattle.h5_model.specs.Format.Reads.{HasAttributes}
-use Rattle.h5_model.specs.Format.Superblock.{leaf_k, internal_k, end_of_file, end_field}
+use Rattle.h5_model.specs.Format.Superblock.{leaf_k, internal_k, k_values, end_of_file, end_field}
 use Rattle.h5_model.specs.Format.Symbols.{Target}
 use Rattle.h5_model.specs.Tree.Objects.{Attributes, Tree, Group, Array, with_object}
 use Rattle.h5_model.proofs.Frames.{front-same}
+use Rattle.h5_model.proofs.KLaws.{k_values_stay, same_chunk, same_internal, same_leaf}
 use Rattle.h5_space.specs.Moves.{Moves}
 use Rattle.h5_space.specs.Space.{Space}
 use Rattle.h5_space.specs.Whole.{IsApart}
@@ -41,9 +41,11 @@ use Rattle.h5_open.specs.Opened.Objects.{content_blocks, content_in, header_of, 
 use Rattle.h5_open.specs.Opened.State.{opened_state}
 use Rattle.h5_open.specs.SlotsInPlace.{AreLinksKept, IsOneRemade}
 use Rattle.h5_open.proofs.DataLaws.{data_blocks-same, data_inside, data_read-same, dataset_told-same}
+use Rattle.h5_open.proofs.EndKept.{field_kept}
 use Rattle.h5_open.proofs.OneRemade.{one_changed, one_cover, one_opened, one_table, one_tree}
 use Rattle.h5_open.proofs.OpenedLaws.Sounds.{object_of}
 use Rattle.h5_open.proofs.StillTold.{attributes_now, group_still, kept_still, known_still, list_still, table_still, told_still}
+use Rattle.h5_open.proofs.SuperblockKept.{end_split}
 use Rattle.h5_open.proofs.TrimmedKept.{trimmed-same}
 
 -- The header of one object was edited, and then the end of file address was written: its messages say what they said, its attributes are
@@ -87,55 +89,70 @@ module _ (old mid new : Space) (slots slots' : List (Option OpenedObject)) (numb
   abbrev own' : List Block
   own' = p'.messages.blocks ++ end_field new.bytes ∷ []
 
-  first : Moves old mid own own'
+  -- the field stands where it stood when the header was edited
+  field_mid : end_field mid.bytes ≡ end_field old.bytes
+  field_mid = field_kept old slots numbers opened mid p.messages.blocks p'.messages.blocks is.moves
+      (λ q. omega (arith, one_cover q (object_blocks old.bytes) slots number p is.before, cover-append q p.messages.blocks rest))
+
+  ended : Moves mid new (end_field old.bytes ∷ []) (end_field new.bytes ∷ [])
+  ended = subst (λ (b : Block). Moves mid new (b ∷ []) (end_field new.bytes ∷ [])) field_mid is.ended
+
+  first : Moves old mid own (p'.messages.blocks ++ end_field old.bytes ∷ [])
   first = moves_beside old mid p.messages.blocks p'.messages.blocks (end_field old.bytes ∷ []) is.moves
 
-  second : Moves mid new own' own'
+  second : Moves mid new (p'.messages.blocks ++ end_field old.bytes ∷ []) own'
   second =
-      let turned : (q : ℕ) → cover q own' ≡ cover q (end_field new.bytes ∷ p'.messages.blocks) = λ q. omega (arith, cover-append q p'.messages.blocks (end_field new.bytes ∷ [])) in
-      moves_same mid new (end_field mid.bytes ∷ p'.messages.blocks) (end_field new.bytes ∷ p'.messages.blocks) own' own' turned turned
-      (moves_beside mid new (end_field mid.bytes ∷ []) (end_field new.bytes ∷ []) p'.messages.blocks is.ended)
+      let turned : (field : Block) (q : ℕ) → cover q (p'.messages.blocks ++ field ∷ []) ≡ cover q (field ∷ p'.messages.blocks)
+      = λ field q. omega (arith, cover-append q p'.messages.blocks (field ∷ [])) in
+      moves_same mid new (end_field old.bytes ∷ p'.messages.blocks) (end_field new.bytes ∷ p'.messages.blocks) (p'.messages.blocks ++ end_field old.bytes ∷ []) own'
+      (turned (end_field old.bytes)) (turned (end_field new.bytes)) (moves_beside mid new (end_field old.bytes ∷ []) (end_field new.bytes ∷ []) p'.messages.blocks ended)
 
   both : Moves old new own own'
-  both = moves_then old mid new own own' own' first second
+  both = moves_then old mid new own (p'.messages.blocks ++ end_field old.bytes ∷ []) own' first second
 
-  apart : IsApart (own ++ (block 0 40 ∷ rest)) old.free (length old.bytes)
+  -- the superblock before the field
+  abbrev front : Block
+  front = block 0 (end_field old.bytes).at
+
+  apart : IsApart (own ++ (front ∷ rest)) old.free (length old.bytes)
   apart q = omega (
     arith,
     opened.apart q,
     one_cover q (object_blocks old.bytes) slots number p is.before,
     cover-append q p.messages.blocks rest,
-    cover-append q own (block 0 40 ∷ rest),
+    cover-append q own (front ∷ rest),
     cover-append q p.messages.blocks (end_field old.bytes ∷ []),
-    holds_join q 0 40 56,
-    holds_join q 40 8 48,
+    end_split old.bytes q,
   )
 
   data_in : (c : OpenedContent) → IsContentKept old.bytes ms c → Inside (length old.bytes) (content_blocks old.bytes ms c)
   data_in (content.Group table) held = held.2.inside
   data_in content.Array held = data_inside old.bytes (type_told ms) (layout_told ms) held.1
 
-  stays : Keeps old.bytes new.bytes (block 0 40 ∷ rest)
-  stays = moves_kept old new own own' (block 0 40 ∷ rest) both apart (omega (arith, opened.reads.1.holds.superblock.whole), data_in p.content kept.content)
+  stays : Keeps old.bytes new.bytes (front ∷ rest)
+  stays = moves_kept old new own own' (front ∷ rest) both apart (omega (arith, opened.reads.1.holds.superblock.whole), data_in p.content kept.content)
+
+  k : k_values new.bytes ≡ k_values old.bytes
+  k = k_values_stay old.bytes new.bytes (end_field old.bytes).at (omega arith) stays.0
 
   leaf : leaf_k new.bytes ≡ leaf_k old.bytes
-  leaf = number_at-same old.bytes new.bytes 0 40 16 2 stays.0 (omega arith)
+  leaf = same_leaf new.bytes old.bytes k
 
   internal : internal_k new.bytes ≡ internal_k old.bytes
-  internal = number_at-same old.bytes new.bytes 0 40 18 2 stays.0 (omega arith)
+  internal = same_internal new.bytes old.bytes k
 
   grown : length old.bytes ≤ length new.bytes
   grown = both.grown
 
   -- ---- the header, when the end of file address is written
 
-  apart_mid : IsApart ((end_field mid.bytes ∷ []) ++ p'.messages.blocks) mid.free (length mid.bytes)
+  apart_mid : IsApart ((end_field old.bytes ∷ []) ++ p'.messages.blocks) mid.free (length mid.bytes)
   apart_mid q =
-      let was : IsApart (p.messages.blocks ++ end_field old.bytes ∷ []) old.free (length old.bytes) = λ r. omega (arith, apart r, cover-append r own (block 0 40 ∷ rest)) in
+      let was : IsApart (p.messages.blocks ++ end_field old.bytes ∷ []) old.free (length old.bytes) = λ r. omega (arith, apart r, cover-append r own (front ∷ rest)) in
       omega (arith, moves_apart old mid p.messages.blocks p'.messages.blocks (end_field old.bytes ∷ []) is.moves was q, cover-append q p'.messages.blocks (end_field old.bytes ∷ []))
 
   header_stays : Keeps mid.bytes new.bytes p'.messages.blocks
-  header_stays = moves_kept mid new (end_field mid.bytes ∷ []) (end_field new.bytes ∷ []) p'.messages.blocks is.ended apart_mid is.standing.inside
+  header_stays = moves_kept mid new (end_field old.bytes ∷ []) (end_field new.bytes ∷ []) p'.messages.blocks ended apart_mid is.standing.inside
 
   list_stays : ms' ≡ messages_in mid.bytes p'.messages.list
   list_stays = listed-same mid.bytes new.bytes p'.messages is.standing.has is.standing.within header_stays
@@ -174,20 +191,20 @@ module _ (old mid new : Space) (slots slots' : List (Option OpenedObject)) (numb
   )
   content_now content.Array held keeps = (
     list_still ms ms' still (change (attributes_of ms)) has_changed held.0,
-    subst (λ (a : Described). AreDataRead new.bytes a.fixed a.layout) (sym (told_still ms ms' still (held.0).array)) (data_read-same old.bytes new.bytes grown (type_told ms) (layout_told ms) held.1 keeps),
+    subst (λ (a : Described). AreDataRead new.bytes a.fixed a.layout) (sym (told_still ms ms' still (held.0).array)) (data_read-same old.bytes new.bytes grown (same_chunk new.bytes old.bytes k) (type_told ms) (layout_told ms) held.1 keeps),
   )
 
   trimmed_now : (c : OpenedContent) → IsContentKept old.bytes ms c → Keeps old.bytes new.bytes (content_blocks old.bytes ms c) → IsContentTrimmed old.bytes ms c
       → IsContentTrimmed new.bytes ms' c
   trimmed_now (content.Group table) held keeps was = tt
   trimmed_now content.Array held keeps was = subst (AreChunksTrimmed new.bytes) (sym (told_still ms ms' still (held.0).array))
-      (λ chunked. trimmed-same old.bytes new.bytes grown (array_told ms) held.1 keeps (array_told ms).sizes (was chunked))
+      (λ chunked. trimmed-same old.bytes new.bytes grown (same_chunk new.bytes old.bytes k) (array_told ms) held.1 keeps (array_told ms).sizes (was chunked))
 
   blocks_now : (c : OpenedContent) → IsContentKept old.bytes ms c → Keeps old.bytes new.bytes (content_blocks old.bytes ms c) → content_blocks new.bytes ms' c ≡ content_blocks old.bytes ms c
   blocks_now (content.Group table) held keeps = blocks_told-same old.bytes new.bytes leaf internal table held.2.linked keeps
   blocks_now content.Array held keeps =
       ap (λ (a : Described). data_blocks new.bytes a.fixed a.layout) (told_still ms ms' still (held.0).array)
-      ∙ data_blocks-same old.bytes new.bytes grown (type_told ms) (layout_told ms) held.1 keeps
+      ∙ data_blocks-same old.bytes new.bytes grown (same_chunk new.bytes old.bytes k) (type_told ms) (layout_told ms) held.1 keeps
 
   told_now : (table : FinMap nat_cmp ℕ) (c : OpenedContent) → IsContentKept old.bytes ms c → Keeps old.bytes new.bytes (content_blocks old.bytes ms c)
       → content_in new.bytes table ms' c ≡ content_in old.bytes table ms c
@@ -195,7 +212,7 @@ module _ (old mid new : Space) (slots slots' : List (Option OpenedObject)) (numb
       ap (λ (ls : List (List ℕ × Target)). Group (links_by table ls)) (links_told-same old.bytes new.bytes leaf internal t held.2.linked keeps)
   told_now table content.Array held keeps =
       ap (λ (a : Described). Array (dataset_told new.bytes a)) (told_still ms ms' still (held.0).array)
-      ∙ ap Array (dataset_told-same old.bytes new.bytes grown (array_told ms) held.1 keeps)
+      ∙ ap Array (dataset_told-same old.bytes new.bytes grown (same_chunk new.bytes old.bytes k) (array_told ms) held.1 keeps)
 
   links_now : (c : OpenedContent) → IsContentKept old.bytes ms c → Keeps old.bytes new.bytes (content_blocks old.bytes ms c) → AreLinksKept old.bytes new.bytes c c
   links_now (content.Group t) held keeps = links_told-same old.bytes new.bytes leaf internal t held.2.linked keeps

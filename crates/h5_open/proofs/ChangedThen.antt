@@ -4,11 +4,13 @@ use Rattle.std.specs.Prelude.{Option}
 use Rattle.std.specs.FinMap.{get}
 use Rattle.std.specs.List.{flat_map}
 use Rattle.h5_bytes.specs.Bytes.{byte_at}
-use Rattle.h5_bytes.specs.Blocks.{cover}
+use Rattle.h5_bytes.specs.Blocks.{cover, holds}
+use Rattle.h5_bytes.specs.declared.Block.{Block}
 use Rattle.h5_bytes.proofs.BlockLaws.{cover-append}
 use Rattle.h5_model.specs.Format.Reads.{Placed, ReadsAs, all_blocks}
 use Rattle.h5_model.specs.Format.Superblock.{end_field}
 use Rattle.h5_model.specs.Tree.Objects.{Tree, Object}
+use Rattle.h5_model.proofs.KLaws.{same_end_field, same_length}
 use Rattle.h5_laws.proofs.Objects.{in_tree, object_at}
 use Rattle.h5_laws.proofs.InPlace.OneBlocks.{one_placing}
 use Rattle.h5_open.specs.ChangedInPlace.{IsChangedInPlace, is_among}
@@ -16,6 +18,7 @@ use Rattle.h5_open.specs.InPlace.{other_objects, touched_blocks}
 use Rattle.h5_open.specs.Opened.Sound.{IsSound}
 use Rattle.h5_open.specs.Opened.State.{FileState}
 use Rattle.h5_open.proofs.InPlaceLaws.{cover-split}
+use Rattle.h5_open.proofs.SuperblockKept.{end_inside}
 
 -- a number of an object of the table was given out
 pub number_given : (f : FileState) → IsSound f → (n h : ℕ) → get f.table n ≡ Some h → n < f.next
@@ -36,17 +39,17 @@ module _ (f g h : FileState) (t u : Tree) (m n : ℕ) (touched : List ℕ) (j k 
       let before = cover-split (is_among touched) p placed in
       let between = cover-split (is_among touched) p mid in
       let once = first.sound.reads.holds.apart p in
-      second.local mid first.sound.reads p (omega (arith, low, first.grown.0)) (omega (arith, untouched, used, same, before, between, once))
-      (omega (arith, untouched, used, same, before, between)) ∙ first.local placed reads p low untouched used
+      let field = ap (λ (b : Block). holds p b.at b.len) (same_end_field g.image f.image first.k) in
+      let super = ap (holds p 0) (same_length g.image f.image first.k) in
+      second.local mid first.sound.reads p (omega (arith, low, first.grown.0)) (omega (arith, untouched, used, same, before, between, once, field, super, end_inside f.image p))
+      (omega (arith, untouched, used, same, before, between, super)) ∙ first.local placed reads p low untouched used
 
   pub changed_then : IsChangedInPlace f h u n touched (j + k)
   changed_then = record {
     state = second.state;
     sound = second.sound;
     whole = λ whole. second.whole (first.whole whole);
-    leaf = second.leaf ∙ first.leaf;
-    internal = second.internal ∙ first.internal;
-    chunk = second.chunk ∙ first.chunk;
+    k = second.k ∙ first.k;
     headers = λ number header at some.
         let given = number_given f sound number header at in
         let between = second.given number (omega (arith, given, first.more)) some in
@@ -65,9 +68,7 @@ changed_none f touched sound = record {
   state = (refl, refl);
   sound = sound;
   whole = λ whole. whole;
-  leaf = refl;
-  internal = refl;
-  chunk = refl;
+  k = refl;
   headers = λ n h at some. at;
   given = λ n low some. some;
   more = omega arith;
@@ -107,9 +108,7 @@ changed_wider f g t n a b j k among room is = record {
   state = is.state;
   sound = is.sound;
   whole = is.whole;
-  leaf = is.leaf;
-  internal = is.internal;
-  chunk = is.chunk;
+  k = is.k;
   headers = is.headers;
   given = is.given;
   more = is.more;

@@ -71,8 +71,7 @@ module _ (old : Space) (slots : List (Option OpenedObject)) (numbers : BTreeMap 
     pub run_written : AreCellsWritten (opened_state old slots) number place values (opened_state new slots)
     run_written = record {
       changed = all_written.state;
-      leaf = all_written.leaf;
-      internal = all_written.internal;
+      k = all_written.k;
       whole = all_written.whole;
       in_place = all_written.in_place;
       stored = λ q was c its.

@@ -17,7 +17,7 @@ use Rattle.h5_model.specs.Format.Layout.{Layout, InMessage}
 use Rattle.h5_model.specs.Format.Messages.{Message, count_of, reference_count}
 use Rattle.h5_model.specs.Format.Plain.{cells_bytes}
 use Rattle.h5_model.specs.Format.Reads.{HasAttributes, is_attribute_message, is_kept, kept_of}
-use Rattle.h5_model.specs.Format.Superblock.{leaf_k, internal_k}
+use Rattle.h5_model.specs.Format.Superblock.{k_values}
 use Rattle.h5_model.specs.Tree.Objects.{Tree, Array, Attribute, Attributes, with_object}
 use Rattle.h5_model.specs.Tree.Places.{cells}
 use Rattle.h5_space.specs.Space.{Space}
@@ -82,8 +82,7 @@ pub record IsCompactWritten (old new : Space) (slots : List (Option OpenedObject
   pub opened : IsOpened new slots numbers
   pub state : opened_state new slots
       ≡ record (opened_state old slots) { image = new.bytes; tree = with_object (tree_of old.bytes slots) number (with_dataset (with_run place values)) }
-  pub leaf : leaf_k new.bytes ≡ leaf_k old.bytes
-  pub internal : internal_k new.bytes ≡ internal_k old.bytes
+  pub k : k_values new.bytes ≡ k_values old.bytes
   pub whole : IsWholeFile (opened_state old slots) → IsWholeFile (opened_state new slots)
   pub in_place : IsChangedInPlace (opened_state old slots) (opened_state new slots) (with_object (tree_of old.bytes slots) number (with_dataset (with_run place values))) (length slots)
       (number ∷ []) 0
@@ -245,8 +244,7 @@ module _ (old : Space) (slots : List (Option OpenedObject)) (numbers : BTreeMap 
       compact_written = record {
         opened = one_opened old new slots slots numbers opened number p p remade;
         state = ap (λ (t : Tree). record (opened_state old slots) { image = new.bytes; tree = t }) all.state.0;
-        leaf = all.leaf;
-        internal = all.internal;
+        k = all.k;
         whole = all.whole;
         in_place = all;
         local = kept_outside old.bytes new.bytes start w p.messages.blocks fit refl covered;

@@ -7,6 +7,7 @@ use Rattle.h5_model.specs.Format.Chunks.{Chunks}
 use Rattle.h5_model.specs.Format.Fixed.{Fixed}
 use Rattle.h5_model.specs.Format.Layout.{Layout, InMessage, InBlock, InChunks}
 use Rattle.h5_model.specs.Format.Reads.{HasData}
+use Rattle.h5_model.specs.Format.Superblock.{chunk_k}
 use Rattle.h5_model.proofs.Frames.{cells-same}
 use Rattle.h5_chunks.proofs.ToldLaws.{chunks_are_told, blocks_are_told}
 use Rattle.h5_layout.specs.Data.{AreDataRead, chunk_shape, data_blocks, dataset_told, stored_chunks}
@@ -30,10 +31,10 @@ module _ (image : List ℕ) (t : Fixed) where
   told_blocks (InChunks sizes (Some root)) chunks blocks stored = blocks_are_told image (chunk_shape t sizes) root chunks blocks stored
 
 -- so each cell stays
-pub dataset_told-same : (old new : List ℕ) → length old ≤ length new → (a : Described) → AreDataRead old a.fixed a.layout → Keeps old new (data_blocks old a.fixed a.layout)
+pub dataset_told-same : (old new : List ℕ) → length old ≤ length new → chunk_k new ≡ chunk_k old → (a : Described) → AreDataRead old a.fixed a.layout → Keeps old new (data_blocks old a.fixed a.layout)
     → dataset_told new a ≡ dataset_told old a
-dataset_told-same old new grown a read kept =
+dataset_told-same old new grown k a read kept =
     let before = stored_chunks old a.fixed a.layout in
     let cells_are : cells_of new a.fixed a.fill a.sizes a.layout before ≡ cells_of old a.fixed a.fill a.sizes a.layout before
     = cells-same old new a.fixed a.fill a.sizes a.layout before (data_blocks old a.fixed a.layout) kept (data_there old a.fixed a.layout read) in
-    ap (described_dataset new a) (stored_chunks-same old new grown a.fixed a.layout read kept) ∙ ap (λ (cs : List ℤ). record (described_dataset old a before) { cells = cs }) cells_are
+    ap (described_dataset new a) (stored_chunks-same old new grown k a.fixed a.layout read kept) ∙ ap (λ (cs : List ℤ). record (described_dataset old a before) { cells = cs }) cells_are

@@ -1,14 +1,14 @@
 -- A group beside which a block was taken: its blocks keep their bytes, so it has the links and the room that it had.
 use Rattle.std.proofs.Common.{◌≡◌, ℕ, ◌+◌, ◌≤◌, List, [], ◌∷◌, length, sym, ap, subst, arith}
-use Rattle.h5_bytes.specs.Blocks.{IsKept, Inside, Keeps}
+use Rattle.h5_bytes.specs.Blocks.{block, IsKept, Inside, Keeps}
 use Rattle.h5_bytes.specs.declared.Block.{Block}
 use Rattle.h5_bytes.proofs.BlockLaws.{all_right, all_so, cover-append}
-use Rattle.h5_bytes.proofs.FieldLaws.{number_at-same}
 use Rattle.h5_model.specs.Format.Addresses.{SymbolTable}
 use Rattle.h5_model.specs.Format.Heap.{heap_blocks, heap_header, segment_size}
 use Rattle.h5_model.specs.Format.Sizes.{group_node, symbol_node}
-use Rattle.h5_model.specs.Format.Superblock.{AreK, leaf_k, internal_k}
+use Rattle.h5_model.specs.Format.Superblock.{AreK, leaf_k, internal_k, k_values, superblock_length}
 use Rattle.h5_model.proofs.Frames.{heap-same}
+use Rattle.h5_model.proofs.KLaws.{same_internal, same_leaf, same_length}
 use Rattle.h5_space.specs.Moves.{Moves}
 use Rattle.h5_space.specs.Space.{Space}
 use Rattle.h5_space.specs.Whole.{IsApart}
@@ -20,16 +20,23 @@ use Rattle.h5_group.specs.Nodes.Trees.{group_nodes_blocks}
 use Rattle.h5_group.specs.Told.{blocks_told, links_told, nodes_told, symbol_nodes_told}
 use Rattle.h5_group.proofs.RoomKept.{full_same, none_same}
 use Rattle.h5_group.proofs.ToldLaws.{blocks_told-same, links_told-same, told-same}
+use Rattle.h5_open.proofs.SuperblockKept.{same_k}
 
 module _ (old new : Space) (taken : List Block) (t : SymbolTable) (group : IsGroupApart old t) (moves : Moves old new [] taken) where
-  kept : Keeps old.bytes new.bytes (superblock_block ∷ blocks_told old.bytes t)
-  kept = moves_kept old new [] taken (superblock_block ∷ blocks_told old.bytes t) moves group.apart (group.long, (group.read).inside)
+  kept : Keeps old.bytes new.bytes (superblock_block old.bytes ∷ blocks_told old.bytes t)
+  kept = moves_kept old new [] taken (superblock_block old.bytes ∷ blocks_told old.bytes t) moves group.apart (omega (arith, group.long), (group.read).inside)
 
-  pub leaf_beside : leaf_k new.bytes ≡ leaf_k old.bytes
-  leaf_beside = number_at-same old.bytes new.bytes 0 96 16 2 kept.0 (omega arith)
+  pub k_beside : k_values new.bytes ≡ k_values old.bytes
+  k_beside = same_k old.bytes new.bytes kept.0
 
-  pub internal_beside : internal_k new.bytes ≡ internal_k old.bytes
-  internal_beside = number_at-same old.bytes new.bytes 0 96 18 2 kept.0 (omega arith)
+  leaf_beside : leaf_k new.bytes ≡ leaf_k old.bytes
+  leaf_beside = same_leaf new.bytes old.bytes k_beside
+
+  internal_beside : internal_k new.bytes ≡ internal_k old.bytes
+  internal_beside = same_internal new.bytes old.bytes k_beside
+
+  length_beside : superblock_length new.bytes ≡ superblock_length old.bytes
+  length_beside = same_length new.bytes old.bytes k_beside
 
   pub blocks_beside : blocks_told new.bytes t ≡ blocks_told old.bytes t
   blocks_beside = blocks_told-same old.bytes new.bytes leaf_beside internal_beside t (group.read).linked kept.1
@@ -42,10 +49,10 @@ module _ (old new : Space) (taken : List Block) (t : SymbolTable) (group : IsGro
   inside_new = all_so (λ (b : Block). b.at + b.len ≤ length old.bytes) (λ (b : Block). b.at + b.len ≤ length new.bytes) (blocks_told old.bytes t)
       (λ b low. omega (arith, low, moves.grown)) (group.read).inside
 
-  apart_new : IsApart (superblock_block ∷ blocks_told old.bytes t) new.free (length new.bytes)
+  apart_new : IsApart (superblock_block old.bytes ∷ blocks_told old.bytes t) new.free (length new.bytes)
   apart_new p =
-      let both = moves_apart old new [] taken (superblock_block ∷ blocks_told old.bytes t) moves group.apart p in
-      omega (arith, both, cover-append p taken (superblock_block ∷ blocks_told old.bytes t))
+      let both = moves_apart old new [] taken (superblock_block old.bytes ∷ blocks_told old.bytes t) moves group.apart p in
+      omega (arith, both, cover-append p taken (superblock_block old.bytes ∷ blocks_told old.bytes t))
 
   -- it stands as it stood
   pub group_beside : IsGroupApart new t
@@ -55,8 +62,9 @@ module _ (old new : Space) (taken : List Block) (t : SymbolTable) (group : IsGro
       inside = subst (Inside (length new.bytes)) (sym blocks_beside) inside_new;
       few = let same = internal_beside in omega (arith, same, (group.read).few);
     };
-    apart = subst (λ (bs : List Block). IsApart (superblock_block ∷ bs) new.free (length new.bytes)) (sym blocks_beside) apart_new;
-    long = omega (arith, group.long, moves.grown);
+    apart = subst (λ (n : ℕ). IsApart (block 0 n ∷ blocks_told new.bytes t) new.free (length new.bytes)) (sym length_beside)
+        (subst (λ (bs : List Block). IsApart (superblock_block old.bytes ∷ bs) new.free (length new.bytes)) (sym blocks_beside) apart_new);
+    long = omega (arith, length_beside, group.long, moves.grown);
     k = subst (λ (k : ℕ). AreK k (internal_k new.bytes)) (sym leaf_beside) (subst (AreK (leaf_k old.bytes)) (sym internal_beside) group.k);
   }
 

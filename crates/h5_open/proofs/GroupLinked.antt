@@ -9,7 +9,7 @@ use Rattle.h5_bytes.specs.Blocks.{cover}
 use Rattle.h5_bytes.specs.declared.Block.{Block}
 use Rattle.h5_model.specs.Format.Addresses.{SymbolTable}
 use Rattle.h5_model.specs.Format.Links.{Ascend}
-use Rattle.h5_model.specs.Format.Superblock.{leaf_k, internal_k, end_of_file, end_field}
+use Rattle.h5_model.specs.Format.Superblock.{k_values, end_of_file, end_field}
 use Rattle.h5_model.specs.Format.Symbols.{Target, Header}
 use Rattle.h5_model.specs.Tree.Objects.{Links}
 use Rattle.h5_space.specs.Moves.{Moves}
@@ -40,8 +40,7 @@ pub record IsGroupLinked (old mid new : Space) (slots : List (Option OpenedObjec
   pub was : links_told old.bytes t ≡ front ++ back
   pub put : links_told mid.bytes t ≡ front ++ (name, target) ∷ back
   pub read : IsGroupRead mid.bytes t
-  pub leaf : leaf_k mid.bytes ≡ leaf_k old.bytes
-  pub internal : internal_k mid.bytes ≡ internal_k old.bytes
+  pub k : k_values mid.bytes ≡ k_values old.bytes
   pub moves : Moves old mid (blocks_told old.bytes t) (blocks_told mid.bytes t)
   pub later : Moves mid new (end_field mid.bytes ∷ written) (end_field new.bytes ∷ written)
   pub beside : (q : ℕ) → cover q written + cover q (object_blocks old.bytes p) ≤ cover q (flat_map (object_blocks old.bytes) (objects_of slots))
@@ -84,8 +83,7 @@ module _ (old mid new : Space) (slots : List (Option OpenedObject)) (numbers : B
     kind = is.kind;
     links = links_now;
     read = is.read;
-    leaf = is.leaf;
-    internal = is.internal;
+    k = is.k;
     moves = is.moves;
     later = is.later;
     beside = is.beside;

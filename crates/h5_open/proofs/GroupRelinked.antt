@@ -9,7 +9,7 @@ use Rattle.h5_bytes.specs.declared.Block.{Block}
 use Rattle.h5_model.specs.Edits.Applied.{with_links}
 use Rattle.h5_model.specs.Format.Addresses.{SymbolTable}
 use Rattle.h5_model.specs.Format.Messages.{prefix_at, reference_count}
-use Rattle.h5_model.specs.Format.Superblock.{leaf_k, internal_k, end_of_file, end_field}
+use Rattle.h5_model.specs.Format.Superblock.{k_values, end_of_file, end_field}
 use Rattle.h5_model.specs.Format.Symbols.{Header}
 use Rattle.h5_model.specs.Tree.Objects.{Links}
 use Rattle.h5_space.specs.Moves.{Moves}
@@ -21,7 +21,7 @@ use Rattle.h5_open.specs.declared.opened.object.OpenedContent.TheVariants as con
 use Rattle.h5_open.specs.Opened.Kept.{IsObjectKept, IsOpened}
 use Rattle.h5_open.specs.Opened.Objects.{content_links, header_of, links_by, object_blocks, object_in, objects_of, table_of}
 use Rattle.h5_open.specs.Opened.Sound.{IsHeaderIn}
-use Rattle.h5_open.proofs.GroupWritten.{IsGroupWritten, written_both, written_count, written_grown, written_kept, written_led, written_moves, written_object}
+use Rattle.h5_open.proofs.GroupWritten.{IsGroupWritten, written_both, written_count, written_grown, written_k, written_kept, written_led, written_moves, written_object}
 
 -- The links of a group were changed, then the bytes of these other blocks were written, and the end of file address.
 pub record IsGroupRelinked (old mid new : Space) (slots : List (Option OpenedObject)) (parent : ℕ) (p : OpenedObject) (t : SymbolTable) (written : List Block)
@@ -30,8 +30,7 @@ pub record IsGroupRelinked (old mid new : Space) (slots : List (Option OpenedObj
   pub kind : p.content ≡ content.Group t
   pub links : links_by (table_of slots) (links_told mid.bytes t) ≡ change (links_by (table_of slots) (links_told old.bytes t))
   pub read : IsGroupRead mid.bytes t
-  pub leaf : leaf_k mid.bytes ≡ leaf_k old.bytes
-  pub internal : internal_k mid.bytes ≡ internal_k old.bytes
+  pub k : k_values mid.bytes ≡ k_values old.bytes
   pub moves : Moves old mid (blocks_told old.bytes t) (blocks_told mid.bytes t)
   pub later : Moves mid new (end_field mid.bytes ∷ written) (end_field new.bytes ∷ written)
   pub beside : (q : ℕ) → cover q written + cover q (object_blocks old.bytes p) ≤ cover q (flat_map (object_blocks old.bytes) (objects_of slots))
@@ -47,8 +46,7 @@ module _ (old mid new : Space) (slots : List (Option OpenedObject)) (numbers : B
     group = is.group;
     kind = is.kind;
     read = is.read;
-    leaf = is.leaf;
-    internal = is.internal;
+    k = is.k;
     moves = is.moves;
     later = is.later;
     beside = is.beside;
@@ -57,11 +55,14 @@ module _ (old mid new : Space) (slots : List (Option OpenedObject)) (numbers : B
   abbrev pub rest : List Block
   rest = end_field old.bytes ∷ written
 
-  pub both_moves : Moves old new (blocks_told old.bytes t ++ rest) (blocks_told mid.bytes t ++ rest)
+  pub both_moves : Moves old new (blocks_told old.bytes t ++ rest) (blocks_told mid.bytes t ++ (end_field new.bytes ∷ written))
   both_moves = written_both old mid new slots numbers opened parent p t [] written relinked_written
 
   pub linked_grown : length old.bytes ≤ length new.bytes
   linked_grown = written_grown old mid new slots numbers opened parent p t [] written relinked_written
+
+  pub linked_k : k_values new.bytes ≡ k_values old.bytes
+  linked_k = written_k old mid new slots numbers opened parent p t [] written relinked_written
 
   pub count_stays : reference_count (prefix_at new.bytes (header_of p)) ≡ reference_count (prefix_at old.bytes (header_of p))
   count_stays = written_count old mid new slots numbers opened parent p t [] written relinked_written

@@ -91,8 +91,7 @@ module _ (old : Space) (slots : List (Option OpenedObject)) (numbers : BTreeMap 
       kind = kind;
       links = links_now;
       read = (is.group).read;
-      leaf = is.leaf;
-      internal = is.internal;
+      k = is.k;
       moves = is.moves;
       later = later;
       beside = beside;

@@ -8,15 +8,15 @@ use Rattle.std.specs.FinMap.{FinMap}
 use Rattle.std.specs.List.{Contains, flat_map}
 use Rattle.h5_bytes.specs.Blocks.{block, cover, Inside, Keeps}
 use Rattle.h5_bytes.specs.declared.Block.{Block}
-use Rattle.h5_bytes.proofs.BlockLaws.{all_so, cover-append, holds_join}
-use Rattle.h5_bytes.proofs.FieldLaws.{number_at-same}
+use Rattle.h5_bytes.proofs.BlockLaws.{all_so, cover-append}
 use Rattle.h5_model.specs.Edits.Applied.{with_links}
 use Rattle.h5_model.specs.Format.Addresses.{SymbolTable}
 use Rattle.h5_model.specs.Format.Messages.{Message, first_size, prefix_at, reference_count}
-use Rattle.h5_model.specs.Format.Superblock.{leaf_k, internal_k, end_field}
+use Rattle.h5_model.specs.Format.Superblock.{leaf_k, internal_k, k_values, end_field}
 use Rattle.h5_model.specs.Format.Symbols.{Target, Header}
 use Rattle.h5_model.specs.Tree.Objects.{Group, Links}
 use Rattle.h5_model.proofs.Frames.{front-same}
+use Rattle.h5_model.proofs.KLaws.{k_values_stay, same_end_field, same_internal, same_leaf}
 use Rattle.h5_space.specs.Moves.{Moves}
 use Rattle.h5_space.specs.Space.{Space}
 use Rattle.h5_space.specs.Whole.{IsApart}
@@ -34,6 +34,7 @@ use Rattle.h5_open.specs.Opened.Objects.{content_blocks, content_in, content_lin
 use Rattle.h5_open.specs.Opened.Headers.{object_with}
 use Rattle.h5_open.specs.Opened.Sound.{IsHeaderIn}
 use Rattle.h5_open.proofs.OpenedLaws.Sounds.{object_of}
+use Rattle.h5_open.proofs.SuperblockKept.{end_split}
 use Rattle.h5_open.proofs.TouchedBlocks.{group_blocks}
 
 -- The links of a group were changed, and these blocks taken beside; then the bytes of other blocks were written, and the end of file address.
@@ -41,8 +42,7 @@ pub record IsGroupWritten (old mid new : Space) (slots : List (Option OpenedObje
   pub group : slice_get slots parent ≡ Some (Some p)
   pub kind : p.content ≡ content.Group t
   pub read : IsGroupRead mid.bytes t
-  pub leaf : leaf_k mid.bytes ≡ leaf_k old.bytes
-  pub internal : internal_k mid.bytes ≡ internal_k old.bytes
+  pub k : k_values mid.bytes ≡ k_values old.bytes
   pub moves : Moves old mid (blocks_told old.bytes t) (taken ++ blocks_told mid.bytes t)
   pub later : Moves mid new (end_field mid.bytes ∷ written) (end_field new.bytes ∷ written)
   pub beside : (q : ℕ) → cover q written + cover q (object_blocks old.bytes p) ≤ cover q (flat_map (object_blocks old.bytes) (objects_of slots))
@@ -76,17 +76,24 @@ module _ (old mid new : Space) (slots : List (Option OpenedObject)) (numbers : B
   abbrev told : List Block
   told = taken ++ blocks_told mid.bytes t
 
+  -- what is written then, and the field as it stands in the end
+  abbrev rest' : List Block
+  rest' = end_field new.bytes ∷ written
+
+  later : Moves mid new rest rest'
+  later = subst (λ (b : Block). Moves mid new (b ∷ written) rest') (same_end_field mid.bytes old.bytes is.k) is.later
+
   first : Moves old mid (blocks_told old.bytes t ++ rest) (told ++ rest)
   first = moves_beside old mid (blocks_told old.bytes t) told rest is.moves
 
-  turned : (q : ℕ) → cover q (told ++ rest) ≡ cover q (rest ++ told)
-  turned q = omega (arith, cover-append q told rest, cover-append q rest told)
+  turned : (others : List Block) (q : ℕ) → cover q (told ++ others) ≡ cover q (others ++ told)
+  turned others q = omega (arith, cover-append q told others, cover-append q others told)
 
-  second : Moves mid new (told ++ rest) (told ++ rest)
-  second = moves_same mid new (rest ++ told) (rest ++ told) (told ++ rest) (told ++ rest) turned turned (moves_beside mid new rest rest told is.later)
+  second : Moves mid new (told ++ rest) (told ++ rest')
+  second = moves_same mid new (rest ++ told) (rest' ++ told) (told ++ rest) (told ++ rest') (turned rest) (turned rest') (moves_beside mid new rest rest' told later)
 
-  pub written_both : Moves old new (blocks_told old.bytes t ++ rest) (told ++ rest)
-  written_both = moves_then old mid new (blocks_told old.bytes t ++ rest) (told ++ rest) (told ++ rest) first second
+  pub written_both : Moves old new (blocks_told old.bytes t ++ rest) (told ++ rest')
+  written_both = moves_then old mid new (blocks_told old.bytes t ++ rest) (told ++ rest) (told ++ rest') first second
 
   pub written_grown : length old.bytes ≤ length new.bytes
   written_grown = written_both.grown
@@ -94,49 +101,52 @@ module _ (old mid new : Space) (slots : List (Option OpenedObject)) (numbers : B
   covers : (q : ℕ) → cover q (object_blocks old.bytes p) ≡ cover q own + cover q (blocks_told old.bytes t)
   covers q = let same = ap (cover q) blocks_before in omega (arith, same, cover-append q own (blocks_told old.bytes t))
 
-  apart : IsApart ((blocks_told old.bytes t ++ rest) ++ (block 0 40 ∷ own)) old.free (length old.bytes)
+  -- the superblock before the field
+  abbrev front : Block
+  front = block 0 (end_field old.bytes).at
+
+  apart : IsApart ((blocks_told old.bytes t ++ rest) ++ (front ∷ own)) old.free (length old.bytes)
   apart q = omega (
     arith,
     opened.apart q,
     is.beside q,
     covers q,
-    cover-append q (blocks_told old.bytes t ++ rest) (block 0 40 ∷ own),
+    cover-append q (blocks_told old.bytes t ++ rest) (front ∷ own),
     cover-append q (blocks_told old.bytes t) rest,
-    holds_join q 0 40 56,
-    holds_join q 40 8 48,
+    end_split old.bytes q,
   )
 
-  stays : Keeps old.bytes new.bytes (block 0 40 ∷ own)
-  stays = moves_kept old new (blocks_told old.bytes t ++ rest) (told ++ rest) (block 0 40 ∷ own) written_both apart (omega (arith, opened.reads.1.holds.superblock.whole), kept.header.inside)
+  stays : Keeps old.bytes new.bytes (front ∷ own)
+  stays = moves_kept old new (blocks_told old.bytes t ++ rest) (told ++ rest') (front ∷ own) written_both apart (omega (arith, opened.reads.1.holds.superblock.whole), kept.header.inside)
 
-  pub written_leaf : leaf_k new.bytes ≡ leaf_k old.bytes
-  written_leaf = number_at-same old.bytes new.bytes 0 40 16 2 stays.0 (omega arith)
-
-  pub written_internal : internal_k new.bytes ≡ internal_k old.bytes
-  written_internal = number_at-same old.bytes new.bytes 0 40 18 2 stays.0 (omega arith)
+  pub written_k : k_values new.bytes ≡ k_values old.bytes
+  written_k = k_values_stay old.bytes new.bytes (end_field old.bytes).at (omega arith) stays.0
 
   apart_mid : IsApart (rest ++ told) mid.free (length mid.bytes)
   apart_mid q =
       let was : IsApart (blocks_told old.bytes t ++ rest) old.free (length old.bytes)
-      = λ r. omega (arith, apart r, cover-append r (blocks_told old.bytes t ++ rest) (block 0 40 ∷ own)) in
-      omega (arith, moves_apart old mid (blocks_told old.bytes t) told rest is.moves was q, turned q)
+      = λ r. omega (arith, apart r, cover-append r (blocks_told old.bytes t ++ rest) (front ∷ own)) in
+      omega (arith, moves_apart old mid (blocks_told old.bytes t) told rest is.moves was q, turned rest q)
 
   tree_stays : Keeps mid.bytes new.bytes (blocks_told mid.bytes t)
-  tree_stays = moves_kept mid new rest rest (blocks_told mid.bytes t) is.later
+  tree_stays = moves_kept mid new rest rest' (blocks_told mid.bytes t) later
       (λ q. omega (arith, apart_mid q, cover-append q rest told, cover-append q taken (blocks_told mid.bytes t), cover-append q rest (blocks_told mid.bytes t))) is.read.inside
 
   -- and so do the blocks that were taken
   pub taken_stay : Inside (length mid.bytes) taken → Keeps mid.bytes new.bytes taken
-  taken_stay inside = moves_kept mid new rest rest taken is.later
+  taken_stay inside = moves_kept mid new rest rest' taken later
       (λ q. omega (arith, apart_mid q, cover-append q rest told, cover-append q taken (blocks_told mid.bytes t), cover-append q rest taken)) inside
 
   -- ---- the group
 
+  k_later : k_values new.bytes ≡ k_values mid.bytes
+  k_later = written_k ∙ sym is.k
+
   leaf_later : leaf_k new.bytes ≡ leaf_k mid.bytes
-  leaf_later = written_leaf ∙ sym is.leaf
+  leaf_later = same_leaf new.bytes mid.bytes k_later
 
   internal_later : internal_k new.bytes ≡ internal_k mid.bytes
-  internal_later = written_internal ∙ sym is.internal
+  internal_later = same_internal new.bytes mid.bytes k_later
 
   blocks_later : blocks_told new.bytes t ≡ blocks_told mid.bytes t
   blocks_later = blocks_told-same mid.bytes new.bytes leaf_later internal_later t is.read.linked tree_stays
@@ -190,7 +200,7 @@ module _ (old mid new : Space) (slots : List (Option OpenedObject)) (numbers : B
 
   -- with the blocks beside it
   pub written_moves : Moves old new (end_field old.bytes ∷ (object_blocks old.bytes p ++ written)) (end_field new.bytes ∷ (taken ++ (object_blocks new.bytes p ++ written)))
-  written_moves = moves_same old new ((blocks_told old.bytes t ++ rest) ++ own) ((told ++ rest) ++ own)
+  written_moves = moves_same old new ((blocks_told old.bytes t ++ rest) ++ own) ((told ++ rest') ++ own)
       (end_field old.bytes ∷ (object_blocks old.bytes p ++ written)) (end_field new.bytes ∷ (taken ++ (object_blocks new.bytes p ++ written)))
       (λ q. omega (arith, covers q, cover-append q (object_blocks old.bytes p) written, cover-append q (blocks_told old.bytes t ++ rest) own, cover-append q (blocks_told old.bytes t) rest))
       (λ q. let are = ap (cover q) blocks_now in omega (
@@ -199,11 +209,11 @@ module _ (old mid new : Space) (slots : List (Option OpenedObject)) (numbers : B
         cover-append q own (blocks_told mid.bytes t),
         cover-append q taken (object_blocks new.bytes p ++ written),
         cover-append q (object_blocks new.bytes p) written,
-        cover-append q (told ++ rest) own,
-        cover-append q told rest,
+        cover-append q (told ++ rest') own,
+        cover-append q told rest',
         cover-append q taken (blocks_told mid.bytes t),
       ))
-      (moves_beside old new (blocks_told old.bytes t ++ rest) (told ++ rest) own written_both)
+      (moves_beside old new (blocks_told old.bytes t ++ rest) (told ++ rest') own written_both)
 
   -- ---- its links, by the headers of a table
 

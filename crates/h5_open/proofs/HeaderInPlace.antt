@@ -7,11 +7,13 @@ use Rattle.std.specs.BTreeMap.{BTreeMap}
 use Rattle.std.specs.FinMap.{get}
 use Rattle.std.proofs.lemmas.List.{length-map}
 use Rattle.std.proofs.lemmas.Option.{slice_get_within}
+use Rattle.std.specs.List.{flat_map}
+use Rattle.h5_bytes.specs.Blocks.{cover}
 use Rattle.h5_bytes.specs.declared.Block.{Block}
 use Rattle.h5_bytes.proofs.BlockLaws.{cover-append, holds-le}
 use Rattle.h5_model.specs.Format.Messages.{Message, prefix_at, reference_count, total_in}
 use Rattle.h5_model.specs.Format.Reads.{HasAttributes}
-use Rattle.h5_model.specs.Format.Superblock.{end_of_file, end_field}
+use Rattle.h5_model.specs.Format.Superblock.{end_of_file, end_field, superblock_length}
 use Rattle.h5_model.specs.Tree.Objects.{Attributes, Object}
 use Rattle.h5_space.specs.Moves.{Moves}
 use Rattle.h5_space.specs.Space.{Space}
@@ -27,11 +29,11 @@ use Rattle.h5_open.specs.declared.opened.object.OpenedContent.{OpenedContent}
 use Rattle.h5_open.specs.declared.opened.object.OpenedContent.TheVariants as content
 use Rattle.h5_open.specs.Attributed.{has_full_header}
 use Rattle.h5_open.specs.Opened.Kept.{IsContentKept, IsObjectKept, IsOpened}
-use Rattle.h5_open.specs.Opened.Objects.{content_blocks, object_blocks, object_in, table_of, tree_of}
+use Rattle.h5_open.specs.Opened.Objects.{content_blocks, object_blocks, object_in, objects_of, table_of, tree_of}
 use Rattle.h5_open.specs.Opened.State.{opened_state}
 use Rattle.h5_open.proofs.AttributeEdits.{slot_beside, slot_length, slot_there}
 use Rattle.h5_open.proofs.AttributeOpened.{IsHeaderEdited}
-use Rattle.h5_open.proofs.EndKept.{end_kept}
+use Rattle.h5_open.proofs.EndKept.{end_kept, superblock_kept}
 use Rattle.h5_open.proofs.OneRemade.{one_cover}
 use Rattle.h5_open.proofs.OpenedLaws.Entries.{get_tree}
 use Rattle.h5_open.proofs.OpenedLaws.Sounds.{object_of}
@@ -85,11 +87,16 @@ module _ (image : Space) (slots : List (Option OpenedObject)) (numbers : BTreeMa
       (object_of image slots numbers opened number p at).header
       ∙ ap (λ (n : ℕ). nat_lt 65535 (n + 2)) (kept.header.has.total ∙ length-map p.messages.list (message_in image.bytes))
 
-  -- ---- the end of file address is no part of it
+  -- ---- the superblock is no part of it
+
+  among : (q : ℕ) → cover q p.messages.blocks ≤ cover q (flat_map (object_blocks image.bytes) (objects_of slots))
+  among q = omega (arith, one_cover q (object_blocks image.bytes) slots number p at, cover-append q p.messages.blocks (content_blocks image.bytes ms p.content))
 
   pub end_as_it_was : (new : Space) (after : List Block) → Moves image new p.messages.blocks after → length new.bytes ≡ length image.bytes → end_of_file new.bytes ≡ length new.bytes
-  end_as_it_was new after moves = end_kept image slots numbers opened new p.messages.blocks after moves
-      (λ q. omega (arith, one_cover q (object_blocks image.bytes) slots number p at, cover-append q p.messages.blocks (content_blocks image.bytes ms p.content)))
+  end_as_it_was new after moves = end_kept image slots numbers opened new p.messages.blocks after moves among
+
+  pub superblock_as_it_was : (new : Space) (after : List Block) → Moves image new p.messages.blocks after → superblock_length new.bytes ≤ length new.bytes
+  superblock_as_it_was new after moves = superblock_kept image slots numbers opened new p.messages.blocks after moves among
 
   -- ---- edited
 
@@ -144,6 +151,10 @@ module _ (image : Space) (slots : List (Option OpenedObject)) (numbers : BTreeMa
 
     pub room_apart : IsApart roomy.blocks image.free (length image.bytes)
     room_apart = subst (λ (x : Listed). IsApart x.blocks image.free (length image.bytes)) (sym is) header_apart
+
+    pub room_superblock : (new : Space) (after : List Block) → Moves image new roomy.blocks after → superblock_length new.bytes ≤ length new.bytes
+    room_superblock = subst (λ (x : Listed). (new : Space) (after : List Block) → Moves image new x.blocks after → superblock_length new.bytes ≤ length new.bytes)
+        (sym is) superblock_as_it_was
 
     pub room_edited : IsEditedFrom roomy
     room_edited = subst IsEditedFrom (sym is) header_edited

@@ -4,24 +4,26 @@ use Rattle.std.proofs.Common.{◌≡◌, inl, inr, ◌⊎◌, ℕ, ◌+◌, ◌<
 use Rattle.std.specs.Ordering.{nat_cmp}
 use Rattle.std.specs.FinMap.{FinMap}
 use Rattle.std.specs.List.{flat_map}
-use Rattle.h5_bytes.specs.Bytes.{byte_at}
+use Rattle.h5_bytes.specs.Bytes.{byte_at, number_at}
 use Rattle.h5_bytes.specs.Blocks.{block, holds, cover, Inside, Keeps}
 use Rattle.h5_bytes.specs.declared.Block.{Block}
-use Rattle.h5_bytes.proofs.BlockLaws.{holds_in, holds_join, holds-le, holds_before, cover-append, all_append, all_so}
+use Rattle.h5_bytes.proofs.BlockLaws.{holds_in, holds-le, holds_before, cover-append, all_append, all_so}
 use Rattle.h5_bytes.proofs.FieldLaws.{number_at-same}
-use Rattle.h5_model.specs.Format.Superblock.{IsSuperblock, leaf_k, internal_k, root_header, end_field}
+use Rattle.h5_model.specs.Format.Superblock.{IsSuperblock, base_place, chunk_field, end_field, has_chunk_k, k_values, root_header, superblock_length}
 use Rattle.h5_model.specs.Format.Reads.{Placed, ReadsAs, all_blocks}
 use Rattle.h5_model.specs.Tree.Objects.{Tree}
+use Rattle.h5_model.proofs.Frames.{front-same}
+use Rattle.h5_model.proofs.KLaws.{k_values_stay, same_chunk, same_end_field, same_internal, same_leaf, same_length, same_version}
 use Rattle.h5_laws.specs.InPlace.{IsUntouched, IsMade, IsStep}
 use Rattle.h5_laws.specs.Trees.Sound.{IsSoundTree}
 use Rattle.h5_laws.proofs.Lists.{In, in_all, all_in, in_flat, in_contains, contains_in}
-use Rattle.h5_model.proofs.Frames.{front-same}
 use Rattle.h5_laws.proofs.InPlace.StepReads.{step_reads}
 use Rattle.h5_laws.proofs.InPlace.StillThere.{kept_each}
 use Rattle.h5_space.specs.Space.{Space}
 use Rattle.h5_space.specs.Whole.{IsApart, IsWhole}
 use Rattle.h5_space.proofs.MovesLaws.{moves_apart, moves_whole, moves_kept, moves_local_used}
 use Rattle.h5_open.specs.InPlace.{chosen_objects, other_objects, touched_blocks, IsLeft, IsRemade, IsInPlace}
+use Rattle.h5_open.proofs.SuperblockKept.{end_split, front_number}
 
 -- ---- the objects of some numbers, and the others
 
@@ -105,36 +107,18 @@ inside-split touched end (x ∷ placed) each =
 module _ (old new : Space) (table table' : FinMap nat_cmp ℕ) (tree tree' : Tree) (placed placed' : List Placed) (touched : ℕ → Bool)
     (reads : ReadsAs old.bytes table tree placed) (apart : IsApart (all_blocks old.bytes placed) old.free (length old.bytes))
     (is : IsInPlace old new table table' tree tree' placed placed' touched) where
+  abbrev has : Bool
+  has = has_chunk_k old.bytes
+
   -- the superblock but for the end of file address, and the objects that are not touched
   abbrev others : List Block
-  others = block 0 40 ∷ block 48 48 ∷ blocks_of (other_objects touched placed)
-
-  field-split : (p : ℕ) → holds p 0 96 ≡ holds p 40 8 + (holds p 0 40 + holds p 48 48)
-  field-split p = omega (arith, holds_join p 0 40 56, holds_join p 40 8 48)
+  others = block 0 (end_field old.bytes).at ∷ block (48 + chunk_field has) 48 ∷ blocks_of (other_objects touched placed)
 
   used : (p : ℕ) → cover p ((end_field old.bytes ∷ touched_blocks touched placed) ++ others) ≡ cover p (all_blocks old.bytes placed)
-  used p = omega (arith, field-split p, cover-split touched p placed, cover-append p (touched_blocks touched placed) others)
-
-  used' : (p : ℕ) → cover p ((end_field new.bytes ∷ touched_blocks touched placed') ++ others) ≡ cover p (all_blocks new.bytes placed')
-  used' p =
-      let same = ap (λ (xs : List Placed). cover p (blocks_of xs)) is.others in
-      omega (arith, field-split p, cover-split touched p placed', cover-append p (touched_blocks touched placed') others, same)
+  used p = omega (arith, end_split old.bytes p, cover-split touched p placed, cover-append p (touched_blocks touched placed) others)
 
   apart_before : IsApart ((end_field old.bytes ∷ touched_blocks touched placed) ++ others) old.free (length old.bytes)
   apart_before p = omega (arith, apart p, used p)
-
-  -- no free block meets one in use
-  pub in_place_apart : IsApart (all_blocks new.bytes placed') new.free (length new.bytes)
-  in_place_apart p =
-      let after = moves_apart old new (end_field old.bytes ∷ touched_blocks touched placed) (end_field new.bytes ∷ touched_blocks touched placed') others is.moves apart_before p in
-      omega (arith, after, used' p)
-
-  -- nothing leaks where nothing leaked
-  pub in_place_whole : IsWhole (all_blocks old.bytes placed) old.free (length old.bytes) → IsWhole (all_blocks new.bytes placed') new.free (length new.bytes)
-  in_place_whole whole p =
-      let before : IsWhole ((end_field old.bytes ∷ touched_blocks touched placed) ++ others) old.free (length old.bytes) = λ q. omega (arith, whole q, used q) in
-      let after = moves_whole old new (end_field old.bytes ∷ touched_blocks touched placed) (end_field new.bytes ∷ touched_blocks touched placed') others is.moves before p in
-      omega (arith, after, used' p)
 
   -- each byte that is not as before is of the end of file address, of an object that is touched, or was in no block
   pub in_place_local : (p : ℕ) → p < length old.bytes
@@ -150,7 +134,7 @@ module _ (old new : Space) (table table' : FinMap nat_cmp ℕ) (tree tree' : Tre
   inside_all : Inside (length old.bytes) (blocks_of placed)
   inside_all = reads.holds.within.1
 
-  long : 96 ≤ length old.bytes
+  long : superblock_length old.bytes ≤ length old.bytes
   long = reads.holds.superblock.whole
 
   inside_others : Inside (length old.bytes) others
@@ -165,45 +149,81 @@ module _ (old new : Space) (table table' : FinMap nat_cmp ℕ) (tree tree' : Tre
   pub keeps : Keeps old.bytes new.bytes others
   keeps = moves_kept old new (end_field old.bytes ∷ touched_blocks touched placed) (end_field new.bytes ∷ touched_blocks touched placed') others is.moves apart_before inside_others
 
+  pub k_stays : k_values new.bytes ≡ k_values old.bytes
+  k_stays = k_values_stay old.bytes new.bytes (end_field old.bytes).at (omega arith) keeps.0
+
+  version_stays : has_chunk_k new.bytes ≡ has
+  version_stays = same_version new.bytes old.bytes k_stays
+
+  length_stays : superblock_length new.bytes ≡ superblock_length old.bytes
+  length_stays = same_length new.bytes old.bytes k_stays
+
   byte_stays : (p : ℕ) → p < 40 → byte_at new.bytes p ≡ byte_at old.bytes p
   byte_stays p low =
-      let here = holds_in p 0 96 (omega (arith, low)) (omega (arith, low)) in
-      let field = holds_before p 40 8 low in
+      let here = holds_in p 0 (superblock_length old.bytes) (omega (arith, low)) (omega (arith, low)) in
+      let field = holds_before p (end_field old.bytes).at 8 (omega (arith, low)) in
       let end = holds-le p 0 (length old.bytes) in
       is.moves.kept p (omega (arith, low, long))
       (omega (arith, apart p, here, field, end, cover-split touched p placed)) (omega (arith, apart p, here, end))
 
-  pub leaf_stays : leaf_k new.bytes ≡ leaf_k old.bytes
-  leaf_stays = number_at-same old.bytes new.bytes 0 40 16 2 keeps.0 (omega arith)
-
-  pub internal_stays : internal_k new.bytes ≡ internal_k old.bytes
-  internal_stays = number_at-same old.bytes new.bytes 0 40 18 2 keeps.0 (omega arith)
+  -- an address behind that of the end of file
+  behind_stays : (k : ℕ) → k + 8 ≤ 48 → number_at new.bytes (48 + k + chunk_field has) 8 ≡ number_at old.bytes (48 + k + chunk_field has) 8
+  behind_stays k low =
+      let place : 48 + chunk_field has + k ≡ 48 + k + chunk_field has = omega arith in
+      rw place at (number_at-same old.bytes new.bytes (48 + chunk_field has) 48 k 8 keeps.1.0 low)
 
   root_stays : root_header new.bytes ≡ root_header old.bytes
-  root_stays = number_at-same old.bytes new.bytes 48 48 16 8 keeps.1.0 (omega arith)
+  root_stays = ap (λ b. number_at new.bytes (64 + chunk_field b) 8) version_stays ∙ behind_stays 16 (omega arith)
 
   superblock : IsSuperblock new.bytes
   superblock =
       let was = reads.holds.superblock in
+      let leaf = same_leaf new.bytes old.bytes k_stays in
+      let internal = same_internal new.bytes old.bytes k_stays in
+      let chunk = same_chunk new.bytes old.bytes k_stays in
       record {
-        whole = omega (arith, long, is.moves.grown);
-        signed = front-same old.bytes new.bytes 0 40 8 (omega arith) keeps.0 ∙ was.signed;
-        version = byte_stays 8 (omega arith) ∙ was.version;
+        whole = omega (arith, long, length_stays, is.moves.grown);
+        signed = front-same old.bytes new.bytes 0 (end_field old.bytes).at 8 (omega arith) keeps.0 ∙ was.signed;
+        version = omega (arith, byte_stays 8 (omega arith), was.version);
         free_space_version = byte_stays 9 (omega arith) ∙ was.free_space_version;
         root_version = byte_stays 10 (omega arith) ∙ was.root_version;
         shared_version = byte_stays 12 (omega arith) ∙ was.shared_version;
         offset_size = byte_stays 13 (omega arith) ∙ was.offset_size;
         length_size = byte_stays 14 (omega arith) ∙ was.length_size;
-        leaf_low = omega (arith, leaf_stays, was.leaf_low);
-        leaf_high = omega (arith, leaf_stays, was.leaf_high);
-        internal_low = omega (arith, internal_stays, was.internal_low);
-        internal_high = omega (arith, internal_stays, was.internal_high);
-        base = number_at-same old.bytes new.bytes 0 40 24 8 keeps.0 (omega arith) ∙ was.base;
-        driver = number_at-same old.bytes new.bytes 48 48 0 8 keeps.1.0 (omega arith) ∙ was.driver;
+        leaf_low = omega (arith, leaf, was.leaf_low);
+        leaf_high = omega (arith, leaf, was.leaf_high);
+        internal_low = omega (arith, internal, was.internal_low);
+        internal_high = omega (arith, internal, was.internal_high);
+        chunk_low = omega (arith, chunk, was.chunk_low);
+        chunk_high = omega (arith, chunk, was.chunk_high);
+        base = ap (λ b. number_at new.bytes (24 + chunk_field b) 8) version_stays ∙ front_number old.bytes new.bytes (end_field old.bytes).at (base_place old.bytes) 8 keeps.0 (omega arith) ∙ was.base;
+        driver = ap (λ b. number_at new.bytes (48 + chunk_field b) 8) version_stays ∙ behind_stays 0 (omega arith) ∙ was.driver;
         small = omega (arith, is.end, is.small);
-        end_low = omega (arith, is.end, long, is.moves.grown);
+        end_low = omega (arith, is.end, long, length_stays, is.moves.grown);
         end_high = omega (arith, is.end);
       }
+
+  -- ---- no block is shared, and none is lost
+
+  used' : (p : ℕ) → cover p ((end_field new.bytes ∷ touched_blocks touched placed') ++ others) ≡ cover p (all_blocks new.bytes placed')
+  used' p =
+      let same = ap (λ (xs : List Placed). cover p (blocks_of xs)) is.others in
+      let field = ap (λ (b : Block). holds p b.at b.len) (same_end_field new.bytes old.bytes k_stays) in
+      let whole = ap (holds p 0) length_stays in
+      omega (arith, field, whole, end_split old.bytes p, cover-split touched p placed', cover-append p (touched_blocks touched placed') others, same)
+
+  -- no free block meets one in use
+  pub in_place_apart : IsApart (all_blocks new.bytes placed') new.free (length new.bytes)
+  in_place_apart p =
+      let after = moves_apart old new (end_field old.bytes ∷ touched_blocks touched placed) (end_field new.bytes ∷ touched_blocks touched placed') others is.moves apart_before p in
+      omega (arith, after, used' p)
+
+  -- nothing leaks where nothing leaked
+  pub in_place_whole : IsWhole (all_blocks old.bytes placed) old.free (length old.bytes) → IsWhole (all_blocks new.bytes placed') new.free (length new.bytes)
+  in_place_whole whole p =
+      let before : IsWhole ((end_field old.bytes ∷ touched_blocks touched placed) ++ others) old.free (length old.bytes) = λ q. omega (arith, whole q, used q) in
+      let after = moves_whole old new (end_field old.bytes ∷ touched_blocks touched placed) (end_field new.bytes ∷ touched_blocks touched placed') others is.moves before p in
+      omega (arith, after, used' p)
 
   -- ---- the objects
 
@@ -237,14 +257,13 @@ module _ (old new : Space) (table table' : FinMap nat_cmp ℕ) (tree tree' : Tre
   step = record {
     superblock = superblock;
     whole = is.end;
-    leaf = leaf_stays;
-    internal = internal_stays;
+    k = k_stays;
     root = is.root ∙ reads.holds.root ∙ ap Some (sym root_stays);
     numbered = is.numbered;
     objects = is.objects;
     each = all_in (λ x. IsUntouched old.bytes new.bytes table table' tree tree' placed x ⊎ IsMade new.bytes table' tree' x) placed' (λ x at. each x at (touched x.number) refl);
     apart = λ p. omega (arith, in_place_apart p, holds-le p 0 (length new.bytes));
-    within = (omega (arith, long, is.moves.grown), inside-split touched (length new.bytes) placed' (λ x at. inside_each x at (touched x.number) refl));
+    within = (omega (arith, long, length_stays, is.moves.grown), inside-split touched (length new.bytes) placed' (λ x at. inside_each x at (touched x.number) refl));
   }
 
   -- the new image reads as the new tree

@@ -4,7 +4,8 @@ use Rattle.h5_bytes.specs.Blocks.{Keeps, Inside, IsKept}
 use Rattle.h5_bytes.specs.declared.Block.{Block}
 use Rattle.h5_bytes.proofs.BlockLaws.{all_left, all_right}
 use Rattle.h5_model.specs.Format.Messages.{Message}
-use Rattle.h5_model.specs.Format.Superblock.{leaf_k, internal_k}
+use Rattle.h5_model.specs.Format.Superblock.{leaf_k, internal_k, k_values}
+use Rattle.h5_model.proofs.KLaws.{same_chunk, same_internal, same_leaf}
 use Rattle.h5_header.specs.Listed.{messages_in, IsWithin}
 use Rattle.h5_header.proofs.KeptLaws.{listed-same, header-same}
 use Rattle.h5_header.specs.declared.message.Message.{Message as Placed}
@@ -19,7 +20,13 @@ use Rattle.h5_open.specs.Opened.Objects.{content_blocks, object_blocks}
 use Rattle.h5_open.proofs.DataLaws.{data_blocks-same, data_read-same}
 use Rattle.h5_open.proofs.TrimmedKept.{trimmed-same}
 
-module _ (old new : List ℕ) (leaf : leaf_k new ≡ leaf_k old) (internal : internal_k new ≡ internal_k old) (grown : length old ≤ length new) where
+module _ (old new : List ℕ) (k : k_values new ≡ k_values old) (grown : length old ≤ length new) where
+  leaf : leaf_k new ≡ leaf_k old
+  leaf = same_leaf new old k
+
+  internal : internal_k new ≡ internal_k old
+  internal = same_internal new old k
+
   inside_still : (blocks : List Block) → Inside (length old) blocks → Inside (length new) blocks
   inside_still [] inside = tt
   inside_still (b ∷ bs) inside = (omega (arith, inside.0, grown), inside_still bs inside.1)
@@ -43,7 +50,7 @@ module _ (old new : List ℕ) (leaf : leaf_k new ≡ leaf_k old) (internal : int
 
     blocks_of : (c : OpenedContent) → IsContentKept old ms c → Keeps old new (content_blocks old ms c) → content_blocks new ms c ≡ content_blocks old ms c
     blocks_of (content.Group table) held keeps = blocks_told-same old new leaf internal table held.2.linked keeps
-    blocks_of content.Array held keeps = data_blocks-same old new grown (type_told ms) (layout_told ms) held.1 keeps
+    blocks_of content.Array held keeps = data_blocks-same old new grown (same_chunk new old k) (type_told ms) (layout_told ms) held.1 keeps
 
     pub kept_blocks : object_blocks new o ≡ object_blocks old o
     kept_blocks = ap (λ (bs : List Block). o.messages.blocks ++ bs)
@@ -60,11 +67,11 @@ module _ (old new : List ℕ) (leaf : leaf_k new ≡ leaf_k old) (internal : int
             few = rw internal held.2.few;
           },
         )
-    content_of content.Array held keeps = (held.0, data_read-same old new grown (type_told ms) (layout_told ms) held.1 keeps)
+    content_of content.Array held keeps = (held.0, data_read-same old new grown (same_chunk new old k) (type_told ms) (layout_told ms) held.1 keeps)
 
     trimmed_of : (c : OpenedContent) → IsContentKept old ms c → Keeps old new (content_blocks old ms c) → IsContentTrimmed old ms c → IsContentTrimmed new ms c
     trimmed_of (content.Group table) held keeps was = tt
-    trimmed_of content.Array held keeps was = λ chunked. trimmed-same old new grown (array_told ms) held.1 keeps (array_told ms).sizes (was chunked)
+    trimmed_of content.Array held keeps was = λ chunked. trimmed-same old new grown (same_chunk new old k) (array_told ms) held.1 keeps (array_told ms).sizes (was chunked)
 
     pub kept-same : IsObjectKept new o
     kept-same = record {

@@ -22,6 +22,7 @@ pub mod WholeLaws
 pub mod DepthLaws
 pub mod OpenedLaws
 pub mod KeptFrames
+pub mod SuperblockKept
 pub mod InPlaceLaws
 pub mod OpenedStep
 pub mod ToldObject

@@ -7,13 +7,13 @@ use Rattle.std.specs.Ordering.{nat_cmp}
 use Rattle.std.specs.BTreeMap.{BTreeMap}
 use Rattle.std.specs.FinMap.{FinMap, get, insert}
 use Rattle.std.specs.List.{flat_map}
-use Rattle.h5_bytes.specs.Blocks.{block, cover}
+use Rattle.h5_bytes.specs.Blocks.{cover}
 use Rattle.h5_bytes.proofs.BlockLaws.{cover-append}
 use Rattle.h5_model.specs.Edits.Applied.{with_links}
 use Rattle.h5_model.specs.Edits.Refusal.{has_zero}
 use Rattle.h5_model.specs.Format.Addresses.{SymbolTable}
 use Rattle.h5_model.specs.Format.Messages.{prefix_at, reference_count}
-use Rattle.h5_model.specs.Format.Superblock.{AreK, leaf_k, internal_k, end_of_file, end_field}
+use Rattle.h5_model.specs.Format.Superblock.{AreK, leaf_k, internal_k, k_values, end_of_file, end_field, superblock_length}
 use Rattle.h5_model.specs.Format.Symbols.{Target, Header, Text}
 use Rattle.h5_model.specs.Tree.Objects.{Tree, Object, Link, Soft, link_in, with_object}
 use Rattle.h5_model.specs.Tree.Paths.{is_name}
@@ -35,15 +35,16 @@ use Rattle.h5_open.specs.Opened.Kept.{IsContentKept, IsOpened}
 use Rattle.h5_open.specs.Opened.Objects.{content_blocks, header_of, link_to, object_blocks, objects_of, table_of, tree_of}
 use Rattle.h5_open.specs.Opened.Sound.{IsObjectOf}
 use Rattle.h5_open.specs.Opened.State.{opened_state}
+use Rattle.h5_open.proofs.GroupLinked.{IsGroupLinked}
+use Rattle.h5_open.proofs.HardLinkAdded.{kinds_differ}
 use Rattle.h5_open.proofs.LinkSlots.{count_few}
 use Rattle.h5_open.proofs.OneRemade.{one_cover}
 use Rattle.h5_open.proofs.OpenedLaws.Entries.{get_link, names_ascend}
 use Rattle.h5_open.proofs.OpenedLaws.Sounds.{object_of}
-use Rattle.h5_open.proofs.GroupLinked.{IsGroupLinked}
-use Rattle.h5_open.proofs.HardLinkAdded.{kinds_differ}
 use Rattle.h5_open.proofs.RelinkedTree.{group_there}
+use Rattle.h5_open.proofs.SuperblockKept.{superblock_in}
 use Rattle.h5_open.proofs.TargetCounted.{IsTargetCounted, marked_moves, two_cover}
-use Rattle.h5_open.proofs.TargetStands.{still_counted, still_standing}
+use Rattle.h5_open.proofs.TargetStands.{marked_field, still_counted, still_standing}
 use Rattle.h5_open.proofs.TouchedBlocks.{group_blocks}
 
 module _ (old : Space) (slots : List (Option OpenedObject)) (numbers : BTreeMap ℕ ℕ) (opened : IsOpened old slots numbers) (parent : ℕ) (p : OpenedObject) (t : SymbolTable)
@@ -65,12 +66,12 @@ module _ (old : Space) (slots : List (Option OpenedObject)) (numbers : BTreeMap 
   pub group_read : IsGroupRead old.bytes t
   group_read = kept_group.2
 
-  pub group_apart : IsApart (block 0 96 ∷ blocks_told old.bytes t) old.free (length old.bytes)
+  pub group_apart : IsApart (superblock_in old.bytes ∷ blocks_told old.bytes t) old.free (length old.bytes)
   group_apart q =
       let same = ap (cover q) (group_blocks old.bytes p t kind) in
       omega (arith, opened.apart q, one_cover q (object_blocks old.bytes) slots parent p at, same, cover-append q p.messages.blocks (blocks_told old.bytes t))
 
-  pub group_long : 96 ≤ length old.bytes
+  pub group_long : superblock_length old.bytes ≤ length old.bytes
   group_long = opened.reads.1.holds.superblock.whole
 
   pub group_k : AreK (leaf_k old.bytes) (internal_k old.bytes)
@@ -121,8 +122,8 @@ module _ (old : Space) (slots : List (Option OpenedObject)) (numbers : BTreeMap 
   -- ---- when it is put
 
   module _ (mid : Space) (name : List ℕ) (target : Target) (front back : List (List ℕ × Target)) (was : links_told old.bytes t ≡ front ++ back)
-      (put : links_told mid.bytes t ≡ front ++ (name, target) ∷ back) (read : IsGroupRead mid.bytes t) (leaf : leaf_k mid.bytes ≡ leaf_k old.bytes)
-      (internal : internal_k mid.bytes ≡ internal_k old.bytes) (moves : Moves old mid (blocks_told old.bytes t) (blocks_told mid.bytes t)) where
+      (put : links_told mid.bytes t ≡ front ++ (name, target) ∷ back) (read : IsGroupRead mid.bytes t) (k : k_values mid.bytes ≡ k_values old.bytes)
+      (moves : Moves old mid (blocks_told old.bytes t) (blocks_told mid.bytes t)) where
     -- a soft link, and then the end of file address
     pub soft_put : (text : List ℕ) → target ≡ Text text → (new : Space) → Moves mid new (end_field mid.bytes ∷ []) (end_field new.bytes ∷ [])
         → end_of_file new.bytes ≡ length new.bytes → length new.bytes ≤ 2 ^ 31 → IsGroupLinked old mid new slots parent p t name target []
@@ -134,8 +135,7 @@ module _ (old : Space) (slots : List (Option OpenedObject)) (numbers : BTreeMap 
       was = was;
       put = put;
       read = read;
-      leaf = leaf;
-      internal = internal;
+      k = k;
       moves = moves;
       later = ended;
       beside = λ q. omega (arith, one_cover q (object_blocks old.bytes) slots parent p at);
@@ -173,10 +173,9 @@ module _ (old : Space) (slots : List (Option OpenedObject)) (numbers : BTreeMap 
         was = was;
         put = put;
         read = read;
-        leaf = leaf;
-        internal = internal;
+        k = k;
         moves = moves;
-        later = marked_moves mid set new o.messages.blocks its.marked its.ended;
+        later = marked_moves mid set new o.messages.blocks (marked_field old slots numbers opened parent p t at kind mid moves number o stands array set its.marked) its.marked its.ended;
         beside = λ q. omega (arith, two q, cover-append q o.messages.blocks (content_blocks old.bytes (messages_in old.bytes o.messages.list) o.content));
         led = λ h is. let same : header_of o ≡ h = let both : Header (header_of o) ≡ Header h = sym hard ∙ is in cc in (number, target_of.header ∙ ap (λ (x : ℕ). Some x) same);
         end = end;

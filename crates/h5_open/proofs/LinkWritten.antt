@@ -10,7 +10,7 @@ use Rattle.h5_model.specs.declared.object_no.ObjectNo.{ObjectNo}
 use Rattle.h5_model.specs.Format.Addresses.{SymbolTable}
 use Rattle.h5_model.specs.Format.Messages.{prefix_at, reference_count}
 use Rattle.h5_model.specs.Format.PlainLength.{link_span}
-use Rattle.h5_model.specs.Format.Superblock.{leaf_k, internal_k, end_of_file, end_field}
+use Rattle.h5_model.specs.Format.Superblock.{k_values, superblock_length, end_of_file, end_field}
 use Rattle.h5_model.specs.Format.Symbols.{Header, Text}
 use Rattle.h5_model.specs.Tree.Links.{tree_target}
 use Rattle.h5_model.specs.Tree.Objects.{link_in, links_of}
@@ -38,6 +38,7 @@ use Rattle.h5_open.proofs.LinkAdded.{soft_changed, soft_opened}
 use Rattle.h5_open.proofs.LinkCalls.{hard_put, name_is_new, name_is_one, soft_put, target_few, target_standing, text_is_plain}
 use Rattle.h5_open.proofs.LinkSlots.{array_slot}
 use Rattle.h5_open.proofs.TargetCounted.{IsTargetCounted}
+use Rattle.h5_open.proofs.TargetStands.{marked_long}
 
 -- one link more is counted in the header of an array
 pub record IsHeaderCounted (mid set : Space) (o : OpenedObject) : Type 0 where
@@ -134,15 +135,20 @@ module _ (old : Space) (slots : List (Option OpenedObject)) (numbers : BTreeMap 
       -- ---- when it is put
 
       module _ (mid : Space) (put : IsLinkPut (target_link (name, lead)) (links_told old.bytes t) (links_told mid.bytes t)) (after : IsGroupApart mid t)
-          (moves : Moves old mid (blocks_told old.bytes t) (blocks_told mid.bytes t)) (leaf : leaf_k mid.bytes ≡ leaf_k old.bytes) (internal : internal_k mid.bytes ≡ internal_k old.bytes) where
+          (moves : Moves old mid (blocks_told old.bytes t) (blocks_told mid.bytes t)) (k : k_values mid.bytes ≡ k_values old.bytes) where
         -- the header of the array still stands, and counts few links
         pub array_standing : (number : ℕ) (o : OpenedObject) → IsArraySlot slots number o → IsStanding mid.bytes o.messages
         array_standing number o at = target_standing old slots numbers opened parent p t slot.1 slot.2 mid name (target_of_leads lead) put.front put.back put.before put.after
-            after.read leaf internal moves number o at.0 at.1
+            after.read k moves number o at.0 at.1
 
         pub array_few : (number : ℕ) (o : OpenedObject) → IsArraySlot slots number o → reference_count (prefix_at mid.bytes (header_of o)) ≤ 65536
         array_few number o at = target_few old slots numbers opened parent p t slot.1 slot.2 mid name (target_of_leads lead) put.front put.back put.before put.after
-            after.read leaf internal moves number o at.0 at.1
+            after.read k moves number o at.0 at.1
+
+        -- the superblock is there where the header is written
+        pub superblock_there : (number : ℕ) (o : OpenedObject) → IsArraySlot slots number o → (set : Space) → Moves mid set o.messages.blocks o.messages.blocks
+            → superblock_length set.bytes ≤ length set.bytes
+        superblock_there number o at set moved = marked_long old slots numbers opened parent p t slot.1 slot.2 mid moves number o at.0 at.1 set moved
 
         module _ (set new : Space) (room : ℕ) (spends : Spends old mid (link_room old.bytes t (texts_span (name, lead))) room)
             (fits : length old.bytes + link_room old.bytes t (texts_span (name, lead)) ≤ 2 ^ 31) (counted : IsCountedAt mid set slots link.to)
@@ -169,7 +175,7 @@ module _ (old : Space) (slots : List (Option OpenedObject)) (numbers : BTreeMap 
               = subst (λ (s : Space). Moves s new (end_field s.bytes ∷ []) (end_field new.bytes ∷ [])) same ended in
               let put_there : links_told mid.bytes t ≡ put.front ++ (name, Text text.now) ∷ put.back
               = put.after ∙ ap (λ (l : Leads). put.front ++ (name, target_of_leads l) ∷ put.back) is in
-              let linked = soft_put old slots numbers opened parent p t slot.1 slot.2 mid name (Text text.now) put.front put.back put.before put_there after.read leaf internal moves
+              let linked = soft_put old slots numbers opened parent p t slot.1 slot.2 mid name (Text text.now) put.front put.back put.before put_there after.read k moves
               text.now refl new written end small in (
                 soft_opened old mid new slots numbers opened parent p t name text.now linked free_here sound,
                 soft_changed old mid new slots numbers opened parent p t name text.now linked free_here sound,
@@ -190,7 +196,7 @@ module _ (old : Space) (slots : List (Option OpenedObject)) (numbers : BTreeMap 
                 marked = of.2.moves;
                 ended = ended;
               } in
-              let linked = hard_put old slots numbers opened parent p t slot.1 slot.2 mid name (Header (header_of o)) put.front put.back put.before put_there after.read leaf internal moves
+              let linked = hard_put old slots numbers opened parent p t slot.1 slot.2 mid name (Header (header_of o)) put.front put.back put.before put_there after.read k moves
               number.0 o array.0 array.1 refl set new its end small in (
                 hard_opened old mid set new slots numbers opened parent p t name number.0 o linked its free_here sound,
                 hard_changed old mid set new slots numbers opened parent p t name number.0 o linked its free_here sound,

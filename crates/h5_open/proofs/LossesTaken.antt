@@ -8,7 +8,7 @@ use Rattle.std.specs.FinMap.{get}
 use Rattle.std.specs.List.{Contains, flat_map}
 use Rattle.h5_bytes.specs.Blocks.{cover}
 use Rattle.h5_bytes.specs.declared.Block.{Block}
-use Rattle.h5_bytes.proofs.BlockLaws.{cover-append, holds-le, holds_join}
+use Rattle.h5_bytes.proofs.BlockLaws.{cover-append, holds-le}
 use Rattle.h5_model.specs.Format.Addresses.{SymbolTable}
 use Rattle.h5_model.specs.Format.Superblock.{end_field}
 use Rattle.h5_model.specs.Tree.Objects.{Tree, Link, Links, hard_links}
@@ -33,6 +33,7 @@ use Rattle.h5_open.proofs.Among.{not_among, once_append, once_distinct}
 use Rattle.h5_open.proofs.HeaderInPlace.{slot_in_tree}
 use Rattle.h5_open.proofs.ListCovers.{covers_append, covers_split, covers_through}
 use Rattle.h5_open.proofs.RelinkedTree.{group_there}
+use Rattle.h5_open.proofs.SuperblockKept.{end_inside}
 use Rattle.h5_open.proofs.TargetCounted.{chosen_cover}
 use Rattle.h5_open.proofs.TargetStands.{still_standing}
 use Rattle.h5_open.proofs.TouchedBlocks.{blocks_of_slot, group_blocks, touched_cover}
@@ -186,8 +187,7 @@ module _ (old : Space) (slots : List (Option OpenedObject)) (numbers : BTreeMap 
     cover-append q headers_less (cells_less ++ (blocks_gone ++ end_field old.bytes ∷ [])),
     cover-append q cells_less (blocks_gone ++ end_field old.bytes ∷ []),
     cover-append q blocks_gone (end_field old.bytes ∷ []),
-    holds_join q 0 40 56,
-    holds_join q 40 8 48,
+    end_inside old.bytes q,
   )
 
   -- ---- after the link was taken

@@ -16,6 +16,7 @@ use Rattle.h5_model.specs.Format.Messages.{Message, HasMessages, first_size, pre
 use Rattle.h5_model.specs.Format.Reads.{HasAttributes}
 use Rattle.h5_model.specs.Format.Symbols.{Target, Header}
 use Rattle.h5_model.specs.Tree.Objects.{Content, Group, Links, Object}
+use Rattle.h5_model.proofs.KLaws.{same_internal, same_leaf}
 use Rattle.h5_space.specs.Space.{Space}
 use Rattle.h5_header.specs.Heads.{is_read}
 use Rattle.h5_header.specs.Laid.{IsHeaderBytes}
@@ -36,7 +37,7 @@ use Rattle.h5_open.specs.Opened.Kept.{IsContentKept, IsContentTrimmed, IsObjectK
 use Rattle.h5_open.specs.Opened.Objects.{content_blocks, content_in, content_links, header_of, links_by, object_blocks, object_in, table_of}
 use Rattle.h5_open.specs.Opened.Sound.{IsHeaderIn}
 use Rattle.h5_open.specs.Opened.State.{opened_state}
-use Rattle.h5_open.proofs.GroupWritten.{written_internal, written_leaf}
+use Rattle.h5_open.proofs.GroupWritten.{written_k}
 use Rattle.h5_open.proofs.ObjectBlock.{block_inside, bytes_there, header_there, place_is_new, put_block, put_written}
 use Rattle.h5_open.proofs.ObjectPut.{IsObjectPut}
 use Rattle.h5_open.proofs.StillTold.{types_said}
@@ -89,10 +90,9 @@ module _ (old taken linked new : Space) (slots : List (Option OpenedObject)) (nu
   content_made : IsContentMade new.bytes ms (content_of b.content) (at + head) (at + long) object.content
   content_made =
       let written = put_written old taken linked new slots numbers opened parent p o t name at b is in
-      let leaf = written_leaf old linked new slots numbers opened parent p t (put_block at b) [] written in
-      let internal = written_internal old linked new slots numbers opened parent p t (put_block at b) [] written in
+      let k = written_k old linked new slots numbers opened parent p t (put_block at b) [] written in
       subst (λ (k : ℕ). IsContentMade new.bytes ms (content_of b.content) (k + head) (k + long) object.content) (sym place)
-      (to_be.content new.bytes leaf internal
+      (to_be.content new.bytes (same_leaf new.bytes old.bytes k) (same_internal new.bytes old.bytes k)
       (subst (λ (k : ℕ). part k long new.bytes ≡ object_bytes b) place (bytes_there old taken linked new slots numbers opened parent p o t name at b is)))
 
   -- ---- where it stands

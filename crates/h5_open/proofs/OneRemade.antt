@@ -9,10 +9,9 @@ use Rattle.std.specs.FinMap.{FinMap, get, insert, same_map, nat_cmp-IsAntisymmet
 use Rattle.std.specs.List.{Contains, flat_map}
 use Rattle.std.proofs.lemmas.Bool.Decides.{nat_tests}
 use Rattle.std.proofs.lemmas.Option.{same_Some}
-use Rattle.h5_bytes.specs.Blocks.{cover, Keeps}
+use Rattle.h5_bytes.specs.Blocks.{cover}
 use Rattle.h5_bytes.specs.declared.Block.{Block}
-use Rattle.h5_bytes.proofs.BlockLaws.{cover-append, holds-inner}
-use Rattle.h5_bytes.proofs.FieldLaws.{number_at-same}
+use Rattle.h5_bytes.proofs.BlockLaws.{cover-append}
 use Rattle.h5_model.specs.Format.Messages.{Message, prefix_at, reference_count}
 use Rattle.h5_model.specs.Format.Reads.{IsCounted}
 use Rattle.h5_model.specs.Format.Symbols.{Header}
@@ -22,7 +21,7 @@ use Rattle.h5_header.specs.Listed.{messages_in}
 use Rattle.h5_group.specs.Told.{links_told}
 use Rattle.h5_space.specs.Space.{Space}
 use Rattle.h5_space.specs.Moves.{Moves}
-use Rattle.h5_space.proofs.MovesLaws.{moves_kept, moves_same}
+use Rattle.h5_space.proofs.MovesLaws.{moves_same}
 use Rattle.h5_laws.specs.Trees.Sound.{IsSoundTree}
 use Rattle.h5_laws.proofs.Lists.{In, in_all, in_contains}
 use Rattle.h5_laws.proofs.SoundLaws.Alike.{IsAlike, alike_links, sound_alike}
@@ -37,6 +36,7 @@ use Rattle.h5_open.specs.Opened.Objects.{content_in, content_links, header_of, l
 use Rattle.h5_open.specs.Opened.Sound.{IsHeaderIn, IsObjectOf}
 use Rattle.h5_open.specs.Opened.State.{opened_state}
 use Rattle.h5_open.specs.SlotsInPlace.{AreLinksKept, IsOneRemade, IsSlotsInPlace, IsTouchedObject, chosen_slots, slot_blocks}
+use Rattle.h5_open.proofs.EndKept.{end_kept, field_kept}
 use Rattle.h5_open.proofs.OpenedLaws.Entries.{get_table}
 use Rattle.h5_open.proofs.OpenedLaws.LinkedHeaders.{linked_header}
 use Rattle.h5_open.proofs.OpenedLaws.Sounds.{object_of, sound}
@@ -265,10 +265,8 @@ one_cover q f (Some x ∷ slots) (suc k) o at = omega (arith, one_cover q f slot
 
 module _ (old new : Space) (slots : List (Option OpenedObject)) (numbers : BTreeMap ℕ ℕ) (opened : IsOpened old slots numbers) (number : ℕ) (p : OpenedObject) (at : slice_get slots number ≡ Some (Some p))
     (own : List Block) (among : (q : ℕ) → cover q own ≤ cover q (object_blocks old.bytes p)) (moves : Moves old new own own) (long : length new.bytes ≡ length old.bytes) where
-  end_kept : Keeps old.bytes new.bytes (end_field old.bytes ∷ [])
-  end_kept = moves_kept old new own own (end_field old.bytes ∷ []) moves
-      (λ q. omega (arith, opened.apart q, among q, one_cover q (object_blocks old.bytes) slots number p at, cover-append q own (end_field old.bytes ∷ []), holds-inner q 40 8 0 96 (omega arith) (omega arith)))
-      (omega (arith, opened.reads.1.holds.superblock.whole), tt)
+  among_all : (q : ℕ) → cover q own ≤ cover q (flat_map (object_blocks old.bytes) (objects_of slots))
+  among_all q = omega (arith, among q, one_cover q (object_blocks old.bytes) slots number p at)
 
   pub written_remade : IsObjectKept new.bytes p → AreLinksKept old.bytes new.bytes p.content p.content
       → reference_count (prefix_at new.bytes (header_of p)) ≡ reference_count (prefix_at old.bytes (header_of p)) → object_blocks new.bytes p ≡ object_blocks old.bytes p
@@ -283,7 +281,8 @@ module _ (old new : Space) (slots : List (Option OpenedObject)) (numbers : BTree
     links = links;
     counted = counted;
     moves = wide_moves old new own (end_field old.bytes ∷ object_blocks old.bytes p) (end_field new.bytes ∷ object_blocks new.bytes p) (λ q. omega (arith, among q))
-        (λ q. ap (λ (bs : List Block). cover q (end_field new.bytes ∷ bs)) blocks) moves;
-    end = number_at-same old.bytes new.bytes 40 8 0 8 end_kept.0 (omega arith) ∙ opened.reads.1.holds.whole ∙ sym long;
+        (λ q. ap (λ (bs : List Block). cover q (end_field new.bytes ∷ bs)) blocks
+        ∙ ap (λ (b : Block). cover q (b ∷ object_blocks old.bytes p)) (field_kept old slots numbers opened new own own moves among_all)) moves;
+    end = end_kept old slots numbers opened new own own moves among_all long;
     small = omega (arith, long, opened.reads.1.holds.whole, opened.reads.1.holds.superblock.small);
   }

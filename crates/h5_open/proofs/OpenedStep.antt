@@ -13,7 +13,7 @@ use Rattle.h5_bytes.specs.Bytes.{byte_at}
 use Rattle.h5_bytes.specs.Blocks.{cover, Keeps}
 use Rattle.h5_bytes.specs.declared.Block.{Block}
 use Rattle.h5_model.specs.Format.Reads.{Placed, IsPlaced, Reads, ReadsAs, HasObject, all_blocks}
-use Rattle.h5_model.specs.Format.Superblock.{leaf_k, internal_k, end_field}
+use Rattle.h5_model.specs.Format.Superblock.{k_values, end_field}
 use Rattle.h5_model.specs.Tree.Objects.{Tree}
 use Rattle.h5_space.specs.Space.{Space}
 use Rattle.h5_space.specs.Whole.{IsApart}
@@ -30,7 +30,7 @@ use Rattle.h5_open.specs.Opened.Kept.{IsIndex, IsOpened, IsObjectKept}
 use Rattle.h5_open.specs.Opened.Objects.{header_of, objects_of, object_blocks, object_in, table_of, tree_of}
 use Rattle.h5_open.specs.Opened.Sound.{IsSound, IsWholeFile}
 use Rattle.h5_open.specs.Opened.State.{opened_state}
-use Rattle.h5_open.proofs.InPlaceLaws.{in_others, in_place_apart, in_place_local, in_place_reads, in_place_whole, internal_stays, keeps, leaf_stays}
+use Rattle.h5_open.proofs.InPlaceLaws.{in_others, in_place_apart, in_place_local, in_place_reads, in_place_whole, k_stays, keeps}
 use Rattle.h5_open.proofs.KeptFrames.{kept-same}
 use Rattle.h5_open.proofs.OpenedLaws.Entries.{get_table, slot_of}
 use Rattle.h5_open.proofs.OpenedLaws.ReadBlocks.{blocks_kept, opened_all}
@@ -120,11 +120,8 @@ module _ (old new : Space) (slots slots' : List (Option OpenedObject)) (numbers 
       subst (Keeps old.bytes new.bytes) (sym blocks)
       (kept_each old.bytes new.bytes (other_objects touched placed) x.0 stays.1.1 (in_others touched x.0 placed x.1 (ap touched x.2 ∙ not_touched)))
 
-  leaf_same : leaf_k new.bytes ≡ leaf_k old.bytes
-  leaf_same = leaf_stays old new table table' tree tree' placed placed' touched reads apart_was is
-
-  internal_same : internal_k new.bytes ≡ internal_k old.bytes
-  internal_same = internal_stays old new table table' tree tree' placed placed' touched reads apart_was is
+  k_same : k_values new.bytes ≡ k_values old.bytes
+  k_same = k_stays old new table table' tree tree' placed placed' touched reads apart_was is
 
   -- what is kept of an object stands in the new image
   slot_kept : (n : ℕ) (o : OpenedObject) → slice_get slots' n ≡ Some (Some o) → IsObjectKept new.bytes o
@@ -133,7 +130,7 @@ module _ (old new : Space) (slots slots' : List (Option OpenedObject)) (numbers 
     go true is_touched = kept n o is_touched at
     go false not_touched =
         let was = slot_same slots slots' n o (moved.same n not_touched) at in
-        kept-same old.bytes new.bytes leaf_same internal_same is.moves.grown o (object_of old slots numbers opened n o was).kept (bytes_stay n o not_touched was)
+        kept-same old.bytes new.bytes k_same is.moves.grown o (object_of old slots numbers opened n o was).kept (bytes_stay n o not_touched was)
 
   each : AllByRecursion (IsObjectKept new.bytes) (objects_of slots')
   each = all_in (IsObjectKept new.bytes) (objects_of slots') (λ o member.
@@ -201,9 +198,7 @@ changed_step old new slots slots' numbers numbers' opened tree' placed' touched 
   state = (tree_now old new slots slots' numbers numbers' opened tree' placed' (is_among touched) is good moved kept index, refl);
   sound = sound_now old new slots slots' numbers numbers' opened tree' placed' (is_among touched) is good moved kept index;
   whole = whole_now old new slots slots' numbers numbers' opened tree' placed' (is_among touched) is good moved kept index;
-  leaf = leaf_same old new slots slots' numbers numbers' opened tree' placed' (is_among touched) is good moved kept index;
-  internal = internal_same old new slots slots' numbers numbers' opened tree' placed' (is_among touched) is good moved kept index;
-  chunk = refl;
+  k = k_same old new slots slots' numbers numbers' opened tree' placed' (is_among touched) is good moved kept index;
   headers = headers_stay slots slots' (is_among touched) moved;
   given = given_stays slots slots' (is_among touched) moved;
   more = moved.more;

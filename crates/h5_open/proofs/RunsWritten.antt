@@ -107,8 +107,7 @@ none_written f number place sound = record {
   changed = ap (λ (t : Tree). record f { tree = t }) (sym (unchanged f.tree number (with_dataset (with_run place [])) (no_run place)));
   in_place = subst (λ (t : Tree). IsChangedInPlace f f t f.next (number ∷ []) 0) (sym (unchanged f.tree number (with_dataset (with_run place [])) (no_run place)))
       (none_changed f (number ∷ []) sound);
-  leaf = refl;
-  internal = refl;
+  k = refl;
   whole = λ whole. whole;
   stored = λ p stored. stored;
   local = λ a there. record { long = refl; kept = λ p none. refl };
@@ -151,8 +150,7 @@ module _ (f g : FileState) (number place : ℕ) (vs : List ℤ) (first : AreCell
         (ap (λ (t : Tree). with_object t number (with_dataset (with_run (place + length vs) ws))) tree_then ∙ tree_both ws)
         (subst (λ (n : ℕ). IsChangedInPlace f h (with_object g.tree number (with_dataset (with_run (place + length vs) ws))) n (number ∷ []) 0)
         (ap (λ (s : FileState). s.next) first.changed) then);
-    leaf = next.leaf ∙ first.leaf;
-    internal = next.internal ∙ first.internal;
+    k = next.k ∙ first.k;
     whole = λ whole. next.whole (first.whole whole);
     stored = λ p stored. next.stored p (first.stored p stored);
     local = λ a there.

@@ -41,7 +41,7 @@ use Rattle.h5_open.specs.Opened.Objects.{content_in, table_of}
 use Rattle.h5_open.specs.Opened.State.{FileState, opened_state}
 use Rattle.h5_open.specs.Written.{with_run, AreCellsWritten, IsArrayThere, IsKeptOutside, IsStoredRun}
 use Rattle.h5_open.proofs.TrimmedWritten.{written_trimmed}
-use Rattle.h5_open.proofs.ArrayOpened.{array_changed, array_content, data_once, header_kept, its_blocks, kept_array, ms, of, same_messages, slot_there, still_opened}
+use Rattle.h5_open.proofs.ArrayOpened.{array_changed, array_content, data_once, header_kept, its_blocks, kept_array, ms, of, same_messages, slot_there, still_opened, superblock_whole}
 
 module _ (image : Space) (slots : List (Option OpenedObject)) (numbers : BTreeMap ℕ ℕ) (opened : IsOpened image slots numbers) (number : ℕ) (p : OpenedObject)
     (stands : slice_get slots number ≡ Some (Some p)) where
@@ -156,7 +156,7 @@ module _ (old : Space) (slots : List (Option OpenedObject)) (numbers : BTreeMap 
 
     pub first_inside : at + length first * it.fixed.size ≤ length old.bytes
     first_inside = stored_inside old.bytes it (list old slots numbers opened number p stands) (array_content old slots numbers opened number p stands kind).0.array fixed
-        (array_content old slots numbers opened number p stands kind).1 (data_once old slots numbers opened number p stands kind) place at first first_some first_stand first_room
+        (array_content old slots numbers opened number p stands kind).1 (data_once old slots numbers opened number p stands kind) (superblock_whole old slots numbers opened number p stands kind) place at first first_some first_stand first_room
 
     -- what it gives
     module _ (new : Space) (wrote : new ≡ with_bytes_at old at (cells_bytes it.fixed first)) where
@@ -177,14 +177,15 @@ module _ (old : Space) (slots : List (Option OpenedObject)) (numbers : BTreeMap 
           let has = (array_content old slots numbers opened number p stands kind).0.array in
           let read = (array_content old slots numbers opened number p stands kind).1 in
           let once = data_once old slots numbers opened number p stands kind in
-          let long = stored_long old.bytes it messages has fixed read once place at first first_some first_stand first_room first_of_type new.bytes bytes_are in
-          let now = stored_read old.bytes it messages has fixed read once place at first first_some first_stand first_room first_of_type new.bytes bytes_are in
-          let blocks = stored_blocks_stay old.bytes it messages has fixed read once place at first first_some first_stand first_room first_of_type new.bytes bytes_are in
-          let chunks = stored_chunks_stay old.bytes it messages has fixed read once place at first first_some first_stand first_room first_of_type new.bytes bytes_are in
-          let changed = stored_told old.bytes it messages has fixed read once place at first first_some first_stand first_room first_of_type new.bytes bytes_are in
-          let fit = stored_fit old.bytes it messages has fixed read once place at first first_some first_stand first_room in
-          let trimmed = written_trimmed old.bytes it messages has fixed read once place at first first_stand first_room fit new.bytes bytes_are chunks in
-          let covered = stored_covered old.bytes it messages has fixed read once place at first first_some first_stand first_room in
+          let whole = superblock_whole old slots numbers opened number p stands kind in
+          let long = stored_long old.bytes it messages has fixed read once whole place at first first_some first_stand first_room first_of_type new.bytes bytes_are in
+          let now = stored_read old.bytes it messages has fixed read once whole place at first first_some first_stand first_room first_of_type new.bytes bytes_are in
+          let blocks = stored_blocks_stay old.bytes it messages has fixed read once whole place at first first_some first_stand first_room first_of_type new.bytes bytes_are in
+          let chunks = stored_chunks_stay old.bytes it messages has fixed read once whole place at first first_some first_stand first_room first_of_type new.bytes bytes_are in
+          let changed = stored_told old.bytes it messages has fixed read once whole place at first first_some first_stand first_room first_of_type new.bytes bytes_are in
+          let fit = stored_fit old.bytes it messages has fixed read once whole place at first first_some first_stand first_room in
+          let trimmed = written_trimmed old.bytes it messages has fixed read (λ q. omega (arith, once q)) place at first first_stand first_room fit new.bytes bytes_are chunks in
+          let covered = stored_covered old.bytes it messages has fixed read once whole place at first first_some first_stand first_room in
           let moves : Moves old new (its_blocks old slots numbers opened number p stands kind) (its_blocks old slots numbers opened number p stands kind)
           = moves_within old new at (cells_bytes it.fixed first) (its_blocks old slots numbers opened number p stands kind) fit bytes_are free_is covered in
           let still = still_opened old slots numbers opened number p stands kind new moves long now blocks trimmed (with_run place first) changed in
@@ -196,8 +197,7 @@ module _ (old : Space) (slots : List (Option OpenedObject)) (numbers : BTreeMap 
             opened_now = still;
             written = record {
               changed = λ i. record (opened_state old slots) { image = new.bytes; free = free_is i; tree = all.state.0 i };
-              leaf = all.leaf;
-              internal = all.internal;
+              k = all.k;
               whole = all.whole;
               in_place = all;
               stored = λ q was b its.
@@ -207,7 +207,7 @@ module _ (old : Space) (slots : List (Option OpenedObject)) (numbers : BTreeMap 
               local = λ a there.
                   subst (λ (x : Described). IsKeptOutside old.bytes new.bytes (cell_blocks old.bytes x there.blocks)) (sym (array_is old slots numbers opened number p stands a there))
                   (kept_outside old.bytes new.bytes at (cells_bytes it.fixed first) (cell_blocks old.bytes it there.blocks) fit bytes_are
-                  (stored_among old.bytes it messages has fixed read once place at first first_some first_stand first_room there.blocks));
+                  (stored_among old.bytes it messages has fixed read once whole place at first first_some first_stand first_room there.blocks));
               again = λ a there.
                   let is = array_is old slots numbers opened number p stands a there in
                   let header_there : Keeps old.bytes new.bytes there.blocks = subst (Keeps old.bytes new.bytes) (sym (blocks_are old slots numbers opened number p stands a there)) header in
@@ -236,5 +236,6 @@ module _ (old : Space) (slots : List (Option OpenedObject)) (numbers : BTreeMap 
           let has = (array_content old slots numbers opened number p stands kind).0.array in
           let read = (array_content old slots numbers opened number p stands kind).1 in
           let once = data_once old slots numbers opened number p stands kind in
+          let whole = superblock_whole old slots numbers opened number p stands kind in
           subst (λ (a : Described). ArePlacesOf new.bytes p.messages.list a places) (sym first_written.described)
-          (stored_places old.bytes it messages has fixed read once place at first first_some first_stand first_room first_of_type new.bytes bytes_are p.messages.list places was)
+          (stored_places old.bytes it messages has fixed read once whole place at first first_some first_stand first_room first_of_type new.bytes bytes_are p.messages.list places was)

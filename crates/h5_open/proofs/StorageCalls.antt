@@ -4,7 +4,7 @@ use Rattle.std.specs.Prelude.{slice_get}
 use Rattle.std.specs.BTreeMap.{BTreeMap}
 use Rattle.std.specs.List.{Contains}
 use Rattle.h5_model.specs.Edits.Applied.{with_dataset}
-use Rattle.h5_model.specs.Format.Superblock.{end_of_file, end_field}
+use Rattle.h5_model.specs.Format.Superblock.{end_of_file, end_field, superblock_length}
 use Rattle.h5_model.specs.Tree.Objects.{with_object}
 use Rattle.h5_model.specs.Views.Selection.{Slab, selection_of}
 use Rattle.h5_space.specs.Moves.{Moves}
@@ -81,11 +81,8 @@ module _ (image : Space) (slots : List (Option OpenedObject)) (numbers : BTreeMa
     -- the superblock is there still
     pub superblock_there : (mid : Space)
         → ((slab : Slab) → IsMissing image.bytes (described_in image.bytes p.messages) slab missing → IsStorageMade image mid p.messages slab missing)
-        → 48 ≤ length mid.bytes
-    superblock_there mid made =
-        let whole : 96 ≤ length image.bytes = opened.reads.1.holds.superblock.whole in
-        let grown = (made missing_here.0 missing_here.1).moved.moves.grown in
-        omega (arith, whole, grown)
+        → superblock_length mid.bytes ≤ length mid.bytes
+    superblock_there mid made = (made missing_here.0 missing_here.1).moved.stand.long
 
     module _ (mid new : Space)
         (made : (slab : Slab) → IsMissing image.bytes (described_in image.bytes p.messages) slab missing → IsStorageMade image mid p.messages slab missing)

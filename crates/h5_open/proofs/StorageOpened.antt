@@ -13,6 +13,7 @@ use Rattle.h5_model.specs.Format.Superblock.{end_of_file, end_field}
 use Rattle.h5_model.specs.Tree.Objects.{Chunked, Compact, Contiguous, Dataset, Storage, with_object}
 use Rattle.h5_model.specs.Tree.Places.{index_of}
 use Rattle.h5_model.specs.Views.Selection.{Slab, selection_of}
+use Rattle.h5_model.proofs.KLaws.{same_chunk}
 use Rattle.h5_space.specs.Moves.{Moves}
 use Rattle.h5_space.specs.Space.{Space}
 use Rattle.h5_header.specs.Listed.{messages_in}
@@ -31,10 +32,10 @@ use Rattle.h5_open.specs.Opened.Kept.{IsContentTrimmed, IsOpened}
 use Rattle.h5_open.specs.Opened.Objects.{tree_of}
 use Rattle.h5_open.specs.Opened.State.{opened_state}
 use Rattle.h5_open.specs.Written.{IsCellStored}
+use Rattle.h5_open.proofs.ArrayEdited.{IsArrayEdited, edited_changed, edited_data_stays, edited_k_stays, edited_list_stays, edited_opened}
 use Rattle.h5_open.proofs.DataLaws.{stored_chunks-same}
 use Rattle.h5_open.proofs.OpenedLaws.Sounds.{object_of}
 use Rattle.h5_open.proofs.StandingOpened.{array_is}
-use Rattle.h5_open.proofs.ArrayEdited.{IsArrayEdited, edited_changed, edited_data_stays, edited_list_stays, edited_opened}
 
 -- ---- cells that are stored
 
@@ -120,12 +121,13 @@ module _ (old : Space) (slots : List (Option OpenedObject)) (numbers : BTreeMap 
     pub storage_stored : (place : ℕ) → Contains (selection_of (array_told ms).sizes slab) place → IsCellStored (opened_state new slots) number place
     storage_stored place chosen b there =
         let data_stays = edited_data_stays old slots numbers opened number p at kind mid new slots p stored_all edited in
+        let k_stays = edited_k_stays old slots numbers opened number p at kind mid new slots p stored_all edited in
         let list_stays = edited_list_stays old slots numbers opened number p at kind mid new slots p stored_all edited in
         let sizes_are : (array_told mid_ms).sizes ≡ (array_told ms).sizes = ap (λ (a : Described). a.sizes) made.told in
         let stored_mid = all_stored mid.bytes (array_told mid_ms) slab made.stored place
         (subst (λ (sizes : List ℕ). Contains (selection_of sizes slab) place) (sym sizes_are) chosen) in
         let chunks_are : stored_chunks new.bytes (type_told mid_ms) (layout_told mid_ms) ≡ stored_chunks mid.bytes (type_told mid_ms) (layout_told mid_ms)
-        = stored_chunks-same mid.bytes new.bytes ended.grown (type_told mid_ms) (layout_told mid_ms) made.moved.stand.read data_stays in
+        = stored_chunks-same mid.bytes new.bytes ended.grown (same_chunk new.bytes mid.bytes k_stays) (type_told mid_ms) (layout_told mid_ms) made.moved.stand.read data_stays in
         let is : b ≡ array_told mid_ms = array_is new slots numbers storage_opened number p at b there ∙ ap array_told list_stays in
         ap (λ (a : Described). is_stored_cell new.bytes a place) is
         ∙ ap (λ (c : Chunks). is_stored_in (layout_told mid_ms) c (index_of (array_told mid_ms).sizes place)) chunks_are

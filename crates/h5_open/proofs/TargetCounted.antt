@@ -1,18 +1,19 @@
 -- An array of an opened image to which one link more leads, or one less: its header counts them, and all else of it stays.
-use Rattle.std.proofs.Common.{◌≡◌, ℕ, ◌+◌, ◌≤◌, ◌==◌, true, false, Bool, List, [], ◌∷◌, ◌++◌, length, refl, ap, ◌∙◌, arith, Option, Some, None}
+use Rattle.std.proofs.Common.{◌≡◌, ℕ, ◌+◌, ◌≤◌, ◌==◌, true, false, Bool, List, [], ◌∷◌, ◌++◌, length, refl, sym, ap, ◌∙◌, subst, arith, Option, Some, None}
 use Rattle.std.specs.Prelude.{slice_get, ◌||◌}
 use Rattle.std.specs.Ordering.{nat_cmp}
 use Rattle.std.specs.BTreeMap.{BTreeMap}
 use Rattle.std.specs.FinMap.{FinMap}
 use Rattle.std.specs.List.{flat_map}
 use Rattle.std.proofs.lemmas.Bool.Decides.{nat_tests}
-use Rattle.h5_bytes.specs.Blocks.{cover, Keeps}
+use Rattle.h5_bytes.specs.Blocks.{block, cover, Keeps}
 use Rattle.h5_bytes.specs.declared.Block.{Block}
-use Rattle.h5_bytes.proofs.BlockLaws.{cover-append, holds_join}
+use Rattle.h5_bytes.proofs.BlockLaws.{cover-append}
 use Rattle.h5_model.specs.Format.Addresses.{SymbolTable}
 use Rattle.h5_model.specs.Format.Messages.{Message, prefix_at, reference_count}
-use Rattle.h5_model.specs.Format.Superblock.{end_field}
+use Rattle.h5_model.specs.Format.Superblock.{end_field, k_values, superblock_length}
 use Rattle.h5_model.specs.Tree.Objects.{Links}
+use Rattle.h5_model.proofs.KLaws.{same_length}
 use Rattle.h5_space.specs.Moves.{Moves}
 use Rattle.h5_space.specs.Space.{Space}
 use Rattle.h5_space.specs.Whole.{IsApart}
@@ -29,9 +30,10 @@ use Rattle.h5_open.specs.Opened.Kept.{IsObjectKept, IsOpened}
 use Rattle.h5_open.specs.Opened.Objects.{header_of, object_blocks, object_in, objects_of}
 use Rattle.h5_open.specs.SlotsInPlace.{blocks_at, chosen_slots}
 use Rattle.h5_open.proofs.ArrayStays.{array_blocks, array_data, array_kept, array_parts, array_same, data_of}
-use Rattle.h5_open.proofs.GroupRelinked.{IsGroupRelinked, both_moves, linked_grown}
+use Rattle.h5_open.proofs.GroupRelinked.{IsGroupRelinked, both_moves, linked_grown, linked_k}
 use Rattle.h5_open.proofs.HeaderInPlace.{header_standing}
 use Rattle.h5_open.proofs.OpenedLaws.Sounds.{object_of}
+use Rattle.h5_open.proofs.SuperblockKept.{apart_left, end_inside, superblock_in}
 use Rattle.h5_open.proofs.TouchedBlocks.{blocks_of_slot, group_blocks, touched_cover}
 
 -- ---- two objects
@@ -105,14 +107,14 @@ recounted mid set new slots number o is = record {
 }
 
 -- what is written is the header and the end of file address
-pub marked_moves : (mid set new : Space) (header : List Block) → Moves mid set header header → Moves set new (end_field set.bytes ∷ []) (end_field new.bytes ∷ [])
+pub marked_moves : (mid set new : Space) (header : List Block) → end_field set.bytes ≡ end_field mid.bytes → Moves mid set header header → Moves set new (end_field set.bytes ∷ []) (end_field new.bytes ∷ [])
     → Moves mid new (end_field mid.bytes ∷ header) (end_field new.bytes ∷ header)
-marked_moves mid set new header marked ended =
+marked_moves mid set new header field marked ended =
     let turned : (q : ℕ) → cover q (end_field mid.bytes ∷ header) ≡ cover q (header ++ end_field mid.bytes ∷ []) = λ q. omega (arith, cover-append q header (end_field mid.bytes ∷ [])) in
     moves_then mid set new (end_field mid.bytes ∷ header) (end_field mid.bytes ∷ header) (end_field new.bytes ∷ header)
     (moves_same mid set (header ++ end_field mid.bytes ∷ []) (header ++ end_field mid.bytes ∷ []) (end_field mid.bytes ∷ header) (end_field mid.bytes ∷ header) turned turned
     (moves_beside mid set header header (end_field mid.bytes ∷ []) marked))
-    (moves_beside set new (end_field set.bytes ∷ []) (end_field new.bytes ∷ []) header ended)
+    (subst (λ (b : Block). Moves set new (b ∷ header) (end_field new.bytes ∷ header)) field (moves_beside set new (end_field set.bytes ∷ []) (end_field new.bytes ∷ []) header ended))
 
 module _ (old mid set new : Space) (slots : List (Option OpenedObject)) (numbers : BTreeMap ℕ ℕ) (opened : IsOpened old slots numbers) (parent : ℕ) (p : OpenedObject) (t : SymbolTable)
     (change : Links → Links) (number : ℕ) (o : OpenedObject) (count : ℕ) (is : IsGroupRelinked old mid new slots parent p t o.messages.blocks change)
@@ -143,7 +145,7 @@ module _ (old mid set new : Space) (slots : List (Option OpenedObject)) (numbers
 
   -- ---- what stays
 
-  apart : IsApart (links ++ ((header ++ cells) ++ end_field old.bytes ∷ [])) old.free (length old.bytes)
+  apart : IsApart (links ++ ((header ++ cells) ++ superblock_in old.bytes ∷ [])) old.free (length old.bytes)
   apart q =
       let two = two_cover old.bytes q slots parent number p o is.group its.target apart_from in
       let first = ap (cover q) group_before in
@@ -155,11 +157,9 @@ module _ (old mid set new : Space) (slots : List (Option OpenedObject)) (numbers
         first,
         second,
         cover-append q p.messages.blocks links,
-        cover-append q links ((header ++ cells) ++ end_field old.bytes ∷ []),
-        cover-append q (header ++ cells) (end_field old.bytes ∷ []),
+        cover-append q links ((header ++ cells) ++ superblock_in old.bytes ∷ []),
+        cover-append q (header ++ cells) (superblock_in old.bytes ∷ []),
         cover-append q header cells,
-        holds_join q 0 40 56,
-        holds_join q 40 8 48,
       )
 
   header_mid : Keeps old.bytes mid.bytes header
@@ -168,29 +168,36 @@ module _ (old mid set new : Space) (slots : List (Option OpenedObject)) (numbers
         arith,
         apart q,
         cover-append q links header,
-        cover-append q links ((header ++ cells) ++ end_field old.bytes ∷ []),
-        cover-append q (header ++ cells) (end_field old.bytes ∷ []),
+        cover-append q links ((header ++ cells) ++ superblock_in old.bytes ∷ []),
+        cover-append q (header ++ cells) (superblock_in old.bytes ∷ []),
         cover-append q header cells,
       ))
       kept.header.inside
 
-  apart_mid : IsApart (blocks_told mid.bytes t ++ (header ++ end_field mid.bytes ∷ [])) mid.free (length mid.bytes)
-  apart_mid = moves_apart old mid links (blocks_told mid.bytes t) (header ++ end_field mid.bytes ∷ []) is.moves
+  apart_links : IsApart (blocks_told mid.bytes t ++ (header ++ superblock_in old.bytes ∷ [])) mid.free (length mid.bytes)
+  apart_links = moves_apart old mid links (blocks_told mid.bytes t) (header ++ superblock_in old.bytes ∷ []) is.moves
       (λ q. omega (
         arith,
         apart q,
-        cover-append q links (header ++ end_field mid.bytes ∷ []),
-        cover-append q header (end_field mid.bytes ∷ []),
-        cover-append q links ((header ++ cells) ++ end_field old.bytes ∷ []),
-        cover-append q (header ++ cells) (end_field old.bytes ∷ []),
+        cover-append q links (header ++ superblock_in old.bytes ∷ []),
+        cover-append q header (superblock_in old.bytes ∷ []),
+        cover-append q links ((header ++ cells) ++ superblock_in old.bytes ∷ []),
+        cover-append q (header ++ cells) (superblock_in old.bytes ∷ []),
         cover-append q header cells,
       ))
 
+  same_size : superblock_length mid.bytes ≡ superblock_length old.bytes
+  same_size = same_length mid.bytes old.bytes is.k
+
+  apart_mid : IsApart (header ++ superblock_in mid.bytes ∷ []) mid.free (length mid.bytes)
+  apart_mid = subst (λ (n : ℕ). IsApart (header ++ block 0 n ∷ []) mid.free (length mid.bytes)) (sym same_size)
+      (λ q. omega (arith, apart_links q, cover-append q (blocks_told mid.bytes t) (header ++ superblock_in old.bytes ∷ [])))
+
   apart_set : IsApart ((end_field set.bytes ∷ []) ++ header) set.free (length set.bytes)
   apart_set q =
-      let was : IsApart (header ++ end_field mid.bytes ∷ []) mid.free (length mid.bytes)
-      = λ r. omega (arith, apart_mid r, cover-append r (blocks_told mid.bytes t) (header ++ end_field mid.bytes ∷ [])) in
-      omega (arith, moves_apart mid set header header (end_field set.bytes ∷ []) its.marked was q, cover-append q header (end_field set.bytes ∷ []))
+      let whole = opened.reads.1.holds.superblock.whole in
+      let long : superblock_length mid.bytes ≤ length mid.bytes = omega (arith, same_size, whole, is.moves.grown) in
+      omega (arith, apart_left mid set header header its.marked long apart_mid q, end_inside set.bytes q, cover-append q header (superblock_in set.bytes ∷ []))
 
   header_new : Keeps set.bytes new.bytes header
   header_new = moves_kept set new (end_field set.bytes ∷ []) (end_field new.bytes ∷ []) header its.ended apart_set its.standing.inside
@@ -198,20 +205,24 @@ module _ (old mid set new : Space) (slots : List (Option OpenedObject)) (numbers
   data_new : Keeps old.bytes new.bytes cells
   data_new =
       let rest : List Block = end_field old.bytes ∷ header in
-      moves_kept old new (links ++ rest) (blocks_told mid.bytes t ++ rest) cells (both_moves old mid new slots numbers opened parent p t header change is)
+      moves_kept old new (links ++ rest) (blocks_told mid.bytes t ++ (end_field new.bytes ∷ header)) cells (both_moves old mid new slots numbers opened parent p t header change is)
       (λ q. omega (
         arith,
         apart q,
         cover-append q (links ++ rest) cells,
         cover-append q links rest,
-        cover-append q links ((header ++ cells) ++ end_field old.bytes ∷ []),
-        cover-append q (header ++ cells) (end_field old.bytes ∷ []),
+        end_inside old.bytes q,
+        cover-append q links ((header ++ cells) ++ superblock_in old.bytes ∷ []),
+        cover-append q (header ++ cells) (superblock_in old.bytes ∷ []),
         cover-append q header cells,
       ))
       (array_data old.bytes o kept its.array)
 
   grown : length old.bytes ≤ length new.bytes
   grown = linked_grown old mid new slots numbers opened parent p t header change is
+
+  k : k_values new.bytes ≡ k_values old.bytes
+  k = linked_k old mid new slots numbers opened parent p t header change is
 
   -- ---- the header
 
@@ -233,13 +244,13 @@ module _ (old mid set new : Space) (slots : List (Option OpenedObject)) (numbers
   -- ---- the object
 
   pub target_kept : IsObjectKept new.bytes o
-  target_kept = array_kept old.bytes o kept its.array new.bytes grown standing_now list_stays data_new
+  target_kept = array_kept old.bytes o kept its.array new.bytes k grown standing_now list_stays data_new
 
   pub target_blocks : object_blocks new.bytes o ≡ object_blocks old.bytes o
-  target_blocks = array_blocks old.bytes o kept its.array new.bytes grown standing_now list_stays data_new
+  target_blocks = array_blocks old.bytes o kept its.array new.bytes k grown standing_now list_stays data_new
 
   pub target_parts : object_blocks old.bytes o ≡ header ++ cells
   target_parts = blocks_before
 
   pub target_same : (table : FinMap nat_cmp ℕ) → object_in new.bytes table o ≡ object_in old.bytes table o
-  target_same = array_same old.bytes o kept its.array new.bytes grown standing_now list_stays data_new
+  target_same = array_same old.bytes o kept its.array new.bytes k grown standing_now list_stays data_new

@@ -32,13 +32,13 @@ trimmed_by old new a sizes chunks cells was = record {
   filled = λ index long out. cells index long out ∙ was.filled index long out;
 }
 
-module _ (old new : List ℕ) (grown : length old ≤ length new) (a : Described) (read : AreDataRead old a.fixed a.layout)
+module _ (old new : List ℕ) (grown : length old ≤ length new) (k : chunk_k new ≡ chunk_k old) (a : Described) (read : AreDataRead old a.fixed a.layout)
     (kept : Keeps old new (data_blocks old a.fixed a.layout)) where
   abbrev before : Chunks
   before = stored_chunks old a.fixed a.layout
 
   chunks_are : stored_chunks new a.fixed a.layout ≡ before
-  chunks_are = stored_chunks-same old new grown a.fixed a.layout read kept
+  chunks_are = stored_chunks-same old new grown k a.fixed a.layout read kept
 
   pub trimmed-same : (sizes : List ℕ) → IsTrimmed old a sizes → IsTrimmed new a sizes
   trimmed-same sizes = trimmed_by old new a sizes chunks_are (λ index long out.

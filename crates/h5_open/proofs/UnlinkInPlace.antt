@@ -14,9 +14,10 @@ use Rattle.h5_bytes.specs.Blocks.{cover, Keeps}
 use Rattle.h5_bytes.specs.declared.Block.{Block}
 use Rattle.h5_bytes.proofs.BlockLaws.{cover-append, holds_none}
 use Rattle.h5_model.specs.Format.Addresses.{SymbolTable}
-use Rattle.h5_model.specs.Format.Superblock.{end_field, end_of_file}
+use Rattle.h5_model.specs.Format.Superblock.{end_field, end_of_file, k_values}
 use Rattle.h5_model.specs.Format.Symbols.{Target, Header, Text}
 use Rattle.h5_model.specs.Tree.Objects.{Tree, Object, Link, Links, ToObject, hard_links, link_in}
+use Rattle.h5_model.proofs.KLaws.{same_end_field}
 use Rattle.h5_space.specs.Moves.{Moves}
 use Rattle.h5_space.specs.Space.{Space}
 use Rattle.h5_space.proofs.MovesLaws.{moves_beside, moves_kept, moves_none, moves_same, moves_then}
@@ -39,7 +40,7 @@ use Rattle.h5_open.specs.Opened.State.{opened_state}
 use Rattle.h5_open.specs.SlotsInPlace.{IsSlotsInPlace, IsTouchedObject, blocks_at}
 use Rattle.h5_open.proofs.Among.{among_in, in_among, none_among}
 use Rattle.h5_open.proofs.ArrayStays.{array_blocks, array_data, array_kept, array_same, data_of}
-use Rattle.h5_open.proofs.EndKept.{end_kept}
+use Rattle.h5_open.proofs.EndKept.{end_kept, k_kept}
 use Rattle.h5_open.proofs.GroupRelinked.{IsGroupRelinked, both_moves, linked_moves, linked_object, relinked_written}
 use Rattle.h5_open.proofs.GroupUnlinked.{unlinked}
 use Rattle.h5_open.proofs.GroupWritten.{links_later, written_object}
@@ -142,16 +143,21 @@ module _ (old : Space) (slots : List (Option OpenedObject)) (numbers : BTreeMap 
   long : length low.bytes ≡ length old.bytes
   long = its.lowered.as_long ∙ taken.as_long
 
+  moved_among : (q : ℕ) → cover q (links ++ headers) ≤ cover q (flat_map (object_blocks old.bytes) (objects_of slots))
+  moved_among q = omega (arith, beside q, group_cover old slots numbers opened parent p t at kind name link gone less held losses left q, cover-append q links headers)
+
   end_now : end_of_file low.bytes ≡ length low.bytes
-  end_now = end_kept old slots numbers opened low (links ++ headers) (blocks_told mid.bytes t ++ headers) moved
-      (λ q. omega (arith, beside q, group_cover old slots numbers opened parent p t at kind name link gone less held losses left q, cover-append q links headers)) long
+  end_now = end_kept old slots numbers opened low (links ++ headers) (blocks_told mid.bytes t ++ headers) moved moved_among long
+
+  k_now : k_values low.bytes ≡ k_values old.bytes
+  k_now = k_kept old slots numbers opened low (links ++ headers) (blocks_told mid.bytes t ++ headers) moved moved_among
 
   short : length low.bytes ≤ 2 ^ 31
   short = omega (arith, long, image_short old slots numbers opened parent p t at kind)
 
   is : IsGroupRelinked old mid low slots parent p t headers change
   is = unlinked old slots numbers opened parent p t at kind name link there mid taken low headers
-      (marked_moves mid low low headers its.lowered.moves (moves_none low (end_field low.bytes ∷ []))) (λ q. omega (arith, beside q)) end_now short
+      (marked_moves mid low low headers (same_end_field low.bytes mid.bytes (k_now ∙ sym taken.k)) its.lowered.moves (moves_none low (end_field low.bytes ∷ []))) (λ q. omega (arith, beside q)) end_now short
 
   -- ---- the tree
 
@@ -306,7 +312,7 @@ module _ (old : Space) (slots : List (Option OpenedObject)) (numbers : BTreeMap 
     data_stay : Keeps old.bytes low.bytes (data_of old.bytes o)
     data_stay =
         let written : List Block = end_field old.bytes ∷ headers in
-        moves_kept old low (links ++ written) (blocks_told mid.bytes t ++ written) (data_of old.bytes o) (both_moves old mid low slots numbers opened parent p t headers change is)
+        moves_kept old low (links ++ written) (blocks_told mid.bytes t ++ (end_field low.bytes ∷ headers)) (data_of old.bytes o) (both_moves old mid low slots numbers opened parent p t headers change is)
         (λ q. omega (
           arith,
           losses_apart old slots numbers opened parent p t at kind name link gone less held losses left q,
@@ -324,10 +330,10 @@ module _ (old : Space) (slots : List (Option OpenedObject)) (numbers : BTreeMap 
     grown = omega (arith, long)
 
     kept_now : IsObjectKept low.bytes o
-    kept_now = array_kept old.bytes o of.kept array low.bytes grown count.standing list_stays data_stay
+    kept_now = array_kept old.bytes o of.kept array low.bytes k_now grown count.standing list_stays data_stay
 
     blocks_now : object_blocks low.bytes o ≡ object_blocks old.bytes o
-    blocks_now = array_blocks old.bytes o of.kept array low.bytes grown count.standing list_stays data_stay
+    blocks_now = array_blocks old.bytes o of.kept array low.bytes k_now grown count.standing list_stays data_stay
 
     -- it has no links that a table would tell
     no_table : object_in old.bytes table' o ≡ object_in old.bytes table o
@@ -360,7 +366,7 @@ module _ (old : Space) (slots : List (Option OpenedObject)) (numbers : BTreeMap 
       kept = kept_now;
       object = object_in low.bytes table' o;
       there = got_less n k mine ∙ of.there
-          ∙ ap (λ (x : Object). Some x) (sym (array_same old.bytes o of.kept array low.bytes grown count.standing list_stays data_stay table' ∙ no_table));
+          ∙ ap (λ (x : Object). Some x) (sym (array_same old.bytes o of.kept array low.bytes k_now grown count.standing list_stays data_stay table' ∙ no_table));
       blocks = object_blocks low.bytes o;
       has = told_object low.bytes table' o kept_now no_links;
       counted = count.count ∙ counted;

@@ -3,7 +3,7 @@ use Rattle.std.proofs.Common.{◌≡◌, inl, inr, ℕ, ◌+◌, ◌≤◌, fals
 use Rattle.std.specs.List.{flat_map}
 use Rattle.h5_bytes.specs.Blocks.{cover, holds, IsKept, Keeps}
 use Rattle.h5_bytes.specs.declared.Block.{Block}
-use Rattle.h5_bytes.proofs.BlockLaws.{cover-append, holds-inner, holds_in}
+use Rattle.h5_bytes.proofs.BlockLaws.{cover-append, holds_in}
 use Rattle.h5_model.specs.Format.Reads.{Placed, ReadsAs}
 use Rattle.h5_model.specs.Tree.Objects.{Tree}
 use Rattle.h5_space.proofs.MovesLaws.{part-same}
@@ -12,6 +12,7 @@ use Rattle.h5_open.specs.ChangedInPlace.{IsChangedInPlace, is_among}
 use Rattle.h5_open.specs.InPlace.{other_objects}
 use Rattle.h5_open.specs.Opened.State.{FileState}
 use Rattle.h5_open.proofs.InPlaceLaws.{cover-split, in_others, others_in}
+use Rattle.h5_open.proofs.SuperblockKept.{end_inside}
 
 cover_block : (p : ℕ) (b : Block) (bs : List Block) → In b bs → holds p b.at b.len ≤ cover p bs
 cover_block p b [] at = absurd at
@@ -40,7 +41,7 @@ module _ (f g : FileState) (t : Tree) (n : ℕ) (touched : List ℕ) (k : ℕ) (
       let other = cover_object p x (other_objects (is_among touched) placed) is_other in
       let once = reads.holds.apart p in
       let split = cover-split (is_among touched) p placed in
-      let field = holds-inner p 40 8 0 96 (omega arith) (omega arith) in
+      let field = end_inside f.image p in
       is.local placed reads p (omega (arith, high, inside)) (omega (arith, here, mine, other, once, split, field)) (omega (arith, here, mine, other, split))))
 
   -- and it is one of the objects that there are now

@@ -1,5 +1,5 @@
 -- The whole walk: it begins at the superblock, and ends when all objects are read.
-use Rattle.std.proofs.Common.{◌≡◌, inl, inr, ℕ, List, [], ◌++◌, length, refl, sym, ◌∙◌, subst, arith}
+use Rattle.std.proofs.Common.{◌≡◌, ◌-◌, inl, inr, ℕ, List, [], ◌++◌, length, refl, sym, ◌∙◌, subst, arith}
 use Rattle.std.proofs.lemmas.Bool.{cases_lt}
 use Rattle.std.specs.Prelude.{Option, Some, None, MatchOption}
 use Rattle.std.specs.List.{AllByRecursion, IsDistinct}
@@ -10,7 +10,7 @@ use Rattle.std.specs.BTreeMap.{BTreeMap, is_at}
 use Rattle.h5_bytes.specs.Blocks.{holds, Separate}
 use Rattle.h5_bytes.specs.declared.Block.{Block}
 use Rattle.h5_bytes.proofs.BlockLaws.{holds_in, cover_past}
-use Rattle.h5_model.specs.Format.Superblock.{IsSuperblock, end_of_file, root_header}
+use Rattle.h5_model.specs.Format.Superblock.{IsSuperblock, end_of_file, root_header, root_header_place, superblock_length}
 use Rattle.h5_model.specs.Format.Reached.{by_superblock}
 use Rattle.h5_model.specs.Format.Reads.{ReadsAs}
 use Rattle.h5_space.specs.Space.{Space}
@@ -42,7 +42,7 @@ none_numbered slots numbers none empty =
     subst (λ (s : List (Option OpenedObject)). IsNumbered s numbers) (sym none) (record { all = refl; index = empty_index numbers empty; distinct = empty_distinct; low = tt })
 
 -- the root's header is met first
-pub root_ready : (image : List ℕ) (held : List Block) → IsSuperblock image → IsWalked image held [] → Separate held → IsReady image held [] [] 64 (root_header image) 0
+pub root_ready : (image : List ℕ) (held : List Block) → IsSuperblock image → IsWalked image held [] → Separate held → IsReady image held [] [] (root_header_place image) (root_header image) 0
 root_ready image held is walked separate = record {
   under = record {
     walked = walked;
@@ -58,19 +58,22 @@ root_ready image held is walked separate = record {
   met = record {
     reached = (let long = is.whole in by_superblock (omega (arith, long)) refl);
     behind = omega arith;
-    stands = (let here : holds 56 0 96 ≡ 1 = holds_in 56 0 96 (omega arith) (omega arith) in omega (arith, here, walked.covered 56));
+    stands = (
+        let before : ℕ = root_header_place image - 8 in
+        let here : holds before 0 (superblock_length image) ≡ 1 = holds_in before 0 (superblock_length image) (omega arith) (omega arith) in
+        omega (arith, here, walked.covered before));
     fresh = tt;
   };
   parent = inl refl;
 }
 
 pub ready_at : (image : List ℕ) (held : List Block) (objects : List OpenedObject) (header : ℕ) → IsSuperblock image → IsWalked image held [] → Separate held → objects ≡ [] → header ≡ root_header image
-    → IsReady image held [] objects 64 header 0
+    → IsReady image held [] objects (root_header_place image) header 0
 ready_at image held objects header is walked separate none at =
-    subst (λ (xs : List OpenedObject). IsReady image held [] xs 64 header 0) (sym none) (subst (λ (h : ℕ). IsReady image held [] [] 64 h 0) (sym at) (root_ready image held is walked separate))
+    subst (λ (xs : List OpenedObject). IsReady image held [] xs (root_header_place image) header 0) (sym none) (subst (λ (h : ℕ). IsReady image held [] [] (root_header_place image) h 0) (sym at) (root_ready image held is walked separate))
 
 whole : (image : List ℕ) (held now : List Block) (objects : List OpenedObject) → IsSuperblock image → end_of_file image ≡ length image
-    → IsTreeRead image held now [] [] objects 64 (root_header image) 0 → IsWholeImage image objects
+    → IsTreeRead image held now [] [] objects (root_header_place image) (root_header image) 0 → IsWholeImage image objects
 whole image held now objects is ends tree =
     let under : IsUnder image now ((tree.further).new ++ []) objects = (tree.further).under in
     record {
@@ -93,10 +96,10 @@ whole image held now objects is ends tree =
     }
 
 pub whole_at : (image : List ℕ) (held now : List Block) (before objects : List OpenedObject) (header : ℕ) → IsSuperblock image → end_of_file image ≡ length image → before ≡ []
-    → header ≡ root_header image → IsTreeRead image held now [] before objects 64 header 0 → IsWholeImage image objects
+    → header ≡ root_header image → IsTreeRead image held now [] before objects (root_header_place image) header 0 → IsWholeImage image objects
 whole_at image held now before objects header is ends none at tree =
     whole image held now objects is ends
-    (subst (λ (xs : List OpenedObject). IsTreeRead image held now [] xs objects 64 (root_header image) 0) none (subst (λ (h : ℕ). IsTreeRead image held now [] before objects 64 h 0) at tree))
+    (subst (λ (xs : List OpenedObject). IsTreeRead image held now [] xs objects (root_header_place image) (root_header image) 0) none (subst (λ (h : ℕ). IsTreeRead image held now [] before objects (root_header_place image) h 0) at tree))
 
 -- the blocks of the objects lie in the image, and share no byte
 whole_apart : (image : List ℕ) (objects : List OpenedObject) → IsWholeImage image objects → IsApart (opened_blocks image objects) [] (length image)

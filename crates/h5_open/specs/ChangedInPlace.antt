@@ -7,7 +7,7 @@ use Rattle.std.specs.FinMap.{get}
 use Rattle.h5_bytes.specs.Bytes.{byte_at}
 use Rattle.h5_bytes.specs.Blocks.{cover}
 use Rattle.h5_model.specs.Format.Reads.{Placed, ReadsAs, all_blocks}
-use Rattle.h5_model.specs.Format.Superblock.{leaf_k, internal_k, chunk_k, end_field}
+use Rattle.h5_model.specs.Format.Superblock.{k_values, end_field}
 use Rattle.h5_model.specs.Tree.Objects.{Tree}
 use Rattle.h5_open.specs.declared.opened.object.OpenedObject.{OpenedObject}
 use Rattle.h5_open.specs.InPlace.{other_objects, touched_blocks}
@@ -21,14 +21,13 @@ is_among numbers n = list_any (λ m. m == n) numbers
 
 -- The file holds this tree now, and so many numbers were given out. Only objects of these numbers were touched: the others have the
 -- headers, the blocks and all that is in them that they had. An object that was there has its header where it was, or is no more; a
--- number that was given out before is given to no other object. The image has grown by no more than so many bytes.
+-- number that was given out before is given to no other object. The superblock has its version and all K values still, and the image has
+-- grown by no more than so many bytes.
 pub record IsChangedInPlace (old new : FileState) (tree' : Tree) (next' : ℕ) (touched : List ℕ) (bytes : ℕ) : Type 0 where
   pub state : (new.tree ≡ tree') × (new.next ≡ next')
   pub sound : IsSound new
   pub whole : IsWholeFile old → IsWholeFile new
-  pub leaf : leaf_k new.image ≡ leaf_k old.image
-  pub internal : internal_k new.image ≡ internal_k old.image
-  pub chunk : chunk_k new.image ≡ chunk_k old.image
+  pub k : k_values new.image ≡ k_values old.image
   pub headers : (n h : ℕ) → get old.table n ≡ Some h → IsSome (get new.table n) → get new.table n ≡ Some h
   pub given : (n : ℕ) → n < old.next → IsSome (get new.table n) → IsSome (get old.table n)
   pub more : old.next ≤ new.next

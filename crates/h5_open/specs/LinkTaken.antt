@@ -8,7 +8,7 @@ use Rattle.std.specs.Ordering.{nat_cmp}
 use Rattle.h5_bytes.specs.declared.Block.{Block}
 use Rattle.h5_model.specs.Format.Addresses.{SymbolTable}
 use Rattle.h5_model.specs.Format.Messages.{prefix_at, reference_count}
-use Rattle.h5_model.specs.Format.Superblock.{leaf_k, internal_k}
+use Rattle.h5_model.specs.Format.Superblock.{k_values}
 use Rattle.h5_model.specs.Format.Symbols.{Target}
 use Rattle.h5_model.specs.Tree.Objects.{Tree, Link, link_in, object_of, within_names}
 use Rattle.h5_space.specs.Moves.{Moves}
@@ -37,8 +37,7 @@ pub record IsLinkTaken (old new : Space) (table : SymbolTable) (name : List ℕ)
       → IsLinkPut (name, target) (links_told new.bytes table) (links_told old.bytes table)
   pub group : IsGroupApart new table
   pub moves : Moves old new (blocks_told old.bytes table) (blocks_told new.bytes table)
-  pub leaf : leaf_k new.bytes ≡ leaf_k old.bytes
-  pub internal : internal_k new.bytes ≡ internal_k old.bytes
+  pub k : k_values new.bytes ≡ k_values old.bytes
   pub as_long : length new.bytes ≡ length old.bytes
 
 -- ---- the arrays to which links are left

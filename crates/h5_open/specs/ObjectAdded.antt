@@ -11,7 +11,7 @@ use Rattle.h5_model.specs.Format.Messages.{Message, prefix_at, reference_count}
 use Rattle.h5_model.specs.Format.Plain.{cells_bytes}
 use Rattle.h5_model.specs.Format.Reads.{HasAttributes}
 use Rattle.h5_model.specs.Format.Addresses.{SymbolTable}
-use Rattle.h5_model.specs.Format.Superblock.{leaf_k, internal_k, end_of_file, end_field}
+use Rattle.h5_model.specs.Format.Superblock.{leaf_k, internal_k, k_values, end_of_file, end_field}
 use Rattle.h5_model.specs.Format.Symbols.{Header}
 use Rattle.h5_model.specs.Tree.Objects.{Content, Object, Tree, ToObject}
 use Rattle.h5_header.specs.Heads.{is_read}
@@ -115,8 +115,7 @@ pub record IsObjectStored (old taken linked new : Space) (t : SymbolTable) (name
   pub put : IsLinkPut (name, Header at) (links_told taken.bytes t) (links_told linked.bytes t)
   pub apart : IsGroupApart linked t
   pub moves : Moves taken linked (blocks_told taken.bytes t) (blocks_told linked.bytes t)
-  pub leaf : leaf_k linked.bytes ≡ leaf_k taken.bytes
-  pub internal : internal_k linked.bytes ≡ internal_k taken.bytes
+  pub k : k_values linked.bytes ≡ k_values taken.bytes
   pub later : Moves linked new (end_field linked.bytes ∷ []) (end_field new.bytes ∷ [])
   pub end : end_of_file new.bytes ≡ length new.bytes
   pub small : length new.bytes ≤ 2 ^ 31

@@ -8,7 +8,7 @@ use Rattle.h5_bytes.specs.declared.Block.{Block}
 use Rattle.h5_model.specs.Edits.Applied.{with_cells, with_dataset}
 use Rattle.h5_model.specs.Format.Fixed.{fits}
 use Rattle.h5_model.specs.Format.Messages.{Message, HasMessages}
-use Rattle.h5_model.specs.Format.Superblock.{leaf_k, internal_k}
+use Rattle.h5_model.specs.Format.Superblock.{k_values}
 use Rattle.h5_model.specs.Tree.Objects.{Dataset, dataset_of, with_object}
 use Rattle.h5_model.specs.Tree.Places.{cells}
 use Rattle.h5_layout.specs.Data.{dataset_told}
@@ -57,8 +57,7 @@ pub record IsKeptOutside (old new : List ℕ) (blocks : List Block) : Type 0 whe
 -- of the opened image the array of this number alone is another, which has these values in its cells from this place on
 pub record AreCellsWritten (old : FileState) (number place : ℕ) (values : List ℤ) (new : FileState) : Type 0 where
   pub changed : new ≡ record old { image = new.image; tree = with_object old.tree number (with_dataset (with_run place values)) }
-  pub leaf : leaf_k new.image ≡ leaf_k old.image
-  pub internal : internal_k new.image ≡ internal_k old.image
+  pub k : k_values new.image ≡ k_values old.image
   pub whole : IsWholeFile old → IsWholeFile new
   pub in_place : IsChangedInPlace old new (with_object old.tree number (with_dataset (with_run place values))) old.next (number ∷ []) 0
   pub stored : (p : ℕ) → IsCellStored old number p → IsCellStored new number p

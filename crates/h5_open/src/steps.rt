@@ -18,7 +18,7 @@ use crate::opened::OpenedContent;
 use h5_bytes::Block;
 use h5_header::claim;
 use h5_model::{Cause, Link, LinkTo, OpenFault};
-use h5_space::{Claims, Image, SUPERBLOCK, fault, root_header};
+use h5_space::{Claims, Image, fault, root_header, superblock_length};
 use std::alloc::Global;
 use std::collections::BTreeMap;
 
@@ -56,7 +56,7 @@ fn claim_superblock(alloc: Global, image: &Image) -> Result<Claims, OpenFault>
     let mut claims = Claims::new(alloc, image.bytes().len() as u64);
     let superblock = Block {
         at: 0,
-        len: SUPERBLOCK,
+        len: superblock_length(image.bytes()),
     };
     claim(&mut claims, superblock)?;
     Ok(claims)

@@ -25,8 +25,9 @@ impl Opened {
     /// Makes the storage that is missing of an array: the block of a contiguous one, or chunks, each cell of which is the fill.
     ///
     /// It is made where the array stands (`make_storage` of `h5_layout`); nothing else is read. Takes memory for the blocks that it may
-    /// need, before the first change. Where several chunks are missing, and the root of their tree is above level 10, one of them may be
-    /// refused in its turn: then all is made on a copy of the image, which takes its place in the end. A refusal changes nothing.
+    /// need, before the first change. Where several chunks are missing, and the root of their tree stands so high that the tree may get too
+    /// deep (`is_low` of `h5_chunks`), one of them may be refused in its turn: then all is made on a copy of the image, which takes its
+    /// place in the end. A refusal changes nothing.
     ///
     /// That the object of the number is an array, and that so much is missing of it for some selection, are the caller's conditions.
     ///

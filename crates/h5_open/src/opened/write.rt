@@ -2,7 +2,7 @@
 
 ghost use Rattle.std.specs.Prelude.{◌≡◌, ℕ, ◌<◌, ◌∷◌, [], length};
 ghost use Rattle.h5_model.specs.Edits.Applied.{with_dataset};
-ghost use Rattle.h5_model.specs.Format.Superblock.{leaf_k, internal_k};
+ghost use Rattle.h5_model.specs.Format.Superblock.{k_values};
 ghost use Rattle.h5_model.specs.Tree.Objects.{Dataset, with_object};
 ghost use Rattle.h5_layout.specs.Described.{Described};
 ghost use Rattle.h5_layout.specs.Standing.{cell_blocks};
@@ -43,8 +43,7 @@ impl Opened {
           image = self.new.image;
           tree = with_object self.old.tree number (with_dataset (with_run place values.now));
         } }
-        ensures leaf { leaf_k self.new.image ≡ leaf_k self.old.image }
-        ensures internal { internal_k self.new.image ≡ internal_k self.old.image }
+        ensures k { k_values self.new.image ≡ k_values self.old.image }
         ensures sound { IsSound self.new }
         ensures whole { IsWholeFile self.old → IsWholeFile self.new }
         ensures in_place { IsChangedInPlace self.old self.new
@@ -71,8 +70,7 @@ impl Opened {
           image = self.new.image;
           tree = with_object self.old.tree number (with_dataset (with_run cells.now.place values.now));
         } }
-        ensures leaf { leaf_k self.new.image ≡ leaf_k self.old.image }
-        ensures internal { internal_k self.new.image ≡ internal_k self.old.image }
+        ensures k { k_values self.new.image ≡ k_values self.old.image }
         ensures sound { IsSound self.new }
         ensures whole { IsWholeFile self.old → IsWholeFile self.new }
         ensures in_place { IsChangedInPlace self.old self.new

@@ -1,6 +1,6 @@
 use Rattle.std.proofs.Common.{◌≡◌, [], ap, rules}
 use Rattle.std.proofs.lemmas.Result.{err_from_is_err_and}
-use Rattle.h5_model.specs.Format.Superblock.{root_header}
+use Rattle.h5_model.specs.Format.Superblock.{root_header, root_header_place}
 use Rattle.h5_open.specs.Opened.Objects.{objects_of}
 use Rattle.h5_open.proofs.RefusedLaws.{only_memory}
 use Rattle.h5_open.proofs.WholeLaws.{none_numbered, ready_at, whole_at, opened}
@@ -15,7 +15,7 @@ returns-in_err-read_tree-clause-refused c =
     let image = c.args.image.now.bytes in
     let p = err_from_is_err_and c.from_residual-in_err-read_tree.result c.from_residual-in_err-read_tree.ensures.1 in
     let at : c.root_header-header.result ≡ root_header image = search rules in
-    rw (p.1, p.2) (c.in_err-read_tree.ensures.refused [] 64
+    rw (p.1, p.2) (c.in_err-read_tree.ensures.refused [] (root_header_place image)
     (ready_at image c.in_ok-claims.claims.held none c.root_header-header.result c.requires.superblock c.in_ok-claims.ensures.walked c.in_ok-claims.ensures.separate (ap objects_of c.new.ensures.items) at))
 
 pub check_counts-requires-clause-whole : goal.check_counts-requires-clause-whole
@@ -26,7 +26,7 @@ check_counts-requires-clause-whole c =
     let at : c.root_header-header.result ≡ root_header image = search rules in
     whole_at image c.in_ok-claims.claims.held c.read_tree.new.claims.held none now c.root_header-header.result c.requires.superblock c.requires.whole
     (ap objects_of c.new.ensures.items) at
-    (c.in_ok-read_tree.ensures.read [] 64
+    (c.in_ok-read_tree.ensures.read [] (root_header_place image)
     (ready_at image c.in_ok-claims.claims.held none c.root_header-header.result c.requires.superblock c.in_ok-claims.ensures.walked c.in_ok-claims.ensures.separate (ap objects_of c.new.ensures.items) at))
 
 pub returns-clause-kept : goal.returns-clause-kept
@@ -37,7 +37,7 @@ returns-clause-kept c =
     let at : c.root_header-header.result ≡ root_header image = search rules in
     let all = whole_at image c.in_ok-claims.claims.held c.read_tree.new.claims.held none now c.root_header-header.result c.requires.superblock c.requires.whole
     (ap objects_of c.new.ensures.items) at
-    (c.in_ok-read_tree.ensures.read [] 64
+    (c.in_ok-read_tree.ensures.read [] (root_header_place image)
     (ready_at image c.in_ok-claims.claims.held none c.root_header-header.result c.requires.superblock c.in_ok-claims.ensures.walked c.in_ok-claims.ensures.separate (ap objects_of c.new.ensures.items) at)) in
     opened c.args.image.now c.read_tree.new.index.objects.items c.read_tree.new.index.numbers c.requires.free all c.in_ok-read_tree.ensures.index c.in_ok-check_counts.ensures.reads
 
@@ -47,7 +47,7 @@ returns-in_err-read_tree-clause-only c =
     let image = c.args.image.now.bytes in
     let p = err_from_is_err_and c.from_residual-in_err-read_tree.result c.from_residual-in_err-read_tree.ensures.1 in
     let at : c.root_header-header.result ≡ root_header image = search rules in
-    rw (p.1, p.2) (only_memory image _ _ (c.in_err-read_tree.ensures.refused [] 64
+    rw (p.1, p.2) (only_memory image _ _ (c.in_err-read_tree.ensures.refused [] (root_header_place image)
     (ready_at image c.in_ok-claims.claims.held none c.root_header-header.result c.requires.superblock c.in_ok-claims.ensures.walked c.in_ok-claims.ensures.separate (ap objects_of c.new.ensures.items) at)))
 
 pub returns-in_err-check_counts-clause-only : goal.returns-in_err-check_counts-clause-only

@@ -6,6 +6,7 @@ use Rattle.h5_model.specs.declared.link.LinkTo.{LinkTo}
 use Rattle.h5_model.specs.declared.link.LinkTo.TheVariants as to
 use Rattle.h5_model.specs.declared.object_no.ObjectNo.{ObjectNo}
 use Rattle.h5_model.specs.Format.PlainLength.{link_span}
+use Rattle.h5_model.specs.Format.Superblock.{superblock_length}
 use Rattle.h5_model.specs.Tree.Links.{tree_link, tree_target}
 use Rattle.h5_space.specs.Space.{Space}
 use Rattle.h5_group.specs.Heap.Links.{Leads, leads_of}
@@ -19,7 +20,7 @@ use Rattle.h5_open.specs.LinkAdded.{IsArraySlot, IsLeadOf, IsTargetSlot, ends_of
 use Rattle.h5_open.specs.Opened.Kept.{IsOpened}
 use Rattle.h5_open.specs.Opened.State.{opened_state}
 use Rattle.h5_open.proofs.GroupOf.{group_lent}
-use Rattle.h5_open.proofs.LinkWritten.{IsCountedAt, IsHeaderCounted, added_changed, added_opened, array_few, array_standing, deep_told, fits_by, full_told, group_stands, group_there, lead_plain, name_new, name_one, no_fault, target_there}
+use Rattle.h5_open.proofs.LinkWritten.{IsCountedAt, IsHeaderCounted, added_changed, added_opened, array_few, array_standing, deep_told, fits_by, full_told, group_stands, group_there, lead_plain, name_new, name_one, no_fault, superblock_there, target_there}
 use Rattle.h5_open.proofs.OpenedLaws.LentSlots.{lent_some, slot_lent, slot_read}
 use Rattle.h5_open.proofs.OpenedLaws.Sounds.{sound}
 use Rattle.h5_open.proofs.opened.Opened.add_link.Goals as goal
@@ -135,7 +136,7 @@ count_link-requires-clause-standing c =
     c.requires.group c.requires.free c.requires.target c.requires.good
     c.group_table-table.result (group_lent c.deref.result.now c.self.inside.index.objects.items c.args.parent c.group_table-table.result c.deref.ensures.value c.group_table-table.ensures.table)
     (leads_of c.place_of-to.result) (lead_there c.self.inside.index.objects.items c.deref-2.result.now c.args.link.now.to (leads_of c.place_of-to.result) c.deref-2.ensures.value c.place_of-to.ensures.place)
-    c.put_link.new.image e.put e.group e.moves e.leaf e.internal number.0 c.unwrap-target.result.now (array_lent slots number.0 there c.unwrap-target.result.now at)
+    c.put_link.new.image e.put e.group e.moves e.k number.0 c.unwrap-target.result.now (array_lent slots number.0 there c.unwrap-target.result.now at)
 
 pub count_link-requires-clause-few : goal.count_link-requires-clause-few
 count_link-requires-clause-few c =
@@ -149,19 +150,28 @@ count_link-requires-clause-few c =
     c.requires.group c.requires.free c.requires.target c.requires.good
     c.group_table-table.result (group_lent c.deref.result.now c.self.inside.index.objects.items c.args.parent c.group_table-table.result c.deref.ensures.value c.group_table-table.ensures.table)
     (leads_of c.place_of-to.result) (lead_there c.self.inside.index.objects.items c.deref-2.result.now c.args.link.now.to (leads_of c.place_of-to.result) c.deref-2.ensures.value c.place_of-to.ensures.place)
-    c.put_link.new.image e.put e.group e.moves e.leaf e.internal number.0 c.unwrap-target.result.now (array_lent slots number.0 there c.unwrap-target.result.now at)
+    c.put_link.new.image e.put e.group e.moves e.k number.0 c.unwrap-target.result.now (array_lent slots number.0 there c.unwrap-target.result.now at)
 
 -- ---- written
 
 pub write_end-requires-clause-superblock : goal.write_end-requires-clause-superblock
 write_end-requires-clause-superblock c =
-    let whole = c.self.invariant.reads.1.holds.superblock.whole in
-    let grown = c.in_ok-put_link.ensures.moves.grown in
-    let long : length c.match-link.self-inside.image.bytes ≡ length c.put_link.new.image.bytes = elim c.match-link.branch [
-      | in-Object w ↦ ap (λ (i : Inside). length i.image.bytes) w.self-inside-is ∙ w.count_link.ensures.length
-      | in_default w ↦ ap (λ (i : Inside). length i.image.bytes) w.self-inside-is
-    ] in
-    omega (arith, whole, grown, long)
+    let e = c.in_ok-put_link.ensures in
+    elim c.match-link.branch [
+      | in-Object w ↦
+          let slots = c.self.inside.index.objects.items in
+          let number = w.in-Object.number in
+          let there = array_there slots c.args.link.now.to number w.in-Object.is (target_there c.self.inside.image c.self.inside.index.objects.items c.self.inside.index.numbers c.self.invariant c.args.self.now c.self.view_is c.args.parent c.args.link.now
+          c.requires.group c.requires.free c.requires.target c.requires.good) in
+          let at = slot_lent slots number.0 there.0 there.1.0 w.index.result.now w.index.ensures w.as_ref.result w.as_ref.ensures.value w.unwrap-target.result w.unwrap-target.ensures in
+          let long = superblock_there c.self.inside.image c.self.inside.index.objects.items c.self.inside.index.numbers c.self.invariant c.args.self.now c.self.view_is c.args.parent c.args.link.now
+          c.requires.group c.requires.free c.requires.target c.requires.good
+          c.group_table-table.result (group_lent c.deref.result.now c.self.inside.index.objects.items c.args.parent c.group_table-table.result c.deref.ensures.value c.group_table-table.ensures.table)
+          (leads_of c.place_of-to.result) (lead_there c.self.inside.index.objects.items c.deref-2.result.now c.args.link.now.to (leads_of c.place_of-to.result) c.deref-2.ensures.value c.place_of-to.ensures.place)
+          c.put_link.new.image e.put e.group e.moves e.k number.0 w.unwrap-target.result.now (array_lent slots number.0 there w.unwrap-target.result.now at) w.count_link.new.image w.count_link.ensures.moves in
+          subst (λ (i : Inside). superblock_length i.image.bytes ≤ length i.image.bytes) (sym w.self-inside-is) long
+      | in_default w ↦ subst (λ (i : Inside). superblock_length i.image.bytes ≤ length i.image.bytes) (sym w.self-inside-is) e.group.long
+    ]
 
 pub write_end-requires-clause-small : goal.write_end-requires-clause-small
 write_end-requires-clause-small c =
@@ -214,7 +224,7 @@ opened_now c =
     c.requires.group c.requires.free c.requires.target c.requires.good
     c.group_table-table.result (group_lent c.deref.result.now c.self.inside.index.objects.items c.args.parent c.group_table-table.result c.deref.ensures.value c.group_table-table.ensures.table)
     (leads_of c.place_of-to.result) (lead_there c.self.inside.index.objects.items c.deref-2.result.now c.args.link.now.to (leads_of c.place_of-to.result) c.deref-2.ensures.value c.place_of-to.ensures.place)
-    c.put_link.new.image e.put e.group e.moves e.leaf e.internal c.match-link.self-inside.image c.write_end.new.image 20 e.spends (fits c) (counted c) t.moves t.end t.length
+    c.put_link.new.image e.put e.group e.moves e.k c.match-link.self-inside.image c.write_end.new.image 20 e.spends (fits c) (counted c) t.moves t.end t.length
 
 opened_so : (c : After-write_end) → IsOpened c.write_end.new.image c.match-link.self-inside.index.objects.items c.match-link.self-inside.index.numbers
 opened_so c = subst (λ (i : Index). IsOpened c.write_end.new.image i.objects.items i.numbers) (sym (index_same c)) (opened_now c)
@@ -230,7 +240,7 @@ returns-clause-changed c table is =
     c.requires.group c.requires.free c.requires.target c.requires.good
     c.group_table-table.result (group_lent c.deref.result.now c.self.inside.index.objects.items c.args.parent c.group_table-table.result c.deref.ensures.value c.group_table-table.ensures.table)
     (leads_of c.place_of-to.result) (lead_there c.self.inside.index.objects.items c.deref-2.result.now c.args.link.now.to (leads_of c.place_of-to.result) c.deref-2.ensures.value c.place_of-to.ensures.place)
-    c.put_link.new.image e.put e.group e.moves e.leaf e.internal c.match-link.self-inside.image c.write_end.new.image 20 e.spends (fits c) (counted c) t.moves t.end t.length table is in
+    c.put_link.new.image e.put e.group e.moves e.k c.match-link.self-inside.image c.write_end.new.image 20 e.spends (fits c) (counted c) t.moves t.end t.length table is in
     subst (λ (i : Index). IsChangedInPlace c.args.self.now (opened_state c.write_end.new.image i.objects.items)
     (with_link c.args.self.now.tree c.args.parent c.args.link.now.name.now (tree_target c.args.link.now.to)) c.args.self.now.next
     (ends_of c.args.parent (tree_target c.args.link.now.to))

@@ -110,6 +110,9 @@ returns-in_err-resize_object-clause-image_full c lacks says =
 
 -- ---- resized
 
+pub write_end-requires-clause-superblock : goal.write_end-requires-clause-superblock
+write_end-requires-clause-superblock c = c.in_ok-resize_object.ensures.resized.resized.moved.stand.long
+
 at_end : (c : After-write_end) → slice_get c.self.inside.index.objects.items c.args.number ≡ Some (Some c.unwrap-object.result.now)
 at_end c = lent c.self.inside.image c.self.inside.index.objects.items c.self.inside.index.numbers c.self.invariant c.args.self.now c.self.view_is c.args.number
     c.args.sizes.now c.requires.array

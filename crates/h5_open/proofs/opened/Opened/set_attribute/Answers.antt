@@ -27,7 +27,7 @@ use Rattle.h5_open.specs.Opened.Kept.{IsOpened}
 use Rattle.h5_open.specs.Opened.State.{FileState, opened_state}
 use Rattle.h5_open.proofs.AttributeEdits.{room_opened, slot_same}
 use Rattle.h5_open.proofs.AttributeOpened.{IsHeaderEdited, attributes_changed, attributes_opened}
-use Rattle.h5_open.proofs.HeaderInPlace.{header_full, room_apart, room_edited, room_movable, room_standing, slots_with, with_messages}
+use Rattle.h5_open.proofs.HeaderInPlace.{header_full, room_apart, room_edited, room_movable, room_standing, room_superblock, slots_with, with_messages}
 use Rattle.h5_open.proofs.OpenedLaws.Entries.{slot_of}
 use Rattle.h5_open.proofs.OpenedLaws.LentSlots.{lent_some_mut, slot_lent_mut, slot_read}
 use Rattle.h5_open.proofs.OpenedLaws.Sounds.{sound}
@@ -213,6 +213,16 @@ set-requires-clause-standing c =
     let r = c.make_room.new.image in
     let was = with_made c.self.inside.image r _ _ c.in_ok-make_room.ensures.made in
     room_standing r c.self.inside.index.objects.items c.self.inside.index.numbers (roomy_opened c.self.inside.image c.self.inside.index.objects.items c.self.inside.index.numbers c.self.invariant c.args.self.now c.self.view_is c.args.number c.requires.there p at r was) c.args.number p at _ c.make_room.new.self c.in_ok-make_room.ensures.kept
+
+pub write_end-requires-clause-superblock : goal.write_end-requires-clause-superblock
+write_end-requires-clause-superblock c =
+    let p = c.unwrap-object.result.now in
+    let at = lent c.self.inside.image c.self.inside.index.objects.items c.self.inside.index.numbers c.self.invariant c.args.self.now c.self.view_is c.args.number c.requires.there
+    c.index_mut.result.now c.index_mut.ensures.value c.as_mut.result c.as_mut.ensures.value c.unwrap-object.result c.unwrap-object.ensures in
+    let r = c.make_room.new.image in
+    let was = with_made c.self.inside.image r _ _ c.in_ok-make_room.ensures.made in
+    room_superblock r c.self.inside.index.objects.items c.self.inside.index.numbers (roomy_opened c.self.inside.image c.self.inside.index.objects.items c.self.inside.index.numbers c.self.invariant c.args.self.now c.self.view_is c.args.number c.requires.there p at r was) c.args.number p at _ c.make_room.new.self c.in_ok-make_room.ensures.kept
+    c.set.new.image c.set.new.messages.blocks c.set.ensures.moves
 
 at_set : (c : After-write_end) → slice_get c.self.inside.index.objects.items c.args.number ≡ Some (Some c.unwrap-object.result.now)
 at_set c = lent c.self.inside.image c.self.inside.index.objects.items c.self.inside.index.numbers c.self.invariant c.args.self.now c.self.view_is c.args.number c.requires.there

@@ -92,11 +92,8 @@ invariant_of-self c = (after c).0
 pub returns-clause-changed : goal.returns-clause-changed
 returns-clause-changed c = (after c).1.changed
 
-pub returns-clause-leaf : goal.returns-clause-leaf
-returns-clause-leaf c = (after c).1.leaf
-
-pub returns-clause-internal : goal.returns-clause-internal
-returns-clause-internal c = (after c).1.internal
+pub returns-clause-k : goal.returns-clause-k
+returns-clause-k c = (after c).1.k
 
 pub returns-clause-sound : goal.returns-clause-sound
 returns-clause-sound c = sound c.write_stored.new.image c.self.inside.index.objects.items c.self.inside.index.numbers (after c).0
