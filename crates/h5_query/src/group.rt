@@ -1,6 +1,6 @@
 //! The links of a group, by its number (File Format Specification 3.0, section III.C).
 
-ghost use Rattle.std.specs.Prelude.{◌≡◌, IfOk, MatchOption, map};
+ghost use Rattle.std.specs.Prelude.{◌≡◌, IfOk, MatchOption, OnErr, map};
 ghost use Rattle.std.specs.List.{AllByRecursion};
 ghost use Rattle.h5_model.specs.Tree.Links.{tree_link, tree_target};
 ghost use Rattle.h5_query.specs.Listed.{IsNoGroup, AreGroupLinks, IsTargetLed, IsLinkLed, target_in, in_tree};
@@ -13,19 +13,20 @@ use std::alloc::{AllocError, Global};
 /// The links of the group with this number, in ascending order of the bytes of their names; `Ok(None)` if no group
 /// has it.
 ///
-/// Takes memory for a reference to each link.
+/// Takes memory for a reference to each link, and none where no group has the number.
 ///
 /// # Errors
 ///
-/// `AllocError` if memory is refused.
+/// `AllocError` if a group has the number, and memory is refused.
 pub fn links_of<'a>(
     alloc: Global,
     opened: &'a Opened,
     number: ObjectNo,
 ) -> Result<Option<Vec<Link<'a, ObjectNo>>>, AllocError>
-    ensures { IfOk result (λ found.
+    ensures found { IfOk result (λ found.
         MatchOption found (IsNoGroup opened.now.tree number.0) (λ links.
         AreGroupLinks opened.now.tree number.0 links.items)) }
+    ensures refused { OnErr result (IsNoGroup opened.now.tree number.0 → ⊥) }
 {
     let Some(object) = opened.object(number.0) else {
         return Ok(None);
