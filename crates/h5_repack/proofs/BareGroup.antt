@@ -1,5 +1,5 @@
 -- A group without links and without attributes, as it is appended: how its parts lie, how long they are, and which object they are.
-use Rattle.std.proofs.Common.{◌≡◌, ℕ, ◌+◌, ◌*◌, List, [], ◌∷◌, ◌++◌, length, map, refl, sym, ap, ◌∙◌, subst, arith}
+use Rattle.std.proofs.Common.{◌≡◌, ℕ, ◌+◌, ◌*◌, List, [], ◌∷◌, ◌++◌, length, map, refl, sym, ap, ◌∙◌, subst, arith, Option}
 use Rattle.std.proofs.lemmas.List.{length-append}
 use Rattle.std.specs.FinMap.{entries, empty}
 use Rattle.std.specs.Cmp.Lexicographic.{slice_cmp}
@@ -70,9 +70,9 @@ module _ (leaf internal : ℕ) (k : AreK leaf internal) where
       )
 
   -- what the writer takes for such a group
-  pub bare_held : (others : OthersBytes) (p : GroupPlaces) → AreOthers [] others → ArePlaces leaf internal [] p
-      → (o : StoredObject) × IsGroupObject [] others o × IsExtent leaf internal (length o.chunks) (o.object).content (extent.Links p)
-  bare_held others p are places = (
+  pub bare_held : (chunk : Option ℕ) (others : OthersBytes) (p : GroupPlaces) → AreOthers [] others → ArePlaces leaf internal [] p
+      → (o : StoredObject) × IsGroupObject [] others o × IsExtent (record { leaf = leaf; internal = internal; chunk = chunk }) (length o.chunks) (o.object).content (extent.Links p)
+  bare_held chunk others p are places = (
     record { object = root_object; chunks = [] },
     record {
       group = empty;

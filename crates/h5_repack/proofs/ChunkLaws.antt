@@ -1,7 +1,7 @@
 pub mod ChunkLengths
-pub mod ChunkLevels
 pub mod ChunkCells
 pub mod ChunkOrder
+pub mod ChunkLevels
 pub mod ChunkTree
 pub mod KeyTrees
 pub mod ChunksRead

@@ -9,10 +9,10 @@ use Rattle.std.specs.Cmp.{nat_cmp_total, unsigned_tied}
 use Rattle.std.specs.Cmp.Lexicographic.{slice_cmp}
 use Rattle.std.specs.declared.alloc.Global.{Global}
 use Rattle.std.specs.FinMap.{FinMap, get, entries, empty, len-empty, entries-insert, get-insert, get-empty, put}
-use Rattle.h5_model.specs.Format.Empty.{empty_file, root_table, root_tree, root_object}
+use Rattle.h5_model.specs.Format.Empty.{empty_file, new_k, root_table, root_tree, root_object}
 use Rattle.h5_model.specs.Format.Bodies.{pair_bytes}
 use Rattle.h5_model.specs.Format.Plain.{superblock_bytes, header_bytes}
-use Rattle.h5_model.specs.Format.Superblock.{AreK}
+use Rattle.h5_model.specs.Format.Superblock.{AreKValues}
 use Rattle.h5_model.specs.Tree.Objects.{Object, Group, Array, Link, ToObject, Soft, follow, hard_links, links_of, link_in}
 use Rattle.h5_model.proofs.MapSteps.{entries-empty}
 use Rattle.h5_laws.specs.Trees.Sound.{IsSoundTree}
@@ -22,7 +22,7 @@ use Rattle.h5_btree.specs.Writing.Written.{root_level, tree_bytes}
 use Rattle.h5_group.specs.Heap.Written.{heap_bytes}
 use Rattle.h5_group.specs.Writing.Written.{links_bytes}
 use Rattle.h5_repack.specs.Bodies.Laws.{IsPlainReading}
-use Rattle.h5_repack.specs.Image.Plain.{ArePlain, AreLow, AreStoredIn, IsLow, IsPlain, IsPlainTree}
+use Rattle.h5_repack.specs.Image.Plain.{ArePlain, AreLow, AreStoredIn, IsLow, IsLowContent, IsPlain, IsPlainTree}
 use Rattle.h5_repack.specs.Image.Written.{IsOrder, StoredIn, counts_of, content_place, header_in, group_heap_place, image_end, plain_image, table_of, written_link, written_links}
 use Rattle.h5_repack.specs.Blocks.Written.{AreOthers}
 use Rattle.h5_repack.specs.Bodies.Bodies.{others_of}
@@ -102,14 +102,16 @@ no_depth : IsLow 4 16 empty
 unfolding root_level
 no_depth = rw (len-empty (slice_cmp nat_cmp) Link) (omega arith)
 
-root_low : AreLow 4 16 root_tree
-root_low zero links is =
-    let one : empty ≡ links = same_Some empty links (let found : links_of root_tree 0 ≡ Some empty = rw get-root_tree refl in sym found ∙ is) in
-    subst (IsLow 4 16) one no_depth
-root_low (suc n) links is = absurd (let none : None ≡ Some links = rw (get-root_tree_other n) at is in cc)
+root_low : (stored : StoredIn) → AreLow new_k stored root_tree
+root_low stored zero o is = subst (λ (x : Object). IsLowContent new_k (length (stored 0)) x.content) (root_is o is) no_depth
+root_low stored (suc n) o is = absurd (let none : None ≡ Some o = sym (get-root_tree_other n) ∙ is in cc)
 
-k : AreK 4 16
-k = record { leaf_low = omega arith; leaf_high = omega arith; internal_low = omega arith; internal_high = omega arith }
+in_range : AreKValues new_k
+in_range = record {
+  groups = record { leaf_low = omega arith; leaf_high = omega arith; internal_low = omega arith; internal_high = omega arith };
+  chunk_low = omega arith;
+  chunk_high = omega arith;
+}
 
 -- ---- it is written so
 
@@ -145,51 +147,51 @@ one_order order is =
       alone (e ∷ es) one = absurd (omega (arith, one))
 
 -- its bytes are counted as 800, whatever chunks are counted for a group
-ends : (counts : ℕ → ℕ) → image_end 4 16 counts root_order ≡ 800
+ends : (counts : ℕ → ℕ) → image_end new_k counts root_order ≡ 800
 ends counts = rw (no_attributes, entries-empty {X = Link} (slice_cmp nat_cmp), len-empty (slice_cmp nat_cmp) Link) refl
 
-header_at : (counts : ℕ → ℕ) → header_in (table_of 4 16 counts root_order) 0 ≡ 96
+header_at : (counts : ℕ → ℕ) → header_in (table_of new_k counts root_order) 0 ≡ 96
 header_at counts = ap (λ (x : Option ℕ). option_map_or (λ (h : ℕ). h) x 0) (get-insert {X = ℕ} nat_cmp_total empty 0 96 0)
 
 tree_at : content_place root_object 96 ≡ 136
 tree_at = rw no_attributes refl
 
-heap_at : group_heap_place 4 16 root_object empty 96 ≡ 680
+heap_at : group_heap_place new_k root_object empty 96 ≡ 680
 heap_at = rw (no_attributes, len-empty (slice_cmp nat_cmp) Link) refl
 
-tree_behind : (counts : ℕ → ℕ) → content_place root_object (header_in (table_of 4 16 counts root_order) 0) ≡ 136
+tree_behind : (counts : ℕ → ℕ) → content_place root_object (header_in (table_of new_k counts root_order) 0) ≡ 136
 tree_behind counts = ap (content_place root_object) (header_at counts) ∙ tree_at
 
-heap_behind : (counts : ℕ → ℕ) → group_heap_place 4 16 root_object empty (header_in (table_of 4 16 counts root_order) 0) ≡ 680
-heap_behind counts = ap (group_heap_place 4 16 root_object empty) (header_at counts) ∙ heap_at
+heap_behind : (counts : ℕ → ℕ) → group_heap_place new_k root_object empty (header_in (table_of new_k counts root_order) 0) ≡ 680
+heap_behind counts = ap (group_heap_place new_k root_object empty) (header_at counts) ∙ heap_at
 
-none_written : (counts : ℕ → ℕ) → written_links 4 16 root_tree (table_of 4 16 counts root_order) empty ≡ []
-none_written counts = ap (map (written_link 4 16 root_tree (table_of 4 16 counts root_order))) (entries-empty {X = Link} (slice_cmp nat_cmp))
+none_written : (counts : ℕ → ℕ) → written_links new_k root_tree (table_of new_k counts root_order) empty ≡ []
+none_written counts = ap (map (written_link new_k root_tree (table_of new_k counts root_order))) (entries-empty {X = Link} (slice_cmp nat_cmp))
 
-parts : (stored : StoredIn) → plain_image 4 16 stored root_tree root_order
-    ≡ superblock_bytes 4 16 800 96 136 680 ++ ((header_bytes 1 ((17, pair_bytes 136 680) ∷ []) ++ links_bytes 4 16 136 []) ++ [])
+parts : (stored : StoredIn) → plain_image new_k stored root_tree root_order
+    ≡ superblock_bytes new_k 800 96 136 680 ++ ((header_bytes 1 ((17, pair_bytes 136 680) ∷ []) ++ links_bytes 4 16 136 []) ++ [])
 unfolding plain_image
-parts stored = λ i. superblock_bytes 4 16 (ends (counts_of stored) i) 96 (tree_at i) (heap_at i)
+parts stored = λ i. superblock_bytes new_k (ends (counts_of stored) i) 96 (tree_at i) (heap_at i)
     ++ ((header_bytes 1 ((17, pair_bytes (tree_behind (counts_of stored) i) (heap_behind (counts_of stored) i)) ∷ no_others i)
     ++ links_bytes 4 16 (tree_behind (counts_of stored) i) (none_written (counts_of stored) i)) ++ [])
 
-same_bytes : superblock_bytes 4 16 800 96 136 680 ++ ((header_bytes 1 ((17, pair_bytes 136 680) ∷ []) ++ links_bytes 4 16 136 []) ++ []) ≡ empty_file
+same_bytes : superblock_bytes new_k 800 96 136 680 ++ ((header_bytes 1 ((17, pair_bytes 136 680) ∷ []) ++ links_bytes 4 16 136 []) ++ []) ≡ empty_file
 unfolding links_bytes tree_bytes heap_bytes empty_file
 same_bytes = refl
 
-same_image : (stored : StoredIn) → plain_image 4 16 stored root_tree root_order ≡ empty_file
+same_image : (stored : StoredIn) → plain_image new_k stored root_tree root_order ≡ empty_file
 same_image stored = parts stored ∙ same_bytes
 
 -- what is written of it is the empty file
-pub written_empty : (stored : StoredIn) (w : Written) → IsWritten 4 16 stored root_tree w → w.image.items ≡ empty_file
-written_empty stored w is = is.image_is ∙ ap (plain_image 4 16 stored root_tree) (one_order is.order is.ordered) ∙ same_image stored
+pub written_empty : (stored : StoredIn) (w : Written) → IsWritten new_k stored root_tree w → w.image.items ≡ empty_file
+written_empty stored w is = is.image_is ∙ ap (plain_image new_k stored root_tree) (one_order is.order is.ordered) ∙ same_image stored
 
-pub never_long : (stored : StoredIn) → IsUnwritten 4 16 stored root_tree TooLong → ⊥
+pub never_long : (stored : StoredIn) → IsUnwritten new_k stored root_tree TooLong → ⊥
 never_long stored long =
-    let same = image_length 4 16 (counts_of stored) root_tree root_order is_order in absurd (omega (arith, long, same, ends (counts_of stored)))
+    let same = image_length new_k (counts_of stored) root_tree root_order is_order in absurd (omega (arith, long, same, ends (counts_of stored)))
 
-pub never_deep : (stored : StoredIn) → IsUnwritten 4 16 stored root_tree TooDeep → ⊥
-never_deep stored (n, links, is, high) = high (root_low n links is)
+pub never_deep : (stored : StoredIn) → IsUnwritten new_k stored root_tree TooDeep → ⊥
+never_deep stored (n, o, is, high) = high (root_low stored n o is)
 
 -- ---- it reads so
 
@@ -201,16 +203,16 @@ no_array : AreStoredIn none_stored root_tree
 no_array zero o d is array = absurd (let group : Group empty ≡ Array d = ap (λ (x : Object). x.content) (root_is o is) ∙ array in cc)
 no_array (suc n) o d is array = absurd (let none : None ≡ Some o = sym (get-root_tree_other n) ∙ is in cc)
 
-same_table : table_of 4 16 (counts_of none_stored) root_order ≡ root_table
+same_table : table_of new_k (counts_of none_stored) root_order ≡ root_table
 unfolding root_table
 same_table = refl
 
-pub empty_reading : IsPlainReading empty_file 4 16 root_table root_tree
+pub empty_reading : IsPlainReading empty_file new_k root_table root_tree
 empty_reading =
-    let can : IsPlainTree 4 16 none_stored root_tree = record { k = k; sound = root_sound; each = root_plain; low = root_low; chunks = no_array } in
-    subst (λ (image : List ℕ). IsPlainReading image 4 16 root_table root_tree) (same_image none_stored)
-    (subst (λ (table : FinMap nat_cmp ℕ). IsPlainReading (plain_image 4 16 none_stored root_tree root_order) 4 16 table root_tree) same_table
-    (plain_reads 4 16 none_stored root_tree root_order can is_order (omega (arith, ends (counts_of none_stored)))))
+    let can : IsPlainTree new_k none_stored root_tree = record { in_range = in_range; sound = root_sound; each = root_plain; low = root_low none_stored; chunks = no_array } in
+    subst (λ (image : List ℕ). IsPlainReading image new_k root_table root_tree) (same_image none_stored)
+    (subst (λ (table : FinMap nat_cmp ℕ). IsPlainReading (plain_image new_k none_stored root_tree root_order) new_k table root_tree) same_table
+    (plain_reads new_k none_stored root_tree root_order can is_order (omega (arith, ends (counts_of none_stored)))))
 
 -- ---- it is what is handed to the writer
 

@@ -4,9 +4,9 @@ use Rattle.std.proofs.lemmas.Option.{same_Some}
 use Rattle.std.specs.Prelude.{slice_get, is_some, IsSome}
 use Rattle.std.specs.List.{AllZip}
 use Rattle.std.specs.FinMap.{get}
-use Rattle.std.specs.Option.{option_and_then, option_flatten}
+use Rattle.std.specs.Option.{option_flatten}
 use Rattle.h5_model.specs.Format.PlainLength.{plain_length}
-use Rattle.h5_model.specs.Tree.Objects.{Tree, Object, Group, Links, links_in, links_of}
+use Rattle.h5_model.specs.Tree.Objects.{Tree, Object}
 use Rattle.h5_repack.specs.Image.Written.{counts_of, end_from, image_end, object_length}
 use Rattle.h5_repack.specs.Objects.Objects.{stored_in}
 use Rattle.h5_repack.proofs.ImageLaws.ImageLength.{image_length}
@@ -18,54 +18,58 @@ use Rattle.h5_repack.specs.declared.size.Size.{Size}
 use Rattle.h5_repack.specs.declared.write.WriteFault.{WriteFault}
 use Rattle.h5_repack.specs.declared.write.WriteFault.TheVariants.{TooLong, TooDeep, NoMemory}
 use Rattle.h5_repack.specs.Layout.{AreUnmeasured, IsSlotSize, IsUnplaced, StoredObject, stored_length}
+use Rattle.h5_repack.specs.Image.Plain.{IsLowContent}
 use Rattle.h5_repack.specs.Written.{IsTreeToWrite, IsUnwritten}
 use Rattle.h5_repack.proofs.Orders.{end_is, found_back, in_order, in_pairs, is_order, listed, numbers, object, pairs, stored_listed, there_is}
+use Rattle.h5_model.specs.declared.k_values.KValues.{KValues}
+use Rattle.h5_model.specs.Format.Plain.{plain_superblock_length}
 
 -- an object is no longer than all of them
-member_within : (leaf internal : ℕ) (counts : ℕ → ℕ) (at : ℕ) (es : List (ℕ × Object)) (n : ℕ) (o : Object) → In (n, o) es
-    → object_length leaf internal (counts n) o ≤ end_from leaf internal counts at es
-member_within leaf internal counts at [] n o there = absurd there
-member_within leaf internal counts at (e ∷ es) n o (inl is) =
-    let own : object_length leaf internal (counts e.0) e.1 ≡ object_length leaf internal (counts n) o
-    = ap (λ (x : ℕ × Object). object_length leaf internal (counts x.0) x.1) is in
-    omega (arith, own, end_rises leaf internal counts (at + object_length leaf internal (counts e.0) e.1) es)
-member_within leaf internal counts at (e ∷ es) n o (inr there) = member_within leaf internal counts (at + object_length leaf internal (counts e.0) e.1) es n o there
+member_within : (k : KValues) (counts : ℕ → ℕ) (at : ℕ) (es : List (ℕ × Object)) (n : ℕ) (o : Object) → In (n, o) es
+    → object_length k (counts n) o ≤ end_from k counts at es
+member_within k counts at [] n o there = absurd there
+member_within k counts at (e ∷ es) n o (inl is) =
+    let own : object_length k (counts e.0) e.1 ≡ object_length k (counts n) o
+    = ap (λ (x : ℕ × Object). object_length k (counts x.0) x.1) is in
+    omega (arith, own, end_rises k counts (at + object_length k (counts e.0) e.1) es)
+member_within k counts at (e ∷ es) n o (inr there) = member_within k counts (at + object_length k (counts e.0) e.1) es n o there
 
-module _ (leaf internal : ℕ) (objects : List (Option NewObject)) (tree : Tree) (held : IsTreeToWrite objects tree) (order : List ℕ) (met : AreMet tree order) where
+module _ (k : KValues) (objects : List (Option NewObject)) (tree : Tree) (held : IsTreeToWrite objects tree) (order : List ℕ) (met : AreMet tree order) where
   abbrev counts : ℕ → ℕ
   counts = counts_of (stored_in objects)
 
-  whole_length : image_end leaf internal counts (pairs objects tree held order met) ≡ plain_length leaf internal 32 counts tree
-  whole_length = image_length leaf internal counts tree (pairs objects tree held order met) (is_order objects tree held order met)
+  whole_length : image_end k counts (pairs objects tree held order met) ≡ plain_length k counts tree
+  whole_length = image_length k counts tree (pairs objects tree held order met) (is_order objects tree held order met)
 
-  object_long : (n : ℕ) (o : Object) → slice_get (listed objects tree held) n ≡ Some (Some o) → 2 ^ 31 < object_length leaf internal (counts n) o
-      → 2 ^ 31 < plain_length leaf internal 32 counts tree
+  object_long : (n : ℕ) (o : Object) → slice_get (listed objects tree held) n ≡ Some (Some o) → 2 ^ 31 < object_length k (counts n) o
+      → 2 ^ 31 < plain_length k counts tree
   object_long n o is long =
       let found : get tree n ≡ Some o = numbers objects tree held n ∙ ap option_flatten is in
       let some : IsSome (get tree n) = ap is_some found in
       let own : object objects tree held n ≡ o = same_Some (object objects tree held n) o (ap option_flatten (sym (there_is objects tree held n some) ∙ is)) in
       let there : In (n, o) (pairs objects tree held order met)
       = subst (λ (x : Object). In (n, x) (pairs objects tree held order met)) own (in_pairs (object objects tree held) order n (in_order objects tree held order met n some)) in
-      omega (arith, member_within leaf internal counts 96 (pairs objects tree held order met) n o there, long, whole_length)
+      omega (arith, member_within k counts (plain_superblock_length k) (pairs objects tree held order met) n o there, long, whole_length)
 
-  stored_long : (n : ℕ) (w : StoredObject) → slice_get (stored_listed objects tree held) n ≡ Some (Some w) → 2 ^ 31 < stored_length leaf internal w
-      → 2 ^ 31 < plain_length leaf internal 32 counts tree
+  stored_long : (n : ℕ) (w : StoredObject) → slice_get (stored_listed objects tree held) n ≡ Some (Some w) → 2 ^ 31 < stored_length k w
+      → 2 ^ 31 < plain_length k counts tree
   stored_long n w is long =
       let back = found_back objects tree held n w is in
-      object_long n w.object back.0 (subst (λ (chunks : List (List ℕ)). 2 ^ 31 < object_length leaf internal (length chunks) w.object) (sym back.1) long)
+      object_long n w.object back.0 (subst (λ (chunks : List (List ℕ)). 2 ^ 31 < object_length k (length chunks) w.object) (sym back.1) long)
 
-  group_there : (n : ℕ) (o : Object) (links : Links) → slice_get (listed objects tree held) n ≡ Some (Some o) → o.content ≡ Group links → links_of tree n ≡ Some links
-  group_there n o links is content =
-      ap (λ (r : Option Object). option_and_then (λ (x : Object). links_in x.content) r) (numbers objects tree held n ∙ ap option_flatten is) ∙ ap links_in content
-
-  pub unwritten_measured : (fault : WriteFault) → AreUnmeasured leaf internal (stored_listed objects tree held) fault → IsUnwritten leaf internal (stored_in objects) tree fault
+  pub unwritten_measured : (fault : WriteFault) → AreUnmeasured k (stored_listed objects tree held) fault → IsUnwritten k (stored_in objects) tree fault
   unwritten_measured TooLong un = stored_long un.0 un.1 un.2 un.3
   unwritten_measured TooDeep un =
-      (un.0, un.3.0, group_there un.0 (un.1).object un.3.0 (found_back objects tree held un.0 un.1 un.2).0 un.3.1, un.3.2)
+      let back = found_back objects tree held un.0 un.1 un.2 in (
+        un.0,
+        (un.1).object,
+        numbers objects tree held un.0 ∙ ap option_flatten back.0,
+        λ low. un.3 (subst (λ (chunks : List (List ℕ)). IsLowContent k (length chunks) ((un.1).object).content) back.1 low),
+      )
   unwritten_measured NoMemory un = tt
 
-  pub unwritten_placed : (sizes : List Size) → AllZip (IsSlotSize leaf internal) (stored_listed objects tree held) sizes → (fault : WriteFault) → IsUnplaced sizes order fault
-      → IsUnwritten leaf internal (stored_in objects) tree fault
-  unwritten_placed sizes sized TooLong un = omega (arith, un, end_is objects tree held order met leaf internal sizes sized, whole_length)
+  pub unwritten_placed : (sizes : List Size) → AllZip (IsSlotSize k) (stored_listed objects tree held) sizes → (fault : WriteFault) → IsUnplaced k sizes order fault
+      → IsUnwritten k (stored_in objects) tree fault
+  unwritten_placed sizes sized TooLong un = omega (arith, un, end_is objects tree held order met k sizes sized, whole_length)
   unwritten_placed sizes sized TooDeep un = absurd un
   unwritten_placed sizes sized NoMemory un = tt

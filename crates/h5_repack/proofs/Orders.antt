@@ -29,6 +29,8 @@ use Rattle.h5_repack.specs.Layout.{AreHeaders, IsHeldObject, IsLowLayout, IsLowS
 use Rattle.h5_repack.specs.Written.{IsTreeToWrite}
 use Rattle.h5_repack.proofs.Headers.{end_same, find_none, headers_found, headers_kept, length-headers, placed_within}
 use Rattle.h5_repack.proofs.ObjectLaws.Zips.{filled_below, flat_some, slots_left, zip_left, zip_right}
+use Rattle.h5_model.specs.declared.k_values.KValues.{KValues}
+use Rattle.h5_model.specs.Format.Plain.{plain_superblock_length}
 
 -- ---- members
 
@@ -111,7 +113,7 @@ stored_none (x ∷ objects) (place ∷ listed) all zero slot is none =
     sym (same_Some (slot_stored x place) slot is) ∙ ap (λ (r : Option Object). slot_stored x r) none
 stored_none (x ∷ objects) (place ∷ listed) all (suc n) slot is none = stored_none objects listed all.1 n slot is none
 
-new_stored : (k : NewContent) (d : Dataset) → IsNewContent k (Array d) → AreStoredFor (content_chunks k) d
+new_stored : (y : NewContent) (d : Dataset) → IsNewContent y (Array d) → AreStoredFor (content_chunks y) d
 new_stored (content.Group links) d new = absurd new
 new_stored (content.Array a c) d new = new.stored_are
 
@@ -215,37 +217,37 @@ module _ (objects : List (Option NewObject)) (tree : Tree) (held : IsTreeToWrite
       distinct = subst (λ (ns : List ℕ). IsDistinct (eq_by_cmp nat_cmp) ns) (sym (numbers_of object order)) met.distinct;
     }
 
-    module _ (leaf internal : ℕ) (sizes : List Size) (sized : AllZip (IsSlotSize leaf internal) stored_listed sizes) where
+    module _ (k : KValues) (sizes : List Size) (sized : AllZip (IsSlotSize k) stored_listed sizes) where
       pub as_many_sizes : length objects ≡ length sizes
-      as_many_sizes = as_many ∙ sym (AllZip-long (IsSlotSize leaf internal) stored_listed sizes sized)
+      as_many_sizes = as_many ∙ sym (AllZip-long (IsSlotSize k) stored_listed sizes sized)
 
-      pub size_of : (n : ℕ) → IsSome (get tree n) → (s : Size) × (slice_get sizes n ≡ Some s) × IsSize leaf internal (stored_object n) s
-      size_of n some = zip_right (IsSlotSize leaf internal) stored_listed sizes n (Some (stored_object n)) sized (stored_there n some)
+      pub size_of : (n : ℕ) → IsSome (get tree n) → (s : Size) × (slice_get sizes n ≡ Some s) × IsSize k (stored_object n) s
+      size_of n some = zip_right (IsSlotSize k) stored_listed sizes n (Some (stored_object n)) sized (stored_there n some)
 
-      low_slot : (place : Option StoredObject) (s : Size) → IsSlotSize leaf internal place s → IsLowSize s
+      low_slot : (place : Option StoredObject) (s : Size) → IsSlotSize k place s → IsLowSize s
       low_slot (Some o) s is = is.low
       low_slot None s is = subst IsLowSize (sym is) (record { header = omega arith; extent_low = omega arith })
 
       pub low_size : (n : ℕ) (s : Size) → slice_get sizes n ≡ Some s → IsLowSize s
-      low_size n s found = let place = zip_left (IsSlotSize leaf internal) stored_listed sizes n s sized found in low_slot place.0 s place.2
+      low_size n s found = let place = zip_left (IsSlotSize k) stored_listed sizes n s sized found in low_slot place.0 s place.2
 
       -- a number without an object has no bytes
       pub empty_size : (n : ℕ) (s : Size) → get tree n ≡ None → slice_get sizes n ≡ Some s → s ≡ no_size
       empty_size n s none found =
-          let place = zip_left (IsSlotSize leaf internal) stored_listed sizes n s sized found in
+          let place = zip_left (IsSlotSize k) stored_listed sizes n s sized found in
           go place.0 (stored_none objects listed (held.objects_are).each n place.0 place.1 (sym (numbers n) ∙ none)) place.2 where
-            go : (place : Option StoredObject) → place ≡ None → IsSlotSize leaf internal place s → s ≡ no_size
+            go : (place : Option StoredObject) → place ≡ None → IsSlotSize k place s → s ≡ no_size
             go None is size = size
             go (Some o) is size = absurd (cc)
 
       pub length_is : (n : ℕ) (s : Size) → slice_get sizes n ≡ Some s → length_by_number sizes n ≡ size_length s
       length_is n s found = ap (λ (r : Option Size). option_map_or size_length r 0) found
 
-      pub lengths_are : (n : ℕ) → In n order → object_length leaf internal (counts_of stored n) (object n) ≡ length_by_number sizes n
+      pub lengths_are : (n : ℕ) → In n order → object_length k (counts_of stored n) (object n) ≡ length_by_number sizes n
       lengths_are n at = let s = size_of n (there n at) in sym (length_is n s.0 s.1 ∙ (s.2).whole)
 
-      pub end_is : image_end leaf internal (counts_of stored) pairs ≡ end_of (length_by_number sizes) 96 order
-      end_is = end_same (length_by_number sizes) leaf internal (counts_of stored) object 96 order lengths_are
+      pub end_is : image_end k (counts_of stored) pairs ≡ end_of (length_by_number sizes) (plain_superblock_length k) order
+      end_is = end_same (length_by_number sizes) k (counts_of stored) object (plain_superblock_length k) order lengths_are
 
       abbrev nowhere : List (Option ℕ)
       nowhere = replicate (length sizes) None
@@ -253,27 +255,27 @@ module _ (objects : List (Option NewObject)) (tree : Tree) (held : IsTreeToWrite
       below_nowhere : (n : ℕ) → In n order → n < length nowhere
       below_nowhere n at = omega (arith, below n at, length-replicate {A = Option ℕ} (length sizes) None, as_many_sizes)
 
-      module _ (p : Placed) (are : AreHeaders sizes order p) where
+      module _ (p : Placed) (are : AreHeaders k sizes order p) where
         pub as_many_headers : length p.headers.items ≡ length sizes
-        as_many_headers = ap length are.headers_are ∙ length-headers (length_by_number sizes) 96 order nowhere ∙ length-replicate {A = Option ℕ} (length sizes) None
+        as_many_headers = ap length are.headers_are ∙ length-headers (length_by_number sizes) (plain_superblock_length k) order nowhere ∙ length-replicate {A = Option ℕ} (length sizes) None
 
         -- a number that is not met has no header
         pub no_header : (n : ℕ) → (In n order → ⊥) → option_flatten (slice_get p.headers.items n) ≡ None
         no_header n other =
             ap (λ (hs : List (Option ℕ)). option_flatten (slice_get hs n)) are.headers_are
-            ∙ ap option_flatten (headers_kept (length_by_number sizes) 96 order nowhere n other) ∙ none_at (length sizes) n where
-              none_at : (k m : ℕ) → ◌≡◌ {A = Option ℕ} (option_flatten (slice_get (replicate k None) m)) None
+            ∙ ap option_flatten (headers_kept (length_by_number sizes) (plain_superblock_length k) order nowhere n other) ∙ none_at (length sizes) n where
+              none_at : (y m : ℕ) → ◌≡◌ {A = Option ℕ} (option_flatten (slice_get (replicate y None) m)) None
               none_at zero m = refl
-              none_at (suc k) zero = refl
-              none_at (suc k) (suc m) = none_at k m
+              none_at (suc y) zero = refl
+              none_at (suc y) (suc m) = none_at y m
 
-        pub headers_are : (n : ℕ) → option_flatten (slice_get p.headers.items n) ≡ get (table_of leaf internal (counts_of stored) pairs) n
+        pub headers_are : (n : ℕ) → option_flatten (slice_get p.headers.items n) ≡ get (table_of k (counts_of stored) pairs) n
         headers_are n = elim (met_or_none n) [
           | inl inside ↦
               ap (λ (hs : List (Option ℕ)). option_flatten (slice_get hs n)) are.headers_are
-              ∙ headers_found (length_by_number sizes) leaf internal (counts_of stored) object 96 order nowhere lengths_are apart below_nowhere n inside ∙ sym (table_find leaf internal (counts_of stored) pairs n)
+              ∙ headers_found (length_by_number sizes) k (counts_of stored) object (plain_superblock_length k) order nowhere lengths_are apart below_nowhere n inside ∙ sym (table_find k (counts_of stored) pairs n)
           | inr none ↦
-              no_header n none.1 ∙ sym (table_find leaf internal (counts_of stored) pairs n ∙ find_none (length_by_number sizes) leaf internal (counts_of stored) object 96 order n none.1)
+              no_header n none.1 ∙ sym (table_find k (counts_of stored) pairs n ∙ find_none (length_by_number sizes) k (counts_of stored) object (plain_superblock_length k) order n none.1)
         ]
 
         pub low_layout : (l : Layout) → l.headers.now ≡ p.headers.items → l.sizes.now ≡ sizes → IsLowLayout l
@@ -288,7 +290,7 @@ module _ (objects : List (Option NewObject)) (tree : Tree) (held : IsTreeToWrite
           each_low : (n : ℕ) (s : Size) → slice_get sizes n ≡ Some s → header_by l n + size_length s ≤ 2 ^ 31
           each_low n s found = elim (met_or_none n) [
             | inl inside ↦
-                let at = placed_within (length_by_number sizes) 96 order nowhere apart below_nowhere n inside in
+                let at = placed_within (length_by_number sizes) (plain_superblock_length k) order nowhere apart below_nowhere n inside in
                 let place : option_flatten (slice_get p.headers.items n) ≡ Some at.0
                 = ap (λ (hs : List (Option ℕ)). option_flatten (slice_get hs n)) are.headers_are ∙ ap option_flatten at.1 in
                 omega (arith, stands n (Some at.0) place, at.2, length_is n s found, are.end_is, are.few)

@@ -5,18 +5,18 @@ use Rattle.std.specs.List.{AllZip}
 use Rattle.std.specs.Option.{option_flatten, option_map_or}
 use Rattle.h5_model.specs.Format.Bodies.{pair_bytes}
 use Rattle.h5_model.specs.Format.MessageTypes.{symbol_table_kind}
-use Rattle.h5_model.specs.Format.Plain.{header_bytes, superblock_bytes}
+use Rattle.h5_model.specs.Format.Plain.{header_bytes, plain_superblock_length, superblock_bytes}
 use Rattle.h5_model.specs.Format.PlainLength.{data_bytes}
-use Rattle.h5_model.specs.Format.PlainSuperblock.{plain_superblock_length, plain_chunk_k}
+use Rattle.h5_model.specs.Format.Superblock.{chunk_k_of}
 use Rattle.h5_model.specs.Format.Sizes.{header_size}
 use Rattle.h5_model.specs.Tree.Objects.{Object, Content, Group, Array, Dataset, Link, Links, ToObject, Soft}
 use Rattle.h5_repack.specs.Bodies.Bodies.{others_of, array_messages}
-use Rattle.h5_repack.specs.Bodies.Headers.{data_of}
+use Rattle.h5_repack.specs.Bodies.Headers.{IsLowStorage, data_of}
 use Rattle.h5_group.specs.Heap.Links.{Leads, ToGroup, ToArray, ToText}
 use Rattle.h5_group.specs.Writing.Written.{links_bytes}
 use Rattle.h5_group.specs.Writing.Laws as laws
 use Rattle.h5_group.specs.Writing.Places.{ArePlaces}
-use Rattle.h5_repack.specs.Image.Plain.{IsPlain, IsLow}
+use Rattle.h5_repack.specs.Image.Plain.{IsPlain, IsLowContent}
 use Rattle.h5_repack.specs.Image.Written.{object_length, content_place, group_heap_place, data_address}
 use Rattle.h5_repack.specs.Blocks.Others.{OthersBytes}
 use Rattle.h5_repack.specs.Blocks.Written.{AreOthers, chunks_of}
@@ -34,6 +34,7 @@ use Rattle.h5_repack.specs.declared.group.Layout.{Layout}
 use Rattle.h5_repack.specs.declared.place.Placed.{Placed}
 use Rattle.h5_repack.specs.declared.write.WriteFault.{WriteFault}
 use Rattle.h5_repack.specs.declared.write.WriteFault.TheVariants.{TooLong, TooDeep, NoMemory}
+use Rattle.h5_model.specs.declared.k_values.KValues.{KValues}
 
 -- ---- objects
 
@@ -81,40 +82,40 @@ pub record IsLowSize (s : Size) : Type 0 where
   pub header : s.header ≤ 2 ^ 31
   pub extent_low : IsLowExtent s.extent
 
--- a group's links lie so wherever their objects stand, and an array with so many stored chunks has these data
-abbrev pub IsExtent : ℕ → ℕ → ℕ → Content → Extent → Type 0
-IsExtent leaf internal count (Group links) (extent.Links p) = (ls : List (List ℕ × Leads)) → AllZip laws.IsLinkWritten (entries links) ls → ArePlaces leaf internal ls p
-IsExtent leaf internal count (Array d) (extent.Data n) = n ≡ data_bytes plain_chunk_k count d
-IsExtent leaf internal count _ _ = ⊥
+-- a group's links lie so wherever their objects stand; an array with so many stored chunks has these data, and a tree of at most 16 levels
+abbrev pub IsExtent : KValues → ℕ → Content → Extent → Type 0
+IsExtent k count (Group links) (extent.Links p) = (ls : List (List ℕ × Leads)) → AllZip laws.IsLinkWritten (entries links) ls → ArePlaces k.leaf k.internal ls p
+IsExtent k count (Array d) (extent.Data n) = (n ≡ data_bytes (chunk_k_of k) count d) × IsLowStorage (chunk_k_of k) count d.storage
+IsExtent k count _ _ = ⊥
 
 -- how many bytes an object has with its stored chunks
-abbrev pub stored_length : ℕ → ℕ → StoredObject → ℕ
-stored_length leaf internal o = object_length leaf internal (length o.chunks) o.object
+abbrev pub stored_length : KValues → StoredObject → ℕ
+stored_length k o = object_length k (length o.chunks) o.object
 
-pub record IsSize (leaf internal : ℕ) (o : StoredObject) (s : Size) : Type 0 where
+pub record IsSize (k : KValues) (o : StoredObject) (s : Size) : Type 0 where
   pub header : s.header ≡ header_size o.object
-  pub extent_is : IsExtent leaf internal (length o.chunks) (o.object).content s.extent
-  pub whole : size_length s ≡ stored_length leaf internal o
+  pub extent_is : IsExtent k (length o.chunks) (o.object).content s.extent
+  pub whole : size_length s ≡ stored_length k o
   pub low : IsLowSize s
 
 -- an empty slot has no bytes
 abbrev pub no_size : Size
 no_size = record { header = 0; extent = extent.Data 0 }
 
-abbrev pub IsSlotSize : ℕ → ℕ → Option StoredObject → Size → Type 0
-IsSlotSize leaf internal (Some o) s = IsSize leaf internal o s
-IsSlotSize leaf internal None s = s ≡ no_size
+abbrev pub IsSlotSize : KValues → Option StoredObject → Size → Type 0
+IsSlotSize k (Some o) s = IsSize k o s
+IsSlotSize k None s = s ≡ no_size
 
 -- why an object's size is none that an image can have
-abbrev pub IsUnmeasured : ℕ → ℕ → StoredObject → WriteFault → Type 0
-IsUnmeasured leaf internal o TooLong = 2 ^ 31 < stored_length leaf internal o
-IsUnmeasured leaf internal o TooDeep = (links : Links) × ((o.object).content ≡ Group links) × (IsLow leaf internal links → ⊥)
-IsUnmeasured leaf internal o NoMemory = Unit {0}
+abbrev pub IsUnmeasured : KValues → StoredObject → WriteFault → Type 0
+IsUnmeasured k o TooLong = 2 ^ 31 < stored_length k o
+IsUnmeasured k o TooDeep = IsLowContent k (length o.chunks) (o.object).content → ⊥
+IsUnmeasured k o NoMemory = Unit {0}
 
-abbrev pub AreUnmeasured : ℕ → ℕ → List (Option StoredObject) → WriteFault → Type 0
-AreUnmeasured leaf internal listed TooLong = (number : ℕ) × (o : StoredObject) × (slice_get listed number ≡ Some (Some o)) × IsUnmeasured leaf internal o TooLong
-AreUnmeasured leaf internal listed TooDeep = (number : ℕ) × (o : StoredObject) × (slice_get listed number ≡ Some (Some o)) × IsUnmeasured leaf internal o TooDeep
-AreUnmeasured leaf internal listed NoMemory = Unit {0}
+abbrev pub AreUnmeasured : KValues → List (Option StoredObject) → WriteFault → Type 0
+AreUnmeasured k listed TooLong = (number : ℕ) × (o : StoredObject) × (slice_get listed number ≡ Some (Some o)) × IsUnmeasured k o TooLong
+AreUnmeasured k listed TooDeep = (number : ℕ) × (o : StoredObject) × (slice_get listed number ≡ Some (Some o)) × IsUnmeasured k o TooDeep
+AreUnmeasured k listed NoMemory = Unit {0}
 
 -- ---- places
 
@@ -132,15 +133,15 @@ abbrev pub headers_of : (ℕ → ℕ) → ℕ → List ℕ → List (Option ℕ)
 headers_of lengths at [] headers = headers
 headers_of lengths at (number ∷ order) headers = headers_of lengths (at + lengths number) order (slice_set headers number (Some at))
 
-pub record AreHeaders (sizes : List Size) (order : List ℕ) (p : Placed) : Type 0 where
-  pub end_is : p.end ≡ end_of (length_by_number sizes) plain_superblock_length order
-  pub headers_are : p.headers.items ≡ headers_of (length_by_number sizes) plain_superblock_length order (replicate (length sizes) None)
+pub record AreHeaders (k : KValues) (sizes : List Size) (order : List ℕ) (p : Placed) : Type 0 where
+  pub end_is : p.end ≡ end_of (length_by_number sizes) (plain_superblock_length k) order
+  pub headers_are : p.headers.items ≡ headers_of (length_by_number sizes) (plain_superblock_length k) order (replicate (length sizes) None)
   pub few : p.end ≤ 2 ^ 31
 
-abbrev pub IsUnplaced : List Size → List ℕ → WriteFault → Type 0
-IsUnplaced sizes order TooLong = 2 ^ 31 < end_of (length_by_number sizes) plain_superblock_length order
-IsUnplaced sizes order TooDeep = ⊥
-IsUnplaced sizes order NoMemory = Unit {0}
+abbrev pub IsUnplaced : KValues → List Size → List ℕ → WriteFault → Type 0
+IsUnplaced k sizes order TooLong = 2 ^ 31 < end_of (length_by_number sizes) (plain_superblock_length k) order
+IsUnplaced k sizes order TooDeep = ⊥
+IsUnplaced k sizes order NoMemory = Unit {0}
 
 -- ---- a layout: the headers and sizes of objects by their numbers
 
@@ -177,17 +178,17 @@ written_at l (name, Soft text) = (name, ToText text)
 
 -- ---- bytes
 
--- an array's, whose data have this place
-abbrev pub array_at : ℕ → ℕ → StoredObject → Dataset → List ℕ
-array_at place count o d =
-    header_bytes count (array_messages d (data_address o.chunks d place) (length (others_of o.object)) ++ others_of o.object) ++ data_of o.chunks d place
+-- an array's, whose chunks have this K and whose data have this place
+abbrev pub array_at : ℕ → ℕ → ℕ → StoredObject → Dataset → List ℕ
+array_at chunk_k place count o d =
+    header_bytes count (array_messages d (data_address o.chunks d place) (length (others_of o.object)) ++ others_of o.object) ++ data_of chunk_k o.chunks d place
 
 -- the bytes of an object whose header stands there and to which so many links lead
 abbrev pub content_at : Layout → ℕ → ℕ → StoredObject → Content → List ℕ
 content_at l header count o (Group links) =
-    header_bytes 1 ((symbol_table_kind, pair_bytes (content_place o.object header) (group_heap_place l.leaf l.internal o.object links header)) ∷ others_of o.object)
-    ++ links_bytes l.leaf l.internal (content_place o.object header) (map (written_at l) (entries links))
-content_at l header count o (Array d) = array_at (content_place o.object header) count o d
+    header_bytes 1 ((symbol_table_kind, pair_bytes (content_place o.object header) (group_heap_place l.k o.object links header)) ∷ others_of o.object)
+    ++ links_bytes (l.k).leaf (l.k).internal (content_place o.object header) (map (written_at l) (entries links))
+content_at l header count o (Array d) = array_at (chunk_k_of l.k) (content_place o.object header) count o d
 
 abbrev pub laid_object : Layout → ℕ → ℕ → StoredObject → List ℕ
 laid_object l header count o = content_at l header count o (o.object).content
@@ -198,5 +199,5 @@ numbered_at l counts listed number =
 
 -- the superblock before objects whose root has this size
 abbrev pub front_at : Layout → Size → ℕ → List ℕ
-front_at l root end = superblock_bytes l.leaf l.internal end plain_superblock_length (plain_superblock_length + root.header)
-    (heap_behind (plain_superblock_length + root.header) root.extent)
+front_at l root end = superblock_bytes l.k end (plain_superblock_length l.k) (plain_superblock_length l.k + root.header)
+    (heap_behind (plain_superblock_length l.k + root.header) root.extent)

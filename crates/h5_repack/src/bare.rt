@@ -5,13 +5,14 @@ ghost use Rattle.std.specs.Prelude.{◌≡◌, ℕ, ◌+◌, ◌^◌, ◌≤◌,
 ghost use Rattle.h5_group.specs.Writing.Places.{ArePlaces};
 ghost use Rattle.h5_group.specs.Writing.Written.{links_bytes};
 ghost use Rattle.h5_model.specs.Format.Sizes.{group_node};
-ghost use Rattle.h5_model.specs.Format.Superblock.{AreK};
+ghost use Rattle.h5_model.specs.Format.Superblock.{AreK, AreKValues};
 ghost use Rattle.h5_repack.specs.Bodies.Headers.{group_header};
 
 use crate::blocks::{GROUP_HEADER, Others};
 use crate::group::nowhere;
 use crate::object::push_group;
 use h5_group::GroupPlaces;
+use h5_model::KValues;
 use h5_msg::SymbolTable;
 use std::alloc::{AllocError, Global};
 
@@ -59,19 +60,19 @@ pub fn bare_group_table(internal: u16, at: u64) -> SymbolTable
 pub fn push_bare_group(
     alloc: Global,
     out: &mut Vec<u8>,
-    leaf: u16,
-    internal: u16,
+    k: &KValues,
     at: u64,
 ) -> Result<(), AllocError>
-    requires k { AreK leaf internal }
-    requires low { at + group_node internal + 160 ≤ 2 ^ 31 }
+    requires k { AreKValues k.now }
+    requires low { at + group_node k.now.internal + 160 ≤ 2 ^ 31 }
     ensures bytes { OnOk result (out.new.items ≡ out.old.items
-        ++ (group_header (at + 40) (at + 40 + group_node internal) []
-        ++ links_bytes leaf internal (at + 40) [])) }
-    ensures long { OnOk result (length out.new.items ≡ length out.old.items + (group_node internal + 160)) }
+        ++ (group_header (at + 40) (at + 40 + group_node k.now.internal) []
+        ++ links_bytes k.now.leaf k.now.internal (at + 40) [])) }
+    ensures long { OnOk result
+        (length out.new.items ≡ length out.old.items + (group_node k.now.internal + 160)) }
 {
-    let places = bare_places(internal);
-    let layout = nowhere(leaf, internal);
+    let places = bare_places(k.internal);
+    let layout = nowhere(k);
     push_group(
         alloc,
         out,

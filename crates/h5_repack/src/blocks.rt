@@ -10,6 +10,7 @@ mod layout;
 mod others;
 mod space;
 
+pub(crate) use crate::blocks::cells::has_low_tree;
 pub use crate::blocks::cells::{Cells, cells_address, data_length, push_data};
 pub use crate::blocks::header::{
     GROUP_HEADER, array_header_length, group_header_length, push_array_header, push_group_header,

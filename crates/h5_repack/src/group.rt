@@ -7,29 +7,26 @@ ghost use Rattle.h5_repack.specs.Layout.{IsLowLayout, header_by, leads_by, writt
 
 use crate::size::{Extent, Size};
 use h5_group::ObjectPlace;
-use h5_model::{Link, LinkTo, ObjectNo};
+use h5_model::{KValues, Link, LinkTo, ObjectNo};
 use std::alloc::{AllocError, Global};
 
 /// Where objects stand: the addresses of their headers and their sizes, by their numbers; and the K values of the image. A number
 /// without an object has no header, and no bytes.
 #[derive(Clone, Copy)]
 pub(crate) struct Layout<'a> {
-    pub leaf: u16,
-    pub internal: u16,
+    pub k: KValues,
     pub headers: &'a [Option<u64>],
     pub sizes: &'a [Size],
 }
 
 /// A layout in which no object stands yet.
-pub(crate) fn nowhere<'a>(leaf: u16, internal: u16) -> Layout<'a>
+pub(crate) fn nowhere<'a>(k: &KValues) -> Layout<'a>
     ensures low { IsLowLayout result }
-    ensures leaf { result.leaf ≡ leaf }
-    ensures internal { result.internal ≡ internal }
+    ensures k { result.k ≡ k.now }
     ensures none { result.sizes.now ≡ [] }
 {
     Layout {
-        leaf,
-        internal,
+        k: *k,
         headers: &[],
         sizes: &[],
     }

@@ -2,8 +2,10 @@
 
 ghost use Rattle.std.specs.Prelude.{◌≡◌, ◌+◌, ◌^◌, ◌<◌, ◌≤◌, ◌++◌, List, Option, OnOk, Some, length, map, slice_get};
 ghost use Rattle.std.specs.List.{AllByRecursion, AllZip, flat_map};
-ghost use Rattle.h5_model.specs.Format.Superblock.{AreK};
+ghost use Rattle.h5_model.specs.Format.Superblock.{AreKValues};
 ghost use Rattle.h5_group.specs.Writing.Written.{links_bytes};
+ghost use Rattle.h5_btree.specs.Writing.Written.{root_level};
+ghost use Rattle.h5_repack.specs.Blocks.Written.{chunks_of};
 ghost use Rattle.h5_repack.specs.Blocks.ArrayHeader.{data_written, group_written};
 ghost use Rattle.h5_model.specs.Tree.Links.{tree_link};
 ghost use Rattle.h5_repack.specs.declared.size.Extent.TheVariants.{Links};
@@ -31,45 +33,58 @@ pub(crate) fn push_group(
     links: &[Link<'_, ObjectNo>],
     others: &Others,
 ) -> Result<(), AllocError>
-    requires k { AreK layout.now.leaf layout.now.internal }
+    requires k { AreKValues layout.now.k }
     requires layout { IsLowLayout layout.now }
     requires held { (o : StoredObject) × IsGroupObject links.now others.now o
-        × IsExtent layout.now.leaf layout.now.internal (length o.chunks) (o.object).content
+        × IsExtent layout.now.k (length o.chunks) (o.object).content
         (Links places.now) }
     requires low { at + places.now.length ≤ 2 ^ 31 }
     requires header { length others.now.bytes ≤ 2 ^ 31 }
     ensures { OnOk result
         (out.new.items ≡ out.old.items ++ (group_written at (at + places.now.tree) others.now
-        ++ links_bytes layout.now.leaf layout.now.internal at
+        ++ links_bytes layout.now.k.leaf layout.now.k.internal at
         (map (written_at layout.now) (map tree_link links.now)))) }
 {
     let new = new_links(alloc, layout, links)?;
     push_group_header(out, at, at + places.tree, others)?;
-    push_links(alloc, out, layout.leaf, layout.internal, at, places, &new)?;
+    push_links(
+        alloc,
+        out,
+        layout.k.leaf,
+        layout.k.internal,
+        at,
+        places,
+        &new,
+    )?;
     Ok(())
 }
 
-/// The header of an array to which so many links lead, and behind it, at the place `at`, its data.
+/// The header of an array to which so many links lead, and behind it, at the place `at`, its data. `chunk_k` is K of the nodes of
+/// its chunks.
 fn push_array(
-    alloc: Global,
     out: &mut Vec<u8>,
+    chunk_k: u16,
     at: u64,
     count: u32,
     array: &ArrayRef<'_>,
     cells: &Cells<'_>,
     others: &Others,
 ) -> Result<(), AllocError>
+    requires some { 1 ≤ chunk_k }
+    requires most { chunk_k ≤ 32767 }
     requires held { (o : StoredObject) × IsArrayObject array.now cells.now others.now o }
+    requires level { root_level chunk_k (length (chunks_of cells.now)) ≤ 15 }
     requires low { at ≤ 2 ^ 31 }
-    requires few { length (data_written cells.now array.now at) ≤ 2 ^ 31 }
+    requires few { length (data_written chunk_k cells.now array.now at) ≤ 2 ^ 31 }
     requires header { length others.now.bytes ≤ 2 ^ 31 }
     ensures { OnOk result
         ((o : StoredObject) (is : IsArrayObject array.now cells.now others.now o)
-        → out.new.items ≡ out.old.items ++ array_at at count o is.dataset) }
+        → out.new.items ≡ out.old.items ++ array_at chunk_k at count o is.dataset) }
 {
     let address = cells_address(array, cells, at);
     push_array_header(out, array, cells, others, address, count)?;
-    push_data(alloc, out, array, cells, at)?;
+    let alloc = *out.allocator();
+    push_data(alloc, out, chunk_k, array, cells, at)?;
     Ok(())
 }
 
@@ -82,15 +97,15 @@ fn push_object(
     count: u32,
     object: &NewObject<'_>,
 ) -> Result<(), AllocError>
-    requires k { AreK layout.now.leaf layout.now.internal }
+    requires k { AreKValues layout.now.k }
     requires layout { IsLowLayout layout.now }
     requires held { (o : StoredObject) × (s : Size) × (slice_get layout.now.sizes.now number ≡ Some s)
         × IsHeldObject object.now o
-        × IsSize layout.now.leaf layout.now.internal o s }
+        × IsSize layout.now.k o s }
     ensures { OnOk result
         ((o : StoredObject) (s : Size) → slice_get layout.now.sizes.now number ≡ Some s
         → IsHeldObject object.now o
-        → IsSize layout.now.leaf layout.now.internal o s
+        → IsSize layout.now.k o s
         → out.new.items ≡ out.old.items
         ++ laid_object layout.now (header_by layout.now number) count o) }
 {
@@ -104,7 +119,15 @@ fn push_object(
             Extent::Data(_) => unreachable!(),
         },
         NewContent::Array { array, cells } => {
-            push_array(alloc, out, at, count, array, cells, &object.others)
+            push_array(
+                out,
+                layout.k.chunk_k(),
+                at,
+                count,
+                array,
+                cells,
+                &object.others,
+            )
         }
     }
 }
@@ -118,15 +141,15 @@ pub(crate) fn push_objects(
     counts: &[u32],
     objects: &[Option<NewObject<'_>>],
 ) -> Result<(), AllocError>
-    requires k { AreK layout.now.leaf layout.now.internal }
+    requires k { AreKValues layout.now.k }
     requires layout { IsLowLayout layout.now }
     requires filled { AllByRecursion (IsFilled objects.now) order.now }
     requires counted { length counts.now ≡ length objects.now }
     requires held { (listed : List (Option StoredObject)) × AllZip (SlotsHold IsHeldObject) objects.now listed
-        × AllZip (IsSlotSize layout.now.leaf layout.now.internal) listed layout.now.sizes.now }
+        × AllZip (IsSlotSize layout.now.k) listed layout.now.sizes.now }
     ensures { OnOk result ((listed : List (Option StoredObject))
         → AllZip (SlotsHold IsHeldObject) objects.now listed
-        → AllZip (IsSlotSize layout.now.leaf layout.now.internal) listed layout.now.sizes.now
+        → AllZip (IsSlotSize layout.now.k) listed layout.now.sizes.now
         → out.new.items ≡ out.old.items ++ flat_map (numbered_at layout.now counts.now listed) order.now) }
 {
     for number in order {

@@ -6,7 +6,8 @@ ghost use Rattle.h5_repack.specs.Layout.{AreHeaders, IsLowSize, IsUnplaced};
 
 use crate::size::{Size, whole_length};
 use crate::write::WriteFault;
-use h5_group::{MAXIMUM_IMAGE, SUPERBLOCK};
+use h5_group::{MAXIMUM_IMAGE, length_for};
+use h5_model::KValues;
 use std::alloc::Global;
 
 /// Where objects stand one behind another: the addresses of their headers by their numbers, `None` for a number without an object, and
@@ -17,17 +18,22 @@ pub(crate) struct Placed {
     pub end: u64,
 }
 
-/// Places the objects of these sizes in this order, the first behind the superblock.
-pub(crate) fn place_all(alloc: Global, order: &[u32], sizes: &[Size]) -> Result<Placed, WriteFault>
+/// Places the objects of these sizes in this order, the first behind the superblock of an image with these K values.
+pub(crate) fn place_all(
+    alloc: Global,
+    k: &KValues,
+    order: &[u32],
+    sizes: &[Size],
+) -> Result<Placed, WriteFault>
     requires below { AllByRecursion (λ number. number < length sizes.now) order.now }
     requires low { (number : ℕ) (s : Size) → slice_get sizes.now number ≡ Some s → IsLowSize s }
-    ensures placed { IfOk result (AreHeaders sizes.now order.now) }
-    ensures refused { IfErr result (IsUnplaced sizes.now order.now) }
+    ensures placed { IfOk result (AreHeaders k.now sizes.now order.now) }
+    ensures refused { IfErr result (IsUnplaced k.now sizes.now order.now) }
 {
     let Ok(mut headers) = vec![in alloc; None; sizes.len()] else {
         return Err(WriteFault::NoMemory);
     };
-    let mut end = SUPERBLOCK;
+    let mut end = length_for(k);
     for number in order {
         let number = *number as usize;
         headers[number] = Some(end);

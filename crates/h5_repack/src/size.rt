@@ -2,17 +2,19 @@
 
 ghost use Rattle.std.specs.Prelude.{◌≡◌, ℕ, ◌^◌, ◌<◌, ◌≤◌, List, Option, Some, IfOk, IfErr};
 ghost use Rattle.std.specs.List.{AllZip};
-ghost use Rattle.h5_model.specs.Format.Superblock.{AreK};
+ghost use Rattle.h5_model.specs.Format.Superblock.{AreKValues};
 ghost use Rattle.h5_repack.specs.Layout.{AreUnmeasured, IsArrayObject, IsGroupObject, IsHeldObject, IsLowSize, IsSize, IsSlotSize, IsUnmeasured, StoredObject, size_length};
 ghost use Rattle.h5_repack.specs.Objects.Objects.{SlotsHold};
 
-use crate::blocks::{Cells, Others, array_header_length, data_length, group_header_length};
+use crate::blocks::{
+    Cells, Others, array_header_length, data_length, group_header_length, has_low_tree,
+};
 use crate::group::{new_links, nowhere};
 use crate::objects::{NewContent, NewObject};
 use crate::write::WriteFault;
 use h5_group::{GroupFault, GroupPlaces, MAXIMUM_IMAGE, group_places};
 use h5_layout::ArrayRef;
-use h5_model::{Link, ObjectNo};
+use h5_model::{KValues, Link, ObjectNo};
 use std::alloc::Global;
 
 /// What belongs to an object besides its header.
@@ -44,27 +46,33 @@ pub(crate) fn whole_length(size: &Size) -> u64
     }
 }
 
-/// The size of an array with these cells and these messages besides its own.
+/// The size of an array with these cells and these messages besides its own, in an image with these K values.
 fn measure_array(
+    k: &KValues,
     array: &ArrayRef<'_>,
     cells: &Cells<'_>,
     others: &Others,
 ) -> Result<Size, WriteFault>
-    requires { (o : StoredObject) × IsArrayObject array.now cells.now others.now o }
+    requires k { AreKValues k.now }
+    requires held { (o : StoredObject) × IsArrayObject array.now cells.now others.now o }
     ensures size { IfOk result (λ s.
-        (leaf internal : ℕ) (o : StoredObject) → IsArrayObject array.now cells.now others.now o
-        → IsSize leaf internal o s) }
+        (o : StoredObject) → IsArrayObject array.now cells.now others.now o
+        → IsSize k.now o s) }
     ensures refused { IfErr result (λ fault.
-        (leaf internal : ℕ) (o : StoredObject) → IsArrayObject array.now cells.now others.now o
-        → IsUnmeasured leaf internal o fault) }
+        (o : StoredObject) → IsArrayObject array.now cells.now others.now o
+        → IsUnmeasured k.now o fault) }
 {
     let header = array_header_length(array, others);
     if header > MAXIMUM_IMAGE {
         return Err(WriteFault::TooLong);
     }
-    let Some(length) = data_length(array, cells) else {
+    let chunk_k = k.chunk_k();
+    let Some(length) = data_length(chunk_k, array, cells) else {
         return Err(WriteFault::TooLong);
     };
+    if !has_low_tree(chunk_k, cells) {
+        return Err(WriteFault::TooDeep);
+    }
     Ok(Size {
         header,
         extent: Extent::Data(length),
@@ -75,27 +83,26 @@ fn measure_array(
 /// which the links lead.
 fn measure_group(
     alloc: Global,
-    leaf: u16,
-    internal: u16,
+    k: &KValues,
     links: &[Link<'_, ObjectNo>],
     others: &Others,
 ) -> Result<Size, WriteFault>
-    requires k { AreK leaf internal }
+    requires k { AreKValues k.now }
     requires held { (o : StoredObject) × IsGroupObject links.now others.now o }
     ensures size { IfOk result (λ s.
-        (o : StoredObject) → IsGroupObject links.now others.now o → IsSize leaf internal o s) }
+        (o : StoredObject) → IsGroupObject links.now others.now o → IsSize k.now o s) }
     ensures refused { IfErr result (λ fault.
-        (o : StoredObject) → IsGroupObject links.now others.now o → IsUnmeasured leaf internal o fault) }
+        (o : StoredObject) → IsGroupObject links.now others.now o → IsUnmeasured k.now o fault) }
 {
     let header = group_header_length(others);
     if header > MAXIMUM_IMAGE {
         return Err(WriteFault::TooLong);
     }
-    let layout = nowhere(leaf, internal);
+    let layout = nowhere(k);
     let Ok(bare) = new_links(alloc, &layout, links) else {
         return Err(WriteFault::NoMemory);
     };
-    match group_places(leaf, internal, &bare) {
+    match group_places(k.leaf, k.internal, &bare) {
         Ok(places) => Ok(Size {
             header,
             extent: Extent::Links(places),
@@ -106,43 +113,37 @@ fn measure_group(
 }
 
 /// The size of an object.
-fn measure(
-    alloc: Global,
-    leaf: u16,
-    internal: u16,
-    object: &NewObject<'_>,
-) -> Result<Size, WriteFault>
-    requires k { AreK leaf internal }
+fn measure(alloc: Global, k: &KValues, object: &NewObject<'_>) -> Result<Size, WriteFault>
+    requires k { AreKValues k.now }
     requires held { (o : StoredObject) × IsHeldObject object.now o }
     ensures size { IfOk result (λ s.
-        (o : StoredObject) → IsHeldObject object.now o → IsSize leaf internal o s) }
+        (o : StoredObject) → IsHeldObject object.now o → IsSize k.now o s) }
     ensures refused { IfErr result (λ fault.
-        (o : StoredObject) → IsHeldObject object.now o → IsUnmeasured leaf internal o fault) }
+        (o : StoredObject) → IsHeldObject object.now o → IsUnmeasured k.now o fault) }
 {
     match &object.content {
-        NewContent::Group(links) => measure_group(alloc, leaf, internal, links, &object.others),
-        NewContent::Array { array, cells } => measure_array(array, cells, &object.others),
+        NewContent::Group(links) => measure_group(alloc, k, links, &object.others),
+        NewContent::Array { array, cells } => measure_array(k, array, cells, &object.others),
     }
 }
 
 /// The size of the object in a slot. An empty slot has no bytes.
 fn measure_slot(
     alloc: Global,
-    leaf: u16,
-    internal: u16,
+    k: &KValues,
     slot: &Option<NewObject<'_>>,
 ) -> Result<Size, WriteFault>
-    requires k { AreK leaf internal }
+    requires k { AreKValues k.now }
     requires held { (place : Option StoredObject) × SlotsHold IsHeldObject slot.now place }
     ensures size { IfOk result (λ s.
         (place : Option StoredObject) → SlotsHold IsHeldObject slot.now place
-        → IsSlotSize leaf internal place s) }
+        → IsSlotSize k.now place s) }
     ensures refused { IfErr result (λ fault.
         (place : Option StoredObject) → SlotsHold IsHeldObject slot.now place
-        → (o : StoredObject) × (place ≡ Some o) × IsUnmeasured leaf internal o fault) }
+        → (o : StoredObject) × (place ≡ Some o) × IsUnmeasured k.now o fault) }
 {
     match slot {
-        Some(object) => measure(alloc, leaf, internal, object),
+        Some(object) => measure(alloc, k, object),
         None => Ok(Size {
             header: 0,
             extent: Extent::Data(0),
@@ -153,23 +154,22 @@ fn measure_slot(
 /// The sizes of all these objects. An empty slot has no bytes.
 pub(crate) fn measure_all(
     alloc: Global,
-    leaf: u16,
-    internal: u16,
+    k: &KValues,
     objects: &[Option<NewObject<'_>>],
 ) -> Result<Vec<Size>, WriteFault>
-    requires k { AreK leaf internal }
+    requires k { AreKValues k.now }
     requires held { (listed : List (Option StoredObject))
         × AllZip (SlotsHold IsHeldObject) objects.now listed }
     ensures sizes { IfOk result (λ sizes.
         (listed : List (Option StoredObject)) → AllZip (SlotsHold IsHeldObject) objects.now listed
-        → AllZip (IsSlotSize leaf internal) listed sizes.items) }
+        → AllZip (IsSlotSize k.now) listed sizes.items) }
     ensures refused { IfErr result (λ fault.
         (listed : List (Option StoredObject)) → AllZip (SlotsHold IsHeldObject) objects.now listed
-        → AreUnmeasured leaf internal listed fault) }
+        → AreUnmeasured k.now listed fault) }
 {
     let mut sizes = Vec::new(alloc);
     for object in objects {
-        let size = measure_slot(alloc, leaf, internal, object)?;
+        let size = measure_slot(alloc, k, object)?;
         let Ok(()) = sizes.push(size) else {
             return Err(WriteFault::NoMemory);
         };

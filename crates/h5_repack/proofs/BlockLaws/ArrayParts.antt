@@ -163,13 +163,13 @@ length-laid a c address room =
 
 -- ---- data behind the header
 
-module _ (c : Cells) (a : Described) (place : ℕ) where
-  pub no_data : has_data a c ≡ false → data_written c a place ≡ []
-  no_data none = ap (λ b. if b then stored_written c a place else []) none
+module _ (chunk_k : ℕ) (c : Cells) (a : Described) (place : ℕ) where
+  pub no_data : has_data a c ≡ false → data_written chunk_k c a place ≡ []
+  no_data none = ap (λ b. if b then stored_written chunk_k c a place else []) none
 
-  pub all_data : has_data a c ≡ true → data_written c a place ≡ stored_written c a place
-  all_data some = ap (λ b. if b then stored_written c a place else []) some
+  pub all_data : has_data a c ≡ true → data_written chunk_k c a place ≡ stored_written chunk_k c a place
+  all_data some = ap (λ b. if b then stored_written chunk_k c a place else []) some
 
-  pub length-filled_data : c ≡ Filled → has_data a c ≡ true → length (data_written c a place) ≡ cells a.sizes * (a.fixed).size
+  pub length-filled_data : c ≡ Filled → has_data a c ≡ true → length (data_written chunk_k c a place) ≡ cells a.sizes * (a.fixed).size
   length-filled_data is some =
-      ap length (all_data some) ∙ ap (λ (k : Cells). length (stored_written k a place)) is ∙ length-cells_written Filled a tt
+      ap length (all_data some) ∙ ap (λ (x : Cells). length (stored_written chunk_k x a place)) is ∙ length-cells_written Filled a tt

@@ -7,7 +7,7 @@ use Rattle.h5_model.specs.Format.Sizes.{attribute_size}
 use Rattle.h5_model.specs.Tree.Objects.{Attribute}
 use Rattle.h5_repack.specs.Bodies.Bodies.{attribute_message}
 use Rattle.h5_repack.specs.Bodies.Sound.{IsPlainAttribute}
-use Rattle.h5_repack.proofs.BodyLaws.HeaderAttributes.{length-attribute_bytes}
+use Rattle.h5_repack.proofs.BodyLaws.HeaderAttributes.{attribute_plain, length-attribute_bytes}
 
 module _ (name : List ℕ) (a : Attribute) (is : IsPlainAttribute (name, a)) where
   abbrev size : ℕ
@@ -18,4 +18,4 @@ module _ (name : List ℕ) (a : Attribute) (is : IsPlainAttribute (name, a)) whe
 
   -- a message has at most 65544 bytes
   pub length-message : length (message_bytes (attribute_message (name, a))) ≤ 65544
-  length-message = omega (arith, length-body, is.room)
+  length-message = omega (arith, (attribute_plain (name, a) is).low)

@@ -79,41 +79,41 @@ chunks_are h d are =
       flat_mapped [] = refl
       flat_mapped (offsets ∷ others) = ap (λ bytes. chunk_data d h.chunk offsets ++ bytes) (flat_mapped others)
 
-held_data : (h : HeldCells) (d : Dataset) → AreHeldOf h d → (all : List (List ℕ)) → part_offsets h ≡ all → (place : ℕ) → parts_written h all place ≡ chunked_data d h.chunk all place
-held_data h d are [] e place = refl
-held_data h d are (first ∷ others) e place =
+held_data : (k : ℕ) (h : HeldCells) (d : Dataset) → AreHeldOf h d → (all : List (List ℕ)) → part_offsets h ≡ all → (place : ℕ) → parts_written k h all place ≡ chunked_data k d h.chunk all place
+held_data k h d are [] e place = refl
+held_data k h d are (first ∷ others) e place =
     let parts : parts_bytes h ≡ flat_map (chunk_data d h.chunk) (first ∷ others) = chunks_are h d are ∙ ap (flat_map (chunk_data d h.chunk)) e in
-    (λ i. chunk_nodes (cells h.chunk * (are.fixed_is i).size) h.chunk first (first ∷ others) place ++ parts i)
+    (λ i. chunk_nodes k (cells h.chunk * (are.fixed_is i).size) h.chunk first (first ∷ others) place ++ parts i)
 
 -- cells in one block
-block_data : (d : Dataset) (bytes : List ℕ) → bytes ≡ cells_bytes d.fixed d.cells → (s : Storage) → d.storage ≡ s → (place : ℕ)
-    → (if is_stored [] s then bytes else []) ≡ data_of [] d place
-block_data d bytes same Compact is place = rw is refl
-block_data d bytes same (Contiguous held) is place = rw is (λ i. if held then same i else [])
-block_data d bytes same (Chunked chunk) is place = rw is refl
+block_data : (k : ℕ) (d : Dataset) (bytes : List ℕ) → bytes ≡ cells_bytes d.fixed d.cells → (s : Storage) → d.storage ≡ s → (place : ℕ)
+    → (if is_stored [] s then bytes else []) ≡ data_of k [] d place
+block_data k d bytes same Compact is place = rw is refl
+block_data k d bytes same (Contiguous held) is place = rw is (λ i. if held then same i else [])
+block_data k d bytes same (Chunked chunk) is place = rw is refl
 
 -- stored chunks
-chunked_parts : (h : HeldCells) (d : Dataset) → AreHeldOf h d → (place : ℕ)
-    → (if is_stored (part_offsets h) (Chunked h.chunk) then chunks_written h place else []) ≡ chunked_data d h.chunk (part_offsets h) place
-chunked_parts h d are place = by_offsets (part_offsets h) refl where
-  by_offsets : (all : List (List ℕ)) → part_offsets h ≡ all → (if is_stored all (Chunked h.chunk) then parts_written h all place else []) ≡ chunked_data d h.chunk all place
+chunked_parts : (k : ℕ) (h : HeldCells) (d : Dataset) → AreHeldOf h d → (place : ℕ)
+    → (if is_stored (part_offsets h) (Chunked h.chunk) then chunks_written k h place else []) ≡ chunked_data k d h.chunk (part_offsets h) place
+chunked_parts k h d are place = by_offsets (part_offsets h) refl where
+  by_offsets : (all : List (List ℕ)) → part_offsets h ≡ all → (if is_stored all (Chunked h.chunk) then parts_written k h all place else []) ≡ chunked_data k d h.chunk all place
   by_offsets [] e = refl
-  by_offsets (first ∷ others) e = held_data h d are (first ∷ others) e place
+  by_offsets (first ∷ others) e = held_data k h d are (first ∷ others) e place
 
-data_in_chunks : (d : Dataset) (chunk : List ℕ) (stored : List (List ℕ)) (place : ℕ) → d.storage ≡ Chunked chunk → data_of stored d place ≡ chunked_data d chunk stored place
-data_in_chunks d chunk stored place is = rw is refl
+data_in_chunks : (k : ℕ) (d : Dataset) (chunk : List ℕ) (stored : List (List ℕ)) (place : ℕ) → d.storage ≡ Chunked chunk → data_of k stored d place ≡ chunked_data k d chunk stored place
+data_in_chunks k d chunk stored place is = rw is refl
 
-data_by : (c : Cells) (d : Dataset) → AreCellsToWrite c d → (a : Described) → a.fixed ≡ d.fixed → a.sizes ≡ d.sizes → a.fill ≡ d.fill → storage_written a c ≡ d.storage
-    → (place : ℕ) → data_written c a place ≡ data_of (chunks_of c) d place
-data_by Unset d are a fixed sizes fill storage place =
-    block_data d (cells_written Unset a) (filled_are d are a fixed sizes fill) (storage_written a Unset) (sym storage) place
-data_by Filled d are a fixed sizes fill storage place =
-    block_data d (cells_written Filled a) (filled_are d are a fixed sizes fill) (storage_written a Filled) (sym storage) place
-data_by (Stored bytes) d are a fixed sizes fill storage place =
-    block_data d bytes.now are (storage_written a (Stored bytes)) (sym storage) place
-data_by (Chunks held) d are a fixed sizes fill storage place =
-    ap (λ (s : Storage). if is_stored (part_offsets held) s then chunks_written held place else []) (storage ∙ are.storage_is)
-    ∙ chunked_parts held d are place ∙ sym (data_in_chunks d held.chunk (part_offsets held) place are.storage_is)
+data_by : (k : ℕ) (c : Cells) (d : Dataset) → AreCellsToWrite c d → (a : Described) → a.fixed ≡ d.fixed → a.sizes ≡ d.sizes → a.fill ≡ d.fill → storage_written a c ≡ d.storage
+    → (place : ℕ) → data_written k c a place ≡ data_of k (chunks_of c) d place
+data_by k Unset d are a fixed sizes fill storage place =
+    block_data k d (cells_written Unset a) (filled_are d are a fixed sizes fill) (storage_written a Unset) (sym storage) place
+data_by k Filled d are a fixed sizes fill storage place =
+    block_data k d (cells_written Filled a) (filled_are d are a fixed sizes fill) (storage_written a Filled) (sym storage) place
+data_by k (Stored bytes) d are a fixed sizes fill storage place =
+    block_data k d bytes.now are (storage_written a (Stored bytes)) (sym storage) place
+data_by k (Chunks held) d are a fixed sizes fill storage place =
+    ap (λ (s : Storage). if is_stored (part_offsets held) s then chunks_written k held place else []) (storage ∙ are.storage_is)
+    ∙ chunked_parts k held d are place ∙ sym (data_in_chunks k d held.chunk (part_offsets held) place are.storage_is)
 
 -- ---- an array that is handed over
 
@@ -137,8 +137,9 @@ module _ (a : Described) (c : Cells) (d : Dataset) (is : IsNewArray a c d) where
       (λ i. prefix_bytes links (count i) (size i) ++ bytes i)
       ∙ (λ i. header_bytes links (messages_of (is.fixed_is i) (is.sizes_are i) (is.maxima_are i) (is.fill_is i) (chunked_is i) (layout_is address i) (are.count_is i) ++ others))
 
-  pub data_is : (place : ℕ) → data_written c a place ≡ data_of (chunks_of c) d place
-  data_is place = data_by c d is.cells_are a is.fixed_is is.sizes_are is.fill_is is.storage_is place
+  -- whatever the K of the nodes of its chunks
+  pub data_is : (k place : ℕ) → data_written k c a place ≡ data_of k (chunks_of c) d place
+  data_is k place = data_by k c d is.cells_are a is.fixed_is is.sizes_are is.fill_is is.storage_is place
 
   -- the address of the data, which stand at this place where they are stored
   pub address_is : (place : ℕ) → address_written a c place ≡ (if is_stored (chunks_of c) d.storage then Some place else None)

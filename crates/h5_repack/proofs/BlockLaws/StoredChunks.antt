@@ -21,16 +21,16 @@ use Rattle.h5_repack.specs.Bodies.Chunks.{chunk_children, chunk_nodes, chunks_pl
 use Rattle.h5_repack.specs.Blocks.StoredChunks.{IsLastKey, chunks_written, key_bytes, keyed, part_bytes, part_length, parts_bytes, parts_written}
 use Rattle.h5_repack.specs.Blocks.Written.{AreWhole, part_offsets}
 use Rattle.h5_repack.proofs.ChunkLaws.ChunkLengths.{AreRanked, key_fits, keys_fit, length-children, length-nodes, node_long}
-use Rattle.h5_repack.proofs.ChunkLaws.ChunkLevels.{chunk_level}
 use Rattle.h5_repack.proofs.ChunkLaws.KeyTrees.{tree_kept}
 
 -- ---- products
 
 -- the nodes of a tree of at most 32 dimensions
-pub nodes_low : (nodes long : ℕ) (kind : Kind) → kind.k ≡ 32 → kind.key_length ≤ 272 → nodes < 2 ^ 33 → long ≡ node_length kind → nodes * long ≤ 2 ^ 48
+pub nodes_low : (nodes long : ℕ) (kind : Kind) → kind.k ≤ 32767 → kind.key_length ≤ 272 → nodes < 2 ^ 33 → long ≡ node_length kind → nodes * long ≤ 2 ^ 58
 nodes_low nodes long kind k key few is =
-    let own : long ≡ 24 + kind.key_length + 64 * (kind.key_length + 8) = is ∙ ap (λ n. 24 + kind.key_length + 2 * n * (kind.key_length + 8)) k in
-    let low : nodes * long ≤ 2 ^ 33 * 2 ^ 15 = mul-le nodes long (2 ^ 33) (2 ^ 15) (omega (arith, few)) (omega (arith, own, key)) in
+    let children : 2 * kind.k * (kind.key_length + 8) ≤ 2 ^ 16 * 280 = mul-le (2 * kind.k) (kind.key_length + 8) (2 ^ 16) 280 (omega (arith, k)) (omega (arith, key)) in
+    let own : long ≤ 2 ^ 25 = omega (arith, is, children, key) in
+    let low : nodes * long ≤ 2 ^ 33 * 2 ^ 25 = mul-le nodes long (2 ^ 33) (2 ^ 25) (omega (arith, few)) own in
     omega (arith, low)
 
 pub chunks_low : (count size : ℕ) → count < 2 ^ 32 → size ≤ 2 ^ 30 → count * size ≤ 2 ^ 62
@@ -63,32 +63,33 @@ length-parts t n (part ∷ parts) all =
     omega (arith, own, length-append (part_bytes t part) (flat_map (part_bytes t) parts), length-parts t n parts all.1)
 
 module _ (h : HeldCells) (whole : AreWhole h) where
-  pub chunks_none : (count : ℕ) → count ≡ length h.parts → count ≡ 0 → (place : ℕ) → length (chunks_written h place) ≡ 0
-  chunks_none count is none place = by_offsets (part_offsets h) (as_many h ∙ sym is ∙ none) where
-    by_offsets : (all : List (List ℕ)) → length all ≡ 0 → length (parts_written h all place) ≡ 0
+  pub chunks_none : (k count : ℕ) → count ≡ length h.parts → count ≡ 0 → (place : ℕ) → length (chunks_written k h place) ≡ 0
+  chunks_none k count is none place = by_offsets (part_offsets h) (as_many h ∙ sym is ∙ none) where
+    by_offsets : (all : List (List ℕ)) → length all ≡ 0 → length (parts_written k h all place) ≡ 0
     by_offsets [] zero_is = refl
     by_offsets (first ∷ others) zero_is = absurd (omega (arith, zero_is))
 
-  module _ (ranked : AreRankedParts h) (count size : ℕ) (count_is : count ≡ length h.parts) (some : 1 ≤ count) (size_is : size ≡ part_length h) where
+  -- in a tree of nodes of this K
+  module _ (ranked : AreRankedParts h) (k : ℕ) (some_k : 1 ≤ k) (count size : ℕ) (count_is : count ≡ length h.parts) (some : 1 ≤ count) (size_is : size ≡ part_length h) where
     -- nodes and chunks
-    pub chunks_long : (kind : Kind) (nodes : ℕ) → kind ≡ chunk_kind 32 (length h.chunk) → nodes ≡ nodes_over 64 (2 * kind.k) count * node_length kind
-        → (place : ℕ) → length (chunks_written h place) ≡ nodes + count * size
+    pub chunks_long : (kind : Kind) (nodes : ℕ) → kind ≡ chunk_kind k (length h.chunk) → nodes ≡ nodes_over 64 (2 * kind.k) count * node_length kind
+        → (place : ℕ) → length (chunks_written k h place) ≡ nodes + count * size
     chunks_long kind nodes kind_is nodes_are place = by_offsets (part_offsets h) (as_many h ∙ sym count_is) (ranked_offsets h.chunk h.parts ranked) where
-      by_offsets : (all : List (List ℕ)) → length all ≡ count → AreRanked h.chunk all → length (parts_written h all place) ≡ nodes + count * size
+      by_offsets : (all : List (List ℕ)) → length all ≡ count → AreRanked h.chunk all → length (parts_written k h all place) ≡ nodes + count * size
       by_offsets [] long fit = absurd (omega (arith, some, long))
       by_offsets (first ∷ others) long fit =
-          let tree : length (chunk_nodes (part_length h) h.chunk first (first ∷ others) place) ≡ nodes
-          = length-nodes h.chunk (part_length h) first (first ∷ others) place fit.0 fit
-          ∙ (λ i. nodes_over 64 (2 * (sym kind_is i).k) (long i) * (sym (node_long (length h.chunk)) ∙ ap (λ (k : Kind). node_length k) (sym kind_is)) i) ∙ sym nodes_are in
+          let tree : length (chunk_nodes k (part_length h) h.chunk first (first ∷ others) place) ≡ nodes
+          = length-nodes k some_k h.chunk (part_length h) first (first ∷ others) place fit.0 fit
+          ∙ (λ i. nodes_over 64 (2 * (sym kind_is i).k) (long i) * (sym (node_long k (length h.chunk)) ∙ ap (λ (x : Kind). node_length x) (sym kind_is)) i) ∙ sym nodes_are in
           let parts : length (parts_bytes h) ≡ count * size = length-parts h.fixed (cells h.chunk) h.parts whole ∙ (λ i. sym count_is i * sym size_is i) in
-          length-append (chunk_nodes (part_length h) h.chunk first (first ∷ others) place) (parts_bytes h) ∙ (λ i. tree i + parts i)
+          length-append (chunk_nodes k (part_length h) h.chunk first (first ∷ others) place) (parts_bytes h) ∙ (λ i. tree i + parts i)
 
     -- more chunks than an image has bytes
-    pub chunks_many : 1 ≤ size → (place : ℕ) → count ≤ length (chunks_written h place)
+    pub chunks_many : 1 ≤ size → (place : ℕ) → count ≤ length (chunks_written k h place)
     chunks_many high place =
         omega (
           arith,
-          chunks_long (chunk_kind 32 (length h.chunk)) (nodes_over 64 (2 * 32) count * node_length (chunk_kind 32 (length h.chunk))) refl refl place,
+          chunks_long (chunk_kind k (length h.chunk)) (nodes_over 64 (2 * k) count * node_length (chunk_kind k (length h.chunk))) refl refl place,
           chunks_high count size high,
         )
 
@@ -162,12 +163,12 @@ module _ {K : Type 0} (kind : Kind) (bytes : K → List ℕ) where
   fit_to [] all = tt
   fit_to (c ∷ cs) all = (all.0, fit_to cs all.1)
 
-module _ (h : HeldCells) (ranked : AreRankedParts h) (some : 1 ≤ length h.parts) (kind : Kind) (kind_is : kind ≡ chunk_kind 32 (length h.chunk)) where
+module _ (k : ℕ) (some_k : 1 ≤ k) (h : HeldCells) (ranked : AreRankedParts h) (some : 1 ≤ length h.parts) (kind : Kind) (kind_is : kind ≡ chunk_kind k (length h.chunk)) where
   abbrev size : ℕ
   size = part_length h
 
   fits : (offsets : List ℕ) (key : List ℕ) → length offsets ≡ length h.chunk → key ≡ chunk_key (record { bytes = size; offsets = offsets }) → length key ≡ kind.key_length
-  fits offsets key long is = ap length is ∙ key_fits h.chunk size offsets long ∙ ap (λ (k : Kind). k.key_length) (sym kind_is)
+  fits offsets key long is = ap length is ∙ key_fits k some_k h.chunk size offsets long ∙ ap (λ (x : Kind). x.key_length) (sym kind_is)
 
   module _ (first : ChunkKey) (first_is : (part : List ℕ × List ℤ) → slice_get h.parts 0 ≡ Some part → first.bytes.now ≡ chunk_key (record { bytes = size; offsets = part.0 })) where
     by_parts : (parts : List (List ℕ × List ℤ)) → AllByRecursion (λ (part : List ℕ × List ℤ). length part.0 ≡ length h.chunk) parts → 1 ≤ length parts
@@ -189,35 +190,34 @@ module _ (h : HeldCells) (ranked : AreRankedParts h) (some : 1 ≤ length h.part
 
       pub all_fit : AllFit kind key_bytes children
       all_fit =
-          subst (λ (k : Kind). AllFit k key_bytes children) (sym kind_is)
-          (fit_from (chunk_kind 32 (length h.chunk)) key_bytes children
-          (subst (λ (cs : List (Child (List ℕ))). AllFit (chunk_kind 32 (length h.chunk)) (λ (key : List ℕ). key) cs) (sym are)
-          (fit_to (chunk_kind 32 (length h.chunk)) chunk_key own (keys_fit h.chunk size begin (part_offsets h) (ranked_offsets h.chunk h.parts ranked)))))
+          subst (λ (x : Kind). AllFit x key_bytes children) (sym kind_is)
+          (fit_from (chunk_kind k (length h.chunk)) key_bytes children
+          (subst (λ (cs : List (Child (List ℕ))). AllFit (chunk_kind k (length h.chunk)) (λ (key : List ℕ). key) cs) (sym are)
+          (fit_to (chunk_kind k (length h.chunk)) chunk_key own (keys_fit k some_k h.chunk size begin (part_offsets h) (ranked_offsets h.chunk h.parts ranked)))))
 
-      pub level_low : length h.parts < 2 ^ 32 → root_level kind.k (length children) ≤ 15
-      level_low few =
-          subst (λ (k : Kind). root_level k.k (length children) ≤ 15) (sym kind_is)
-          (subst (λ n. root_level 32 n ≤ 15) (sym as_many_children) (chunk_level (length h.parts) (omega (arith, few))))
+      pub level_low : root_level k (length h.parts) ≤ 15 → root_level kind.k (length children) ≤ 15
+      level_low low =
+          subst (λ (x : Kind). root_level x.k (length children) ≤ 15) (sym kind_is) (subst (λ n. root_level k n ≤ 15) (sym as_many_children) low)
 
       module _ (place nodes : ℕ) (nodes_are : nodes ≡ nodes_over 64 (2 * kind.k) (length h.parts) * node_length kind) where
         pub tree_long : length (tree_bytes kind key_bytes first place children) ≡ nodes
         tree_long =
-            tree_length ChunkKey kind key_bytes first place children (subst (λ (k : Kind). 1 ≤ k.k) (sym kind_is) (omega arith)) first_fits all_fit
+            tree_length ChunkKey kind key_bytes first place children (subst (λ (x : Kind). 1 ≤ x.k) (sym kind_is) some_k) first_fits all_fit
             ∙ ap (λ n. nodes_over 64 (2 * kind.k) n * node_length kind) as_many_children ∙ sym nodes_are
 
         -- the tree of the definition
         pub tree_is : begin ≡ place + nodes → (head : List ℕ) (others : List (List ℕ)) → part_offsets h ≡ head ∷ others
-            → tree_bytes kind key_bytes first place children ≡ chunk_nodes size h.chunk head (head ∷ others) place
+            → tree_bytes kind key_bytes first place children ≡ chunk_nodes k size h.chunk head (head ∷ others) place
         tree_is begin_is head others e =
             let n : length h.parts ≡ length (head ∷ others) = sym (as_many h) ∙ ap length e in
-            let there : begin ≡ chunks_place h.chunk (length (head ∷ others)) place
-            = begin_is ∙ ap (λ k. place + k) (nodes_are ∙ (λ i. nodes_over 64 (2 * (kind_is i).k) (n i) * node_length (kind_is i))) in
+            let there : begin ≡ chunks_place k h.chunk (length (head ∷ others)) place
+            = begin_is ∙ ap (λ n. place + n) (nodes_are ∙ (λ i. nodes_over 64 (2 * (kind_is i).k) (n i) * node_length (kind_is i))) in
             let first_key : first.bytes.now ≡ chunk_key (record { bytes = size; offsets = head }) = head_key h.parts e first_is in
             sym (tree_kept (λ (key : List ℕ). key) key_bytes kind first place children)
             ∙ (λ i. tree_bytes (kind_is i) (λ (key : List ℕ). key) (first_key i) place (are i))
-            ∙ (λ i. tree_bytes (chunk_kind 32 (length h.chunk)) (λ (key : List ℕ). key) (chunk_key (record { bytes = size; offsets = head })) place (map (keyed chunk_key) (chunk_children size h.chunk (there i) (e i))))
-            ∙ tree_kept (λ (key : List ℕ). key) chunk_key (chunk_kind 32 (length h.chunk)) (record { bytes = size; offsets = head }) place
-            (chunk_children size h.chunk (chunks_place h.chunk (length (head ∷ others)) place) (head ∷ others)) where
+            ∙ (λ i. tree_bytes (chunk_kind k (length h.chunk)) (λ (key : List ℕ). key) (chunk_key (record { bytes = size; offsets = head })) place (map (keyed chunk_key) (chunk_children size h.chunk (there i) (e i))))
+            ∙ tree_kept (λ (key : List ℕ). key) chunk_key (chunk_kind k (length h.chunk)) (record { bytes = size; offsets = head }) place
+            (chunk_children size h.chunk (chunks_place k h.chunk (length (head ∷ others)) place) (head ∷ others)) where
               head_key : (parts : List (List ℕ × List ℤ)) → map (λ part. part.0) parts ≡ head ∷ others
                   → ((part : List ℕ × List ℤ) → slice_get parts 0 ≡ Some part → first.bytes.now ≡ chunk_key (record { bytes = size; offsets = part.0 }))
                   → first.bytes.now ≡ chunk_key (record { bytes = size; offsets = head })
@@ -226,11 +226,11 @@ module _ (h : HeldCells) (ranked : AreRankedParts h) (some : 1 ≤ length h.part
                   is part refl ∙ ap (λ (all : List (List ℕ)). chunk_key (record { bytes = size; offsets = get_or all 0 [] })) same
 
 -- the tree, and then the chunks
-pub chunks_pushed : (h : HeldCells) (place : ℕ) (first second third : List ℕ) → 1 ≤ length h.parts
-    → ((head : List ℕ) (others : List (List ℕ)) → part_offsets h ≡ head ∷ others → second ≡ first ++ chunk_nodes (part_length h) h.chunk head (head ∷ others) place)
-    → third ≡ second ++ parts_bytes h → third ≡ first ++ chunks_written h place
-chunks_pushed h place first second third some tree parts = by_offsets (part_offsets h) refl (as_many h) where
-  by_offsets : (all : List (List ℕ)) → part_offsets h ≡ all → length all ≡ length h.parts → third ≡ first ++ parts_written h all place
+pub chunks_pushed : (k : ℕ) (h : HeldCells) (place : ℕ) (first second third : List ℕ) → 1 ≤ length h.parts
+    → ((head : List ℕ) (others : List (List ℕ)) → part_offsets h ≡ head ∷ others → second ≡ first ++ chunk_nodes k (part_length h) h.chunk head (head ∷ others) place)
+    → third ≡ second ++ parts_bytes h → third ≡ first ++ chunks_written k h place
+chunks_pushed k h place first second third some tree parts = by_offsets (part_offsets h) refl (as_many h) where
+  by_offsets : (all : List (List ℕ)) → part_offsets h ≡ all → length all ≡ length h.parts → third ≡ first ++ parts_written k h all place
   by_offsets [] e long = absurd (omega (arith, some, long))
   by_offsets (head ∷ others) e long =
-      parts ∙ ap (λ bytes. bytes ++ parts_bytes h) (tree head others e) ∙ append_assoc first (chunk_nodes (part_length h) h.chunk head (head ∷ others) place) (parts_bytes h)
+      parts ∙ ap (λ bytes. bytes ++ parts_bytes h) (tree head others e) ∙ append_assoc first (chunk_nodes k (part_length h) h.chunk head (head ∷ others) place) (parts_bytes h)

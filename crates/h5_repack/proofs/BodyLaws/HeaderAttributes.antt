@@ -1,7 +1,8 @@
 -- An attribute of the plain layout is read back from its message (File Format Specification 3.0, section IV.A.2.m).
-use Rattle.std.proofs.Common.{◌≡◌, ℕ, ◌+◌, ◌-◌, ◌*◌, ◌%◌, ◌^◌, ◌<◌, ◌≤◌, List, [], ◌∷◌, length, length-append, map, replicate, refl, sym, ap, ◌∙◌, arith, true, false, ℤ, Some}
+use Rattle.std.proofs.Common.{◌≡◌, ℕ, ◌+◌, ◌-◌, ◌*◌, ◌%◌, ◌^◌, ◌<◌, ◌≤◌, List, [], ◌∷◌, length, length-append, map, replicate, refl, sym, ap, ◌∙◌, subst, arith, true, false, ℤ, Option, Some, None}
 use Rattle.std.proofs.lemmas.List.{length-replicate}
-use Rattle.std.specs.Prelude.{T}
+use Rattle.std.specs.Prelude.{T, unwrap_or}
+use Rattle.std.specs.Option.{option_map_or}
 use Rattle.std.specs.Ordering.{nat_cmp, eq_by_cmp, is_lt, is_eq}
 use Rattle.std.specs.declared.cmp.Ordering.{Ordering}
 use Rattle.std.specs.declared.cmp.Ordering.TheVariants.{Less, Equal, Greater}
@@ -24,8 +25,8 @@ use Rattle.h5_msg.proofs.DataspaceLaws.{Small, small_from}
 use Rattle.h5_model.proofs.PlainValues.{length-cells_bytes}
 use Rattle.h5_msg.proofs.AttributeBack.{attribute_back}
 use Rattle.h5_layout.proofs.ExtentBounds.{sizes_below}
-use Rattle.h5_repack.specs.Bodies.Bodies.{attribute_message}
-use Rattle.h5_repack.specs.Bodies.Sound.{IsPlainAttribute}
+use Rattle.h5_repack.specs.Bodies.Bodies.{attribute_body, attribute_message}
+use Rattle.h5_repack.specs.Bodies.Sound.{IsPlainAttribute, IsPlainBody}
 
 -- ---- sizes and values
 
@@ -51,28 +52,57 @@ length-attribute_bytes name sizes t values n count room =
     let pad_long : length (replicate {A = ℕ} (pad8 (length name + 1) - length name) 0) ≡ pad8 (length name + 1) - length name = length-replicate {A = ℕ} _ 0 in
     simp length-append (omega (arith, zeros_long, pad_long, product, words_long sizes, length-cells_bytes t values))
 
+-- how many bytes a body has before it is raised: the one that is kept, or one of version 1
+abbrev pub body_size : List ℕ × Attribute → ℕ
+body_size (name, a) = option_map_or length a.body (attribute_size (length name) a.sizes (a.fixed).size)
+
+-- it is one of a plain message, and says the attribute
+record IsBodyOf (name : List ℕ) (a : Attribute) (body : List ℕ) : Type 0 where
+  long : length body ≡ pad8 (body_size (name, a))
+  padded : length body % 8 ≡ 0
+  low : length body < 65536
+  reads : attribute_of body ≡ Some (name, a)
+
 module _ (name : List ℕ) (a : Attribute) (is : IsPlainAttribute (name, a)) where
   abbrev size : ℕ
   size = attribute_size (length name) a.sizes (a.fixed).size
 
-  long : length (attribute_bytes name a.fixed a.sizes a.values (pad8 size)) ≡ pad8 size
-  long = length-attribute_bytes name a.sizes a.fixed a.values (pad8 size) is.counted (omega arith)
+  long_body : length (attribute_body name a) ≡ pad8 size
+  long_body = length-attribute_bytes name a.sizes a.fixed a.values (pad8 size) is.counted (omega arith)
 
-  plain : IsPlain (12, attribute_bytes name a.fixed a.sizes a.values (pad8 size))
-  plain = record { kind = omega arith; own = refl; padded = ap (λ n. n % 8) long ∙ omega arith; low = omega (arith, long, is.room) }
+  body_is : IsBodyOf name a (attribute_message (name, a)).1
+  body_is = by_body a.body refl is.body where
+    by_body : (b : Option (List ℕ)) → a.body ≡ b → IsPlainBody name a b → IsBodyOf name a (unwrap_or a.body (attribute_body name a))
+    by_body None e room =
+        let new : unwrap_or a.body (attribute_body name a) ≡ attribute_body name a = ap (λ (b : Option (List ℕ)). unwrap_or b (attribute_body name a)) e in
+        let own : body_size (name, a) ≡ size = ap (λ (b : Option (List ℕ)). option_map_or length b size) e in
+        subst (IsBodyOf name a) (sym new) (record {
+          long = long_body ∙ ap pad8 (sym own);
+          padded = ap (λ n. n % 8) long_body ∙ omega arith;
+          low = omega (arith, long_body, room);
+          reads = attribute_back name a.sizes a.fixed a.values (pad8 size) (attribute_body name a) is.named (omega (arith, room)) is.text
+              is.ranked (sizes_small a.sizes is.few) is.fixed (all_fit a.fixed a.values is.of_type) is.counted refl
+              ∙ (λ i. Some (name, record { fixed = a.fixed; sizes = a.sizes; values = a.values; body = sym e i }));
+        })
+    by_body (Some body) e kept =
+        let same : unwrap_or a.body (attribute_body name a) ≡ body = ap (λ (b : Option (List ℕ)). unwrap_or b (attribute_body name a)) e in
+        let own : body_size (name, a) ≡ length body = ap (λ (b : Option (List ℕ)). option_map_or length b size) e in
+        subst (IsBodyOf name a) (sym same) (record {
+          long = omega (arith, kept.1) ∙ ap pad8 (sym own);
+          padded = kept.1;
+          low = kept.2;
+          reads = kept.0;
+        })
 
-  read : attribute_of (attribute_bytes name a.fixed a.sizes a.values (pad8 size)) ≡ Some (name, a)
-  read = attribute_back name a.sizes a.fixed a.values (pad8 size) (attribute_bytes name a.fixed a.sizes a.values (pad8 size)) is.named (omega (arith, is.room)) is.text
-      is.ranked (sizes_small a.sizes is.few) is.fixed (all_fit a.fixed a.values is.of_type) is.counted refl
-
-pub length-attribute_message : (e : List ℕ × Attribute) → IsPlainAttribute e → length (attribute_message e).1 ≡ pad8 (attribute_size (length e.0) (e.1).sizes ((e.1).fixed).size)
-length-attribute_message (name, a) is = long name a is
+-- an attribute's body has as many bytes as are counted
+pub length-attribute_message : (e : List ℕ × Attribute) → IsPlainAttribute e → length (attribute_message e).1 ≡ pad8 (body_size e)
+length-attribute_message (name, a) is = (body_is name a is).long
 
 pub attribute_plain : (e : List ℕ × Attribute) → IsPlainAttribute e → IsPlain (attribute_message e)
-attribute_plain (name, a) is = plain name a is
+attribute_plain (name, a) is = record { kind = omega arith; own = refl; padded = (body_is name a is).padded; low = (body_is name a is).low }
 
 pub attribute_read : (e : List ℕ × Attribute) → IsPlainAttribute e → attribute_of (attribute_message e).1 ≡ Some e
-attribute_read (name, a) is = read name a is
+attribute_read (name, a) is = (body_is name a is).reads
 
 -- ---- the map
 

@@ -14,13 +14,13 @@ use Rattle.h5_model.specs.Format.Messages.{Message, count_of, first_body}
 use Rattle.h5_model.specs.Tree.Places.{extent_cells}
 use Rattle.h5_model.specs.Format.Plain.{message_bytes, messages_bytes}
 use Rattle.h5_model.specs.Format.Reads.{HasAttributes, is_kept, kept_of, is_attribute_message}
-use Rattle.h5_model.specs.Format.Sizes.{attribute_message_size as attribute_length, kept_message_size as kept_length, attribute_size}
+use Rattle.h5_model.specs.Format.Sizes.{attribute_message_size as attribute_length, kept_message_size as kept_length}
 use Rattle.h5_model.specs.Format.AttributeBody.{attribute_of}
 use Rattle.h5_model.specs.Tree.Objects.{Object, Attribute, Kept}
 use Rattle.h5_model.proofs.PlainMessages.{IsPlain, messages_from}
 use Rattle.h5_repack.specs.Bodies.Bodies.{attribute_message, kept_message, others_of}
 use Rattle.h5_repack.specs.Bodies.Sound.{IsPlainKept, IsPlainAttribute, IsPlainObject}
-use Rattle.h5_repack.proofs.BodyLaws.HeaderAttributes.{attribute_plain, attribute_read, length-attribute_message, entries_make, names_differ}
+use Rattle.h5_repack.proofs.BodyLaws.HeaderAttributes.{attribute_plain, attribute_read, body_size, length-attribute_message, entries_make, names_differ}
 
 -- ---- types of messages
 
@@ -138,7 +138,7 @@ all_attributes_plain (e ∷ es) all = (attribute_plain e all.0, all_attributes_p
 length-attributes : (es : List (List ℕ × Attribute)) → AllByRecursion IsPlainAttribute es → length (messages_bytes (map attribute_message es)) ≡ sum_by attribute_length es
 length-attributes [] all = refl
 length-attributes ((name, a) ∷ es) all =
-    one_more (attribute_message (name, a)) (map attribute_message es) (pad8 (attribute_size (length name) a.sizes (a.fixed).size)) (sum_by attribute_length es)
+    one_more (attribute_message (name, a)) (map attribute_message es) (pad8 (body_size (name, a))) (sum_by attribute_length es)
     (length-attribute_message (name, a) all.0) (length-attributes es all.1) ∙ sym (sum_by-cons attribute_length (name, a) es)
 
 all_attribute_others : (es : List (List ℕ × Attribute)) → AllByRecursion (λ (m : ℕ × List ℕ). is_other_kind m.0 ≡ true) (map attribute_message es)

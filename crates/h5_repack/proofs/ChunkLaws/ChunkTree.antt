@@ -152,14 +152,14 @@ module _ (chunk : List ℕ) (grid : IsGridOf chunk) (size : ℕ) (some : 1 ≤ s
       let own = key_of chunk grid size offsets held.0 in
       (key_back size offsets own.words chunk own.long low held.0, pairs_keyed low (at + size) others held.1)
 
-  module _ (image : List ℕ) (at place : ℕ) (first : List ℕ) (others : List (List ℕ)) (low : size < 2 ^ 32)
-      (plain : HasPlainNodes image (chunk_kind 32 (length chunk)) chunk_key (record { bytes = size; offsets = first }) at (chunk_children size chunk place (first ∷ others)))
+  module _ (k : ℕ) (image : List ℕ) (at place : ℕ) (first : List ℕ) (others : List (List ℕ)) (low : size < 2 ^ 32)
+      (plain : HasPlainNodes image (chunk_kind k (length chunk)) chunk_key (record { bytes = size; offsets = first }) at (chunk_children size chunk place (first ∷ others)))
       (rising : AreRising (first ∷ others)) (held : AllByRecursion (AllZip IsOffset chunk) (first ∷ others)) where
     abbrev rank : ℕ
     rank = length chunk
 
     abbrev kind : Kind
-    kind = chunk_kind 32 rank
+    kind = chunk_kind k rank
 
     abbrev children : List (Child OffsetKey)
     children = chunk_children size chunk place (first ∷ others)
@@ -168,7 +168,7 @@ module _ (chunk : List ℕ) (grid : IsGridOf chunk) (size : ℕ) (some : 1 ≤ s
     V = reading_of image kind plain.owned
 
     abbrev level : ℕ
-    level = root_level 32 (length children)
+    level = root_level k (length children)
 
     abbrev bottom : List ℕ
     bottom = row_below V level (at ∷ [])
@@ -292,7 +292,7 @@ module _ (chunk : List ℕ) (grid : IsGridOf chunk) (size : ℕ) (some : 1 ≤ s
 
     -- ---- the tree
 
-    pub chunks_stand : HasChunks image 32 chunk size at (chunk_map size place (first ∷ others))
+    pub chunks_stand : HasChunks image k chunk size at (chunk_map size place (first ∷ others))
         (tree_blocks kind plain.owned ++ map (λ n. block n size) (values (chunk_map size place (first ∷ others))))
     chunks_stand = record {
       level = level;

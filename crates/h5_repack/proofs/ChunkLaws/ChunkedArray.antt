@@ -36,6 +36,7 @@ use Rattle.h5_repack.proofs.BodyLaws.HeaderArray.{IsLaid, laid_reads}
 use Rattle.h5_repack.proofs.BodyLaws.HeaderLengths.{IsHead, head_length, length-layout}
 use Rattle.h5_repack.proofs.ChunkLaws.ChunkCells.{chunks_cells}
 use Rattle.h5_repack.proofs.ChunkLaws.ChunkLengths.{length-chunked}
+use Rattle.h5_btree.specs.Writing.Written.{root_level}
 use Rattle.h5_repack.proofs.ChunkLaws.ChunkOrder.{IsGridOf}
 use Rattle.h5_repack.proofs.ChunkLaws.ChunksRead.{blocks, chunks, ranked_of, stored_cells, stored_run, stored_stand}
 
@@ -52,21 +53,22 @@ module _ (d : Dataset) (chunk : List ℕ) (e : d.storage ≡ Chunked chunk) (fix
   small : chunk_length d chunk < 2 ^ 32
   small = let low = plain.small in omega (arith, low)
 
-  module _ (first : List ℕ) (others : List (List ℕ)) (are : AreStoredChunks d chunk (first ∷ others)) (place : ℕ) where
+  -- in a tree of nodes of this K
+  module _ (k : ℕ) (some_k : 1 ≤ k) (first : List ℕ) (others : List (List ℕ)) (are : AreStoredChunks d chunk (first ∷ others)) (place : ℕ) where
     abbrev stored : List (List ℕ)
     stored = first ∷ others
 
     abbrev bytes : List ℕ
-    bytes = chunked_data d chunk stored place
+    bytes = chunked_data k d chunk stored place
 
     -- as long as is counted
-    pub stored_long : data_bytes 32 (length stored) d ≡ length bytes
+    pub stored_long : data_bytes k (length stored) d ≡ length bytes
     stored_long =
         let held : AllByRecursion (AllZip IsOffset chunk) stored = all_so (IsHeldChunk d.sizes chunk) (AllZip IsOffset chunk) stored (λ o is. is.aligned) are.held in
         let any : (length stored == 0) ≡ false = grind (arith, nat_tests) in
-        rw (e, any) (sym (length-chunked chunk d first others place (ranked_of [] d chunk grid stored held)))
+        rw (e, any) (sym (length-chunked k some_k chunk d first others place (ranked_of [] d chunk grid stored held)))
 
-    module _ (image : List ℕ) (k : chunk_k image ≡ 32) (few : length d.sizes ≤ 32) (room : place + length bytes < 2 ^ 63)
+    module _ (image : List ℕ) (k_is : chunk_k image ≡ k) (few_k : k ≤ 32767) (low_tree : root_level k (length (first ∷ others)) ≤ 15) (few : length d.sizes ≤ 32) (room : place + length bytes < 2 ^ 63)
         (there : part place (length bytes) image ≡ bytes) where
       says : layout_of d.sizes (d.fixed).size (raised (array_layout d (Some place))) ≡ Some (InChunks chunk (Some place))
       says =
@@ -83,17 +85,17 @@ module _ (d : Dataset) (chunk : List ℕ) (e : d.storage ≡ Chunked chunk) (fix
       pub stored_laid : IsLaid image place (place + length bytes) (Some place) d
       stored_laid = record {
         layout = InChunks chunk (Some place);
-        chunks = chunks image d chunk grid some small place first others are room there;
-        blocks = blocks image d chunk grid some small place first others are room there;
-        run = stored_run image d chunk grid some small place first others are room there;
+        chunks = chunks image d chunk k some_k few_k grid some small place first others are low_tree room there;
+        blocks = blocks image d chunk k some_k few_k grid some small place first others are low_tree room there;
+        run = stored_run image d chunk k some_k few_k grid some small place first others are low_tree room there;
         short = omega (arith, body_long, same, few);
         says = says;
         storage = e;
         small = plain.small;
-        stored = subst (λ n. HasChunks image n chunk (chunk_length d chunk) place (chunks image d chunk grid some small place first others are room there)
-            (blocks image d chunk grid some small place first others are room there)) (sym k) (stored_stand image d chunk grid some small place first others are room there);
-        cells_are = chunks_cells image d chunk (Some place) (chunks image d chunk grid some small place first others are room there) sound plain.some same (size-low d.fixed fixed)
-            (stored_cells image d chunk grid some small place first others are room there);
+        stored = subst (λ n. HasChunks image n chunk (chunk_length d chunk) place (chunks image d chunk k some_k few_k grid some small place first others are low_tree room there)
+            (blocks image d chunk k some_k few_k grid some small place first others are low_tree room there)) (sym k_is) (stored_stand image d chunk k some_k few_k grid some small place first others are low_tree room there);
+        cells_are = chunks_cells image d chunk (Some place) (chunks image d chunk k some_k few_k grid some small place first others are low_tree room there) sound plain.some same (size-low d.fixed fixed)
+            (stored_cells image d chunk k some_k few_k grid some small place first others are low_tree room there);
       }
 
       -- the header, the tree and the chunks are those of the array

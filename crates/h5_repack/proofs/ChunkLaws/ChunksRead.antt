@@ -1,7 +1,6 @@
 -- Where the data of a chunked array stand, the image has its chunks, with its cells, in blocks without gaps (File Format Specification
 -- 3.0, sections III.A.1 and IV.A.2.i).
 use Rattle.std.proofs.Common.{◌≡◌, ℕ, suc, ◌+◌, ◌*◌, ◌^◌, ◌<◌, ◌≤◌, inl, inr, List, [], ◌∷◌, ◌++◌, length, length-append, map, refl, sym, ap, ◌∙◌, subst, arith, Some, None}
-use Rattle.std.proofs.Math.Nat.{mul-le-mul}
 use Rattle.std.specs.Cmp.Lexicographic.{nat_list_cmp_total}
 use Rattle.std.specs.FinMap.{entries, get, get-entries, values, nat_cmp-IsAntisymmetric, slice_cmp-IsAntisymmetric}
 use Rattle.std.specs.List.{AllByRecursion, AllZip, Contains, flat_map}
@@ -26,7 +25,6 @@ use Rattle.h5_repack.specs.Bodies.Chunks.{chunk_children, chunk_data, chunk_leng
 use Rattle.h5_layout.specs.HeldChunks.{AreStoredChunks, IsHeldChunk}
 use Rattle.h5_repack.proofs.ChunkLaws.ChunkCells.{AreCellsStored}
 use Rattle.h5_repack.proofs.ChunkLaws.ChunkLengths.{AreRanked, key_fits, keys_fit, length-children, length-chunk, length-chunks, length-nodes, node_long}
-use Rattle.h5_repack.proofs.ChunkLaws.ChunkLevels.{chunk_level}
 use Rattle.h5_repack.proofs.ChunkLaws.ChunkOrder.{IsGridOf, key_of}
 use Rattle.h5_repack.proofs.ChunkLaws.ChunkTree.{chunk_map, chunk_pairs, chunks_stand, entries_of, values_of}
 
@@ -80,24 +78,25 @@ module _ (image : List ℕ) (d : Dataset) (chunk : List ℕ) where
   pub ranked_of : (grid : IsGridOf chunk) (stored : List (List ℕ)) → AllByRecursion (AllZip IsOffset chunk) stored → AreRanked chunk stored
   ranked_of grid stored held = all_so (AllZip IsOffset chunk) (λ (o : List ℕ). length o ≡ length chunk) stored (λ o is. (key_of chunk grid size o is).long) held
 
-  module _ (grid : IsGridOf chunk) (some : 1 ≤ size) (small : size < 2 ^ 32) (at : ℕ) (first : List ℕ) (others : List (List ℕ))
-      (are : AreStoredChunks d chunk (first ∷ others))
-      (room : at + length (chunked_data d chunk (first ∷ others) at) < 2 ^ 63)
-      (there : part at (length (chunked_data d chunk (first ∷ others) at)) image ≡ chunked_data d chunk (first ∷ others) at) where
+  -- in a tree of nodes of this K
+  module _ (k : ℕ) (some_k : 1 ≤ k) (few_k : k ≤ 32767) (grid : IsGridOf chunk) (some : 1 ≤ size) (small : size < 2 ^ 32) (at : ℕ) (first : List ℕ)
+      (others : List (List ℕ)) (are : AreStoredChunks d chunk (first ∷ others)) (low_tree : root_level k (length (first ∷ others)) ≤ 15)
+      (room : at + length (chunked_data k d chunk (first ∷ others) at) < 2 ^ 63)
+      (there : part at (length (chunked_data k d chunk (first ∷ others) at)) image ≡ chunked_data k d chunk (first ∷ others) at) where
     abbrev stored : List (List ℕ)
     stored = first ∷ others
 
     abbrev kind : Kind
-    kind = chunk_kind 32 (length chunk)
+    kind = chunk_kind k (length chunk)
 
     abbrev place : ℕ
-    place = chunks_place chunk (length stored) at
+    place = chunks_place k chunk (length stored) at
 
     abbrev children : List (Child OffsetKey)
     children = chunk_children size chunk place stored
 
     abbrev nodes_part : List ℕ
-    nodes_part = chunk_nodes size chunk first stored at
+    nodes_part = chunk_nodes k size chunk first stored at
 
     abbrev chunks_part : List ℕ
     chunks_part = flat_map (chunk_data d chunk) stored
@@ -108,8 +107,8 @@ module _ (image : List ℕ) (d : Dataset) (chunk : List ℕ) where
     ranked : AreRanked chunk stored
     ranked = ranked_of grid stored held
 
-    nodes_long : length nodes_part ≡ nodes_over 64 64 (length stored) * node_length kind
-    nodes_long = length-nodes chunk size first stored at ranked.0 ranked ∙ ap (λ n. nodes_over 64 64 (length stored) * n) (sym (node_long (length chunk)))
+    nodes_long : length nodes_part ≡ nodes_over 64 (2 * k) (length stored) * node_length kind
+    nodes_long = length-nodes k some_k chunk size first stored at ranked.0 ranked ∙ ap (λ n. nodes_over 64 (2 * k) (length stored) * n) (sym (node_long k (length chunk)))
 
     place_is : at + length nodes_part ≡ place
     place_is = ap (λ n. at + n) nodes_long
@@ -117,24 +116,17 @@ module _ (image : List ℕ) (d : Dataset) (chunk : List ℕ) where
     chunks_long : length chunks_part ≡ length stored * size
     chunks_long = length-chunks chunk d stored
 
-    end_is : place + length stored * size ≡ at + length (chunked_data d chunk stored at)
+    end_is : place + length stored * size ≡ at + length (chunked_data k d chunk stored at)
     end_is = let whole = length-append nodes_part chunks_part in omega (arith, whole, chunks_long, place_is)
 
     both : (part at (length nodes_part) image ≡ nodes_part) × (part (at + length nodes_part) (length chunks_part) image ≡ chunks_part)
     both = part_split at nodes_part chunks_part image there
 
-    -- each has a byte
-    few_stored : length stored < 2 ^ 63
-    few_stored =
-        let own : length stored ≤ length stored = omega arith in
-        let each : length stored * 1 ≤ length stored * size = mul-le-mul own some in
-        omega (arith, each, end_is, room)
-
     pub plain : HasPlainNodes image kind chunk_key (record { bytes = size; offsets = first }) at children
-    plain = tree_reads OffsetKey image kind chunk_key (record { bytes = size; offsets = first }) at children (omega arith) (omega arith)
-        (key_fits chunk size first ranked.0) (keys_fit chunk size place stored ranked)
+    plain = tree_reads OffsetKey image kind chunk_key (record { bytes = size; offsets = first }) at children some_k few_k
+        (key_fits k some_k chunk size first ranked.0) (keys_fit k some_k chunk size place stored ranked)
         (all_so (λ n. n < 2 ^ 63) (λ n. n < 2 ^ 64) (places_of children) (λ n low. omega (arith, low)) (places_low chunk size place (2 ^ 63) stored (omega (arith, end_is, room)) some))
-        (subst (λ n. root_level 32 n ≤ 15) (sym (length-children chunk size place stored)) (chunk_level (length stored) few_stored))
+        (subst (λ n. root_level k n ≤ 15) (sym (length-children chunk size place stored)) low_tree)
         (let whole = length-append nodes_part chunks_part in omega (arith, whole, room)) both.0
 
     abbrev pub chunks : Chunks
@@ -144,18 +136,18 @@ module _ (image : List ℕ) (d : Dataset) (chunk : List ℕ) where
     blocks = tree_blocks kind plain.owned ++ map (λ n. block n size) (values chunks)
 
     -- the chunks
-    pub stored_stand : HasChunks image 32 chunk size at chunks blocks
-    stored_stand = chunks_stand chunk grid size some image at place first others small plain are.rising held
+    pub stored_stand : HasChunks image k chunk size at chunks blocks
+    stored_stand = chunks_stand chunk grid size some k image at place first others small plain are.rising held
 
     -- in blocks without gaps
-    pub stored_run : Run at blocks (at + length (chunked_data d chunk stored at))
+    pub stored_run : Run at blocks (at + length (chunked_data k d chunk stored at))
     stored_run =
         let nodes_run : Run at (tree_blocks kind plain.owned) place = subst (Run at (tree_blocks kind plain.owned)) place_is plain.run in
-        let run : Run place (map (λ n. block n size) (values chunks)) (at + length (chunked_data d chunk stored at))
-        = subst (λ (ns : List ℕ). Run place (map (λ n. block n size) ns) (at + length (chunked_data d chunk stored at)))
+        let run : Run place (map (λ n. block n size) (values chunks)) (at + length (chunked_data k d chunk stored at))
+        = subst (λ (ns : List ℕ). Run place (map (λ n. block n size) ns) (at + length (chunked_data k d chunk stored at)))
         (sym (values_of chunk grid size some place first others are.rising))
         (subst (Run place (map (λ n. block n size) (places_of children))) end_is (chunks_run chunk size place stored)) in
-        run_append at place (at + length (chunked_data d chunk stored at)) (tree_blocks kind plain.owned) (map (λ n. block n size) (values chunks)) nodes_run run
+        run_append at place (at + length (chunked_data k d chunk stored at)) (tree_blocks kind plain.owned) (map (λ n. block n size) (values chunks)) nodes_run run
 
     -- with the array's cells
     entries_are : entries chunks ≡ chunk_pairs size place stored

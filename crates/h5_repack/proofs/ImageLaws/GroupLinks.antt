@@ -30,6 +30,7 @@ use Rattle.h5_group.specs.Writing.Written.{links_bytes}
 use Rattle.h5_group.proofs.PutTexts.{no_zero}
 use Rattle.h5_repack.specs.Image.Written.{object_length, header_in, leads_to_object, content_place, group_heap_place, written_link, written_links}
 use Rattle.h5_repack.proofs.ImageLaws.BareLinks.{bare, length-bare}
+use Rattle.h5_model.specs.declared.k_values.KValues.{KValues}
 
 -- ---- lists
 
@@ -55,55 +56,55 @@ ascend_made f same (a ∷ b ∷ es) h =
 
 -- ---- where links lead
 
-leads_group : (leaf internal : ℕ) (o : Object) (links : Links) (h : ℕ) → o.content ≡ Group links
-    → leads_to_object leaf internal o h ≡ ToGroup h (content_place o h) (group_heap_place leaf internal o links h)
-leads_group leaf internal o links h e = rw e refl
+leads_group : (k : KValues) (o : Object) (links : Links) (h : ℕ) → o.content ≡ Group links
+    → leads_to_object k o h ≡ ToGroup h (content_place o h) (group_heap_place k o links h)
+leads_group k o links h e = rw e refl
 
-leads_array : (leaf internal : ℕ) (o : Object) (h : ℕ) (c : Content) → o.content ≡ c → (links_in c ≡ None) → leads_to_object leaf internal o h ≡ ToArray h
-leads_array leaf internal o h (Group links) e none = absurd (cc)
-leads_array leaf internal o h (Array d) e none = rw e refl
+leads_array : (k : KValues) (o : Object) (h : ℕ) (c : Content) → o.content ≡ c → (links_in c ≡ None) → leads_to_object k o h ≡ ToArray h
+leads_array k o h (Group links) e none = absurd (cc)
+leads_array k o h (Array d) e none = rw e refl
 
 -- the heap of a group ends with it
 heap_within : (n s x h hs all : ℕ) → all ≡ n + 32 + s + x → h + (hs + all) ≤ 2 ^ 31 → h + hs + n < 2 ^ 32
 heap_within n s x h hs all is low = omega arith
 
 -- a link to an object that ends low leads there
-lead_to : (leaf internal count : ℕ) (o : Object) (h : ℕ) (c : Content) → o.content ≡ c → h + object_length leaf internal count o ≤ 2 ^ 31
-    → IsLead (leads_to_object leaf internal o h) × (target_of_leads (leads_to_object leaf internal o h) ≡ Header h)
-lead_to leaf internal count o h (Group links) e low =
-    let leads = leads_group leaf internal o links h e in
-    let heap_low : group_heap_place leaf internal o links h < 2 ^ 32
-    = heap_within (nodes_over 64 (2 * internal) (rows_of (2 * leaf) (len links)) * group_node internal) (plain_segment_size links)
-    (rows_of (2 * leaf) (len links) * symbol_node leaf) h (header_size o) (content_bytes leaf internal 32 count o.content)
-    (ap (content_bytes leaf internal 32 count) e) low in (
+lead_to : (k : KValues) (count : ℕ) (o : Object) (h : ℕ) (c : Content) → o.content ≡ c → h + object_length k count o ≤ 2 ^ 31
+    → IsLead (leads_to_object k o h) × (target_of_leads (leads_to_object k o h) ≡ Header h)
+lead_to k count o h (Group links) e low =
+    let leads = leads_group k o links h e in
+    let heap_low : group_heap_place k o links h < 2 ^ 32
+    = heap_within (nodes_over 64 (2 * k.internal) (rows_of (2 * k.leaf) (len links)) * group_node k.internal) (plain_segment_size links)
+    (rows_of (2 * k.leaf) (len links) * symbol_node k.leaf) h (header_size o) (content_bytes k count o.content)
+    (ap (content_bytes k count) e) low in (
       subst IsLead (sym leads) (omega (arith, low), omega (arith, low), heap_low),
       ap target_of_leads leads,
     )
-lead_to leaf internal count o h (Array d) e low =
-    let leads = leads_array leaf internal o h (Array d) e refl in
+lead_to k count o h (Array d) e low =
+    let leads = leads_array k o h (Array d) e refl in
     (subst IsLead (sym leads) (omega (arith, low)), ap target_of_leads leads)
 
 -- ---- the links of a tree's group
 
 -- the objects of the tree stand where the table says, below this end
-abbrev pub ArePlaced : ℕ → ℕ → (ℕ → ℕ) → Tree → FinMap nat_cmp ℕ → ℕ → Type 0
-ArePlaced leaf internal counts tree table end = (n : ℕ) (o : Object) → get tree n ≡ Some o
-    → (place : ℕ) × (get table n ≡ Some place) × (place + object_length leaf internal (counts n) o ≤ end)
+abbrev pub ArePlaced : KValues → (ℕ → ℕ) → Tree → FinMap nat_cmp ℕ → ℕ → Type 0
+ArePlaced k counts tree table end = (n : ℕ) (o : Object) → get tree n ≡ Some o
+    → (place : ℕ) × (get table n ≡ Some place) × (place + object_length k (counts n) o ≤ end)
 
 pub header_is : (table : FinMap nat_cmp ℕ) (n place : ℕ) → get table n ≡ Some place → header_in table n ≡ place
 header_is table n place e = ap (λ (r : Option ℕ). option_map_or (λ h. h) r 0) e
 
 -- a link to an object leads to no text
-no_text : (leaf internal : ℕ) (r : Option Object) (h : ℕ) (text : List ℕ) → option_map_or (λ (x : Object). leads_to_object leaf internal x h) r (ToArray 0) ≡ ToText text → ⊥
-no_text leaf internal None h text e = absurd (cc)
-no_text leaf internal (Some o) h text e = by_content o.content refl where
+no_text : (k : KValues) (r : Option Object) (h : ℕ) (text : List ℕ) → option_map_or (λ (x : Object). leads_to_object k x h) r (ToArray 0) ≡ ToText text → ⊥
+no_text k None h text e = absurd (cc)
+no_text k (Some o) h text e = by_content o.content refl where
   by_content : (c : Content) → o.content ≡ c → ⊥
-  by_content (Group links) is = let lead = leads_group leaf internal o links h is in absurd (cc)
-  by_content (Array d) is = let lead = leads_array leaf internal o h (Array d) is refl in absurd (cc)
+  by_content (Group links) is = let lead = leads_group k o links h is in absurd (cc)
+  by_content (Array d) is = let lead = leads_array k o h (Array d) is refl in absurd (cc)
 
-module _ (leaf internal : ℕ) (tree : Tree) (table : FinMap nat_cmp ℕ) (sound : IsSoundTree tree) where
+module _ (k : KValues) (tree : Tree) (table : FinMap nat_cmp ℕ) (sound : IsSoundTree tree) where
   abbrev as_written : List ℕ × Link → List ℕ × Leads
-  as_written e = written_link leaf internal tree table e
+  as_written e = written_link k tree table e
 
   same_name : (e : List ℕ × Link) → (target_link (as_written e)).0 ≡ e.0
   same_name (name, ToObject n) = refl
@@ -127,7 +128,7 @@ module _ (leaf internal : ℕ) (tree : Tree) (table : FinMap nat_cmp ℕ) (sound
     no_zero_text name text at = sound.spelled number name text (link_is (name, Soft text) at)
 
     abbrev written : List (List ℕ × Leads)
-    written = written_links leaf internal tree table links
+    written = written_links k tree table links
 
     pub length-written : length written ≡ len links
     length-written = length-map (entries links) as_written ∙ sym (len-entries links)
@@ -139,7 +140,7 @@ module _ (leaf internal : ℕ) (tree : Tree) (table : FinMap nat_cmp ℕ) (sound
     each_named (name, Soft text) at = named (name, Soft text) at
 
     each_written : (e : List ℕ × Link) → In e (entries links) → IsLinkWritten e (as_written e)
-    each_written (name, ToObject n) at = by_lead (option_map_or (λ (x : Object). leads_to_object leaf internal x (header_in table n)) (get tree n) (ToArray 0)) (no_text leaf internal (get tree n) (header_in table n)) where
+    each_written (name, ToObject n) at = by_lead (option_map_or (λ (x : Object). leads_to_object k x (header_in table n)) (get tree n) (ToArray 0)) (no_text k (get tree n) (header_in table n)) where
       by_lead : (l : Leads) → ((t : List ℕ) → l ≡ ToText t → ⊥) → IsLinkWritten (name, ToObject n) (name, l)
       by_lead (ToGroup h t p) never = refl
       by_lead (ToArray h) never = refl
@@ -163,7 +164,7 @@ module _ (leaf internal : ℕ) (tree : Tree) (table : FinMap nat_cmp ℕ) (sound
     bare_named e at = ap is_name (bare_name (as_written e)) ∙ each_named e at
 
     bare_spelled : (e : List ℕ × Link) → In e (entries links) → IsSpelled (bare (as_written e))
-    bare_spelled (name, ToObject n) at = by_lead (option_map_or (λ (x : Object). leads_to_object leaf internal x (header_in table n)) (get tree n) (ToArray 0)) (no_text leaf internal (get tree n) (header_in table n)) where
+    bare_spelled (name, ToObject n) at = by_lead (option_map_or (λ (x : Object). leads_to_object k x (header_in table n)) (get tree n) (ToArray 0)) (no_text k (get tree n) (header_in table n)) where
       by_lead : (l : Leads) → ((t : List ℕ) → l ≡ ToText t → ⊥) → IsSpelled (bare (name, l))
       by_lead (ToGroup h t p) never = (no_zero name (named (name, ToObject n) at), (omega arith, omega arith, omega arith))
       by_lead (ToArray h) never = (no_zero name (named (name, ToObject n) at), omega arith)
@@ -171,7 +172,7 @@ module _ (leaf internal : ℕ) (tree : Tree) (table : FinMap nat_cmp ℕ) (sound
     bare_spelled (name, Soft text) at = (no_zero name (named (name, Soft text) at), no_zero_text name text at)
 
     bare_written : (e : List ℕ × Link) → IsLinkWritten e (as_written e) → IsLinkWritten e (bare (as_written e))
-    bare_written (name, ToObject n) is_written = by_lead (option_map_or (λ (x : Object). leads_to_object leaf internal x (header_in table n)) (get tree n) (ToArray 0)) is_written where
+    bare_written (name, ToObject n) is_written = by_lead (option_map_or (λ (x : Object). leads_to_object k x (header_in table n)) (get tree n) (ToArray 0)) is_written where
       by_lead : (l : Leads) → IsLinkWritten (name, ToObject n) (name, l) → IsLinkWritten (name, ToObject n) (bare (name, l))
       by_lead (ToGroup h t p) e = e
       by_lead (ToArray h) e = e
@@ -181,40 +182,40 @@ module _ (leaf internal : ℕ) (tree : Tree) (table : FinMap nat_cmp ℕ) (sound
     abbrev bare_links : List (List ℕ × Leads)
     bare_links = map (λ (e : List ℕ × Link). bare (as_written e)) (entries links)
 
-    plain_bare_links : AreK leaf internal → root_level internal (rows_of (2 * leaf) (len links)) ≤ 15 → ArePlainLinks leaf internal bare_links
-    plain_bare_links k low = record {
-      k = k;
+    plain_bare_links : AreK k.leaf k.internal → root_level k.internal (rows_of (2 * k.leaf) (len links)) ≤ 15 → ArePlainLinks k.leaf k.internal bare_links
+    plain_bare_links range low = record {
+      k = range;
       ascending = subst Ascend (sym (map-map target_link (λ (e : List ℕ × Link). bare (as_written e)) (entries links)))
           (ascend_made (λ (e : List ℕ × Link). target_link (bare (as_written e))) bare_same_name (entries links) (entries_sorted links));
       named = all_made (λ (l : List ℕ × Leads). is_name l.0 ≡ true) (λ (e : List ℕ × Link). bare (as_written e)) (entries links) bare_named;
       spelled = all_made IsSpelled (λ (e : List ℕ × Link). bare (as_written e)) (entries links) bare_spelled;
-      low = subst (λ (n : ℕ). root_level internal (rows_of (2 * leaf) n) ≤ 15) (sym (length-map (entries links) (λ (e : List ℕ × Link). bare (as_written e)) ∙ sym (len-entries links))) low;
+      low = subst (λ (n : ℕ). root_level k.internal (rows_of (2 * k.leaf) n) ≤ 15) (sym (length-map (entries links) (λ (e : List ℕ × Link). bare (as_written e)) ∙ sym (len-entries links))) low;
     }
 
     -- so they are as long as the group's links, wherever they lead
-    pub length-links : LinksLength → GroupLength → (at : ℕ) → AreK leaf internal → root_level internal (rows_of (2 * leaf) (len links)) ≤ 15
-        → length (links_bytes leaf internal at written) ≡ group_bytes leaf internal links
-    length-links links_length_is group_length at k low =
-        sym (length-bare leaf internal at written)
-        ∙ ap (λ (ls : List (List ℕ × Leads)). length (links_bytes leaf internal at ls)) (map-map bare as_written (entries links))
-        ∙ links_length_is leaf internal at bare_links (plain_bare_links k low)
-        ∙ group_length leaf internal links bare_links (zip_made IsLinkWritten (λ (e : List ℕ × Link). bare (as_written e)) (entries links) (λ e there. bare_written e (each_written e there)))
+    pub length-links : LinksLength → GroupLength → (at : ℕ) → AreK k.leaf k.internal → root_level k.internal (rows_of (2 * k.leaf) (len links)) ≤ 15
+        → length (links_bytes k.leaf k.internal at written) ≡ group_bytes k.leaf k.internal links
+    length-links links_length_is group_length at range low =
+        sym (length-bare k.leaf k.internal at written)
+        ∙ ap (λ (ls : List (List ℕ × Leads)). length (links_bytes k.leaf k.internal at ls)) (map-map bare as_written (entries links))
+        ∙ links_length_is k.leaf k.internal at bare_links (plain_bare_links range low)
+        ∙ group_length k.leaf k.internal links bare_links (zip_made IsLinkWritten (λ (e : List ℕ × Link). bare (as_written e)) (entries links) (λ e there. bare_written e (each_written e there)))
 
   -- ---- where they lead
 
-  module _ (counts : ℕ → ℕ) (end : ℕ) (placed : ArePlaced leaf internal counts tree table end) (fits_in : end ≤ 2 ^ 31) where
+  module _ (counts : ℕ → ℕ) (end : ℕ) (placed : ArePlaced k counts tree table end) (fits_in : end ≤ 2 ^ 31) where
     -- where a link to an object leads
     object_lead : (n : ℕ) (o : Object) → get tree n ≡ Some o
-        → IsLead (option_map_or (λ (x : Object). leads_to_object leaf internal x (header_in table n)) (get tree n) (ToArray 0))
-        × (target_of_leads (option_map_or (λ (x : Object). leads_to_object leaf internal x (header_in table n)) (get tree n) (ToArray 0)) ≡ Header (header_in table n))
+        → IsLead (option_map_or (λ (x : Object). leads_to_object k x (header_in table n)) (get tree n) (ToArray 0))
+        × (target_of_leads (option_map_or (λ (x : Object). leads_to_object k x (header_in table n)) (get tree n) (ToArray 0)) ≡ Header (header_in table n))
         × (get table n ≡ Some (header_in table n))
     object_lead n o is =
         let at = placed n o is in
         let here = header_is table n at.0 at.1 in
-        let lead : IsLead (leads_to_object leaf internal o (header_in table n)) × (target_of_leads (leads_to_object leaf internal o (header_in table n)) ≡ Header (header_in table n))
-        = lead_to leaf internal (counts n) o (header_in table n) o.content refl (omega (arith, here, at.2)) in
-        let chosen : option_map_or (λ (x : Object). leads_to_object leaf internal x (header_in table n)) (get tree n) (ToArray 0) ≡ leads_to_object leaf internal o (header_in table n)
-        = ap (λ (r : Option Object). option_map_or (λ (x : Object). leads_to_object leaf internal x (header_in table n)) r (ToArray 0)) is in
+        let lead : IsLead (leads_to_object k o (header_in table n)) × (target_of_leads (leads_to_object k o (header_in table n)) ≡ Header (header_in table n))
+        = lead_to k (counts n) o (header_in table n) o.content refl (omega (arith, here, at.2)) in
+        let chosen : option_map_or (λ (x : Object). leads_to_object k x (header_in table n)) (get tree n) (ToArray 0) ≡ leads_to_object k o (header_in table n)
+        = ap (λ (r : Option Object). option_map_or (λ (x : Object). leads_to_object k x (header_in table n)) r (ToArray 0)) is in
         (subst IsLead (sym chosen) lead.0, ap target_of_leads chosen ∙ lead.1, at.1 ∙ ap (λ (h : ℕ). Some h) (sym here))
 
     module _ (number : ℕ) (o : Object) (links : Links) (is : get tree number ≡ Some o) (group : o.content ≡ Group links) where
@@ -233,15 +234,15 @@ module _ (leaf internal : ℕ) (tree : Tree) (table : FinMap nat_cmp ℕ) (sound
           subst (λ (t : Target). IsSame table (name, ToObject n) (name, t)) (sym lead.1) (refl, lead.2)
       each_same (name, Soft text) at = (refl, refl)
 
-      pub plain_links : AreK leaf internal → root_level internal (rows_of (2 * leaf) (len links)) ≤ 15 → ArePlainLinks leaf internal (written_links leaf internal tree table links)
-      plain_links k low = record {
-        k = k;
+      pub plain_links : AreK k.leaf k.internal → root_level k.internal (rows_of (2 * k.leaf) (len links)) ≤ 15 → ArePlainLinks k.leaf k.internal (written_links k tree table links)
+      plain_links range low = record {
+        k = range;
         ascending = subst Ascend (sym (map-map target_link as_written (entries links))) (ascend_made (λ (e : List ℕ × Link). target_link (as_written e)) same_name (entries links) (entries_sorted links));
         named = all_made (λ (l : List ℕ × Leads). is_name l.0 ≡ true) as_written (entries links) (each_named number o links is group);
         spelled = all_made IsSpelled as_written (entries links) each_spelled;
-        low = subst (λ (n : ℕ). root_level internal (rows_of (2 * leaf) n) ≤ 15) (sym (length-written number o links is group)) low;
+        low = subst (λ (n : ℕ). root_level k.internal (rows_of (2 * k.leaf) n) ≤ 15) (sym (length-written number o links is group)) low;
       }
 
-      pub same_links : AllZip (IsSame table) (entries links) (map target_link (written_links leaf internal tree table links))
+      pub same_links : AllZip (IsSame table) (entries links) (map target_link (written_links k tree table links))
       same_links = subst (AllZip (IsSame table) (entries links)) (sym (map-map target_link as_written (entries links)))
           (zip_made (IsSame table) (λ (e : List ℕ × Link). target_link (as_written e)) (entries links) each_same)

@@ -8,10 +8,11 @@ use Rattle.h5_repack.specs.Image.Written.{object_length}
 use Rattle.h5_repack.proofs.ImageLaws.Orders.{order-total}
 use Rattle.h5_repack.proofs.ImageLaws.Places.{end-total}
 use Rattle.h5_repack.proofs.ImageLaws.Totals.{total-sum_by}
+use Rattle.h5_model.specs.Format.Plain.{plain_superblock_length}
 
 pub image_length : ImageLength
 unfolding plain_length
-image_length leaf internal counts tree order is =
-    end-total leaf internal counts 96 order
-    ∙ ap (λ n. 96 + n) (order-total tree order is (λ (e : ℕ × Object). object_length leaf internal (counts e.0) e.1)
-    ∙ sym (total-sum_by (λ (e : ℕ × Object). object_length leaf internal (counts e.0) e.1) (entries tree)))
+image_length k counts tree order is =
+    end-total k counts (plain_superblock_length k) order
+    ∙ ap (λ n. plain_superblock_length k + n) (order-total tree order is (λ (e : ℕ × Object). object_length k (counts e.0) e.1)
+    ∙ sym (total-sum_by (λ (e : ℕ × Object). object_length k (counts e.0) e.1) (entries tree)))

@@ -13,6 +13,8 @@ use Rattle.h5_laws.proofs.Maps.{found_entry}
 use Rattle.h5_laws.proofs.Pigeonhole.{Apart}
 use Rattle.h5_repack.specs.Image.Written.{object_length, headers_from, end_from, table_of}
 use Rattle.h5_repack.proofs.ImageLaws.Totals.{total}
+use Rattle.h5_model.specs.declared.k_values.KValues.{KValues}
+use Rattle.h5_model.specs.Format.Plain.{plain_superblock_length}
 
 abbrev pub Objects : Type 0
 Objects = List (ℕ × Object)
@@ -34,9 +36,9 @@ found_later {X = X} m n v es other =
     let differs : eqb m n ≡ false = grind (arith, nat_tests, other) in
     ap (λ (b : Bool). cond b (Some v) (find nat_cmp m es)) (unsigned_tied m n ∙ differs)
 
-module _ (leaf internal : ℕ) (counts : ℕ → ℕ) where
+module _ (k : KValues) (counts : ℕ → ℕ) where
   abbrev long : ℕ × Object → ℕ
-  long e = object_length leaf internal (counts e.0) e.1
+  long e = object_length k (counts e.0) e.1
 
   -- each object has bytes
   pub some_bytes : (e : ℕ × Object) → 16 ≤ long e
@@ -65,20 +67,20 @@ module _ (leaf internal : ℕ) (counts : ℕ → ℕ) where
 
   -- ---- ends
 
-  pub end_rises : (at : ℕ) (es : Objects) → at ≤ end_from leaf internal counts at es
+  pub end_rises : (at : ℕ) (es : Objects) → at ≤ end_from k counts at es
   end_rises at [] = omega arith
   end_rises at (e ∷ es) = omega (arith, end_rises (at + long e) es)
 
   -- the end lies behind all lengths
-  pub end-total : (at : ℕ) (es : Objects) → end_from leaf internal counts at es ≡ at + total (λ (e : ℕ × Object). long e) es
+  pub end-total : (at : ℕ) (es : Objects) → end_from k counts at es ≡ at + total (λ (e : ℕ × Object). long e) es
   end-total at [] = omega arith
   end-total at (e ∷ es) = omega (arith, end-total (at + long e) es)
 
   -- an object ends where the next begins, or at the end
   abbrev pub IsBelow : ℕ → ℕ → ℕ × Object → Type 0
-  IsBelow end place e = (96 ≤ place) × (place + long e ≤ end)
+  IsBelow end place e = (plain_superblock_length k ≤ place) × (place + long e ≤ end)
 
-  pub along_below : (at : ℕ) (es : Objects) → 96 ≤ at → Along (IsBelow (end_from leaf internal counts at es)) at es
+  pub along_below : (at : ℕ) (es : Objects) → plain_superblock_length k ≤ at → Along (IsBelow (end_from k counts at es)) at es
   along_below at [] high = tt
   along_below at (e ∷ es) high = ((high, end_rises (at + long e) es), along_below (at + long e) es (omega (arith, high)))
 
@@ -88,25 +90,25 @@ module _ (leaf internal : ℕ) (counts : ℕ → ℕ) where
   IsFound t place e = t e.0 ≡ Some place
 
   pub along_found : (t : ℕ → Option ℕ) (at : ℕ) (es : Objects) → Apart (numbers es)
-      → ((n : ℕ) → In n (numbers es) → t n ≡ find nat_cmp n (headers_from leaf internal counts at es)) → Along (IsFound t) at es
+      → ((n : ℕ) → In n (numbers es) → t n ≡ find nat_cmp n (headers_from k counts at es)) → Along (IsFound t) at es
   along_found t at [] apart same = tt
   along_found t at ((n, o) ∷ es) apart same = (
-    same n (inl refl) ∙ found_first n at (headers_from leaf internal counts (at + long (n, o)) es),
+    same n (inl refl) ∙ found_first n at (headers_from k counts (at + long (n, o)) es),
     along_found t (at + long (n, o)) es apart.1
-        (λ m there. same m (inr there) ∙ found_later m n at (headers_from leaf internal counts (at + long (n, o)) es) (λ e. apart.0 (subst (λ (k : ℕ). In k (numbers es)) e there))),
+        (λ m there. same m (inr there) ∙ found_later m n at (headers_from k counts (at + long (n, o)) es) (λ e. apart.0 (subst (λ (y : ℕ). In y (numbers es)) e there))),
   )
 
   -- a header is that of an object
-  pub header_of : (at : ℕ) (es : Objects) (n h : ℕ) → In (n, h) (headers_from leaf internal counts at es) → (o : Object) × In (n, o) es × (at ≤ h)
+  pub header_of : (at : ℕ) (es : Objects) (n h : ℕ) → In (n, h) (headers_from k counts at es) → (o : Object) × In (n, o) es × (at ≤ h)
   header_of at [] n h there = absurd there
   header_of at ((m, o) ∷ es) n h (inl e) =
       let number : m ≡ n = ap (λ (x : ℕ × ℕ). x.0) e in
       let place : at ≡ h = ap (λ (x : ℕ × ℕ). x.1) e in
-      (o, inl (ap (λ (k : ℕ). (k, o)) number), omega arith)
+      (o, inl (ap (λ (y : ℕ). (y, o)) number), omega arith)
   header_of at ((m, o) ∷ es) n h (inr there) = let rest = header_of (at + long (m, o)) es n h there in (rest.0, inr rest.1, omega (arith, rest.2))
 
   -- and of one object alone
-  pub one_header : (at : ℕ) (es : Objects) (a b h : ℕ) → In (a, h) (headers_from leaf internal counts at es) → In (b, h) (headers_from leaf internal counts at es) → a ≡ b
+  pub one_header : (at : ℕ) (es : Objects) (a b h : ℕ) → In (a, h) (headers_from k counts at es) → In (b, h) (headers_from k counts at es) → a ≡ b
   one_header at [] a b h p q = absurd p
   one_header at ((m, o) ∷ es) a b h (inl e) (inl f) = sym (ap (λ (x : ℕ × ℕ). x.0) e) ∙ ap (λ (x : ℕ × ℕ). x.0) f
   one_header at ((m, o) ∷ es) a b h (inl e) (inr q) =
@@ -121,26 +123,26 @@ module _ (leaf internal : ℕ) (counts : ℕ → ℕ) where
 
   -- the objects hold the bytes from the first place to the end, each once
   pub along_cover : (p : ℕ) (g : ℕ → ℕ) (at : ℕ) (es : Objects) → Along (λ place e. g e.0 ≡ place) at es
-      → total (λ (e : ℕ × Object). holds p (g e.0) (long e)) es ≡ holds p at (end_from leaf internal counts at es - at)
+      → total (λ (e : ℕ × Object). holds p (g e.0) (long e)) es ≡ holds p at (end_from k counts at es - at)
   along_cover p g at [] along = let none : at - at ≡ 0 = omega arith in sym (ap (holds p at) none ∙ holds_none p at)
   along_cover p g at (e ∷ es) along =
-      let behind : end_from leaf internal counts at (e ∷ es) - at ≡ long e + (end_from leaf internal counts (at + long e) es - (at + long e)) = omega (arith, end_rises (at + long e) es) in
-      ap₂ (λ (a b : ℕ). a + b) (ap (λ k. holds p k (long e)) along.0) (along_cover p g (at + long e) es along.1)
-      ∙ sym (holds_join p at (long e) (end_from leaf internal counts (at + long e) es - (at + long e))) ∙ sym (ap (holds p at) behind)
+      let behind : end_from k counts at (e ∷ es) - at ≡ long e + (end_from k counts (at + long e) es - (at + long e)) = omega (arith, end_rises (at + long e) es) in
+      ap₂ (λ (a b : ℕ). a + b) (ap (λ y. holds p y (long e)) along.0) (along_cover p g (at + long e) es along.1)
+      ∙ sym (holds_join p at (long e) (end_from k counts (at + long e) es - (at + long e))) ∙ sym (ap (holds p at) behind)
 
 -- ---- the table of an order
 
-pub table_find : (leaf internal : ℕ) (counts : ℕ → ℕ) (order : Objects) (n : ℕ) → get (table_of leaf internal counts order) n ≡ find nat_cmp n (headers_from leaf internal counts 96 order)
-table_find leaf internal counts order n = get-from_entries nat_cmp_total (headers_from leaf internal counts 96 order) n
+pub table_find : (k : KValues) (counts : ℕ → ℕ) (order : Objects) (n : ℕ) → get (table_of k counts order) n ≡ find nat_cmp n (headers_from k counts (plain_superblock_length k) order)
+table_find k counts order n = get-from_entries nat_cmp_total (headers_from k counts (plain_superblock_length k) order) n
 
 -- each header is that of one number
-pub table_own : (leaf internal : ℕ) (counts : ℕ → ℕ) (order : Objects) (a b h : ℕ) → get (table_of leaf internal counts order) a ≡ Some h → get (table_of leaf internal counts order) b ≡ Some h → a ≡ b
-table_own leaf internal counts order a b h p q = one_header leaf internal counts 96 order a b h
-    (found_entry nat_cmp-IsAntisymmetric (headers_from leaf internal counts 96 order) a h (sym (table_find leaf internal counts order a) ∙ p))
-    (found_entry nat_cmp-IsAntisymmetric (headers_from leaf internal counts 96 order) b h (sym (table_find leaf internal counts order b) ∙ q))
+pub table_own : (k : KValues) (counts : ℕ → ℕ) (order : Objects) (a b h : ℕ) → get (table_of k counts order) a ≡ Some h → get (table_of k counts order) b ≡ Some h → a ≡ b
+table_own k counts order a b h p q = one_header k counts (plain_superblock_length k) order a b h
+    (found_entry nat_cmp-IsAntisymmetric (headers_from k counts (plain_superblock_length k) order) a h (sym (table_find k counts order a) ∙ p))
+    (found_entry nat_cmp-IsAntisymmetric (headers_from k counts (plain_superblock_length k) order) b h (sym (table_find k counts order b) ∙ q))
 
 -- what the table has is an object
-pub table_object : (leaf internal : ℕ) (counts : ℕ → ℕ) (order : Objects) (n h : ℕ) → get (table_of leaf internal counts order) n ≡ Some h → (o : Object) × In (n, o) order
-table_object leaf internal counts order n h p =
-    let found = header_of leaf internal counts 96 order n h (found_entry nat_cmp-IsAntisymmetric (headers_from leaf internal counts 96 order) n h (sym (table_find leaf internal counts order n) ∙ p)) in
+pub table_object : (k : KValues) (counts : ℕ → ℕ) (order : Objects) (n h : ℕ) → get (table_of k counts order) n ≡ Some h → (o : Object) × In (n, o) order
+table_object k counts order n h p =
+    let found = header_of k counts (plain_superblock_length k) order n h (found_entry nat_cmp-IsAntisymmetric (headers_from k counts (plain_superblock_length k) order) n h (sym (table_find k counts order n) ∙ p)) in
     (found.0, found.1)

@@ -52,20 +52,20 @@ cells_written Filled a = cells_bytes a.fixed (replicate (cells a.sizes) a.fill)
 cells_written (Stored bytes) a = bytes.now
 cells_written (Chunks held) a = cells_bytes a.fixed (replicate (cells a.sizes) a.fill)
 
--- all cells, or the chunks that are stored
-abbrev pub stored_written : Cells → Described → ℕ → List ℕ
-stored_written Unset a place = cells_written Unset a
-stored_written Filled a place = cells_written Filled a
-stored_written (Stored bytes) a place = cells_written (Stored bytes) a
-stored_written (Chunks held) a place = chunks_written held place
+-- all cells, or the chunks that are stored, in a tree of nodes of this K
+abbrev pub stored_written : ℕ → Cells → Described → ℕ → List ℕ
+stored_written chunk_k Unset a place = cells_written Unset a
+stored_written chunk_k Filled a place = cells_written Filled a
+stored_written chunk_k (Stored bytes) a place = cells_written (Stored bytes) a
+stored_written chunk_k (Chunks held) a place = chunks_written chunk_k held place
 
 -- whether cells, or a tree of chunks, stand behind the header
 abbrev pub has_data : Described → Cells → Bool
 has_data a c = is_stored (chunks_of c) (storage_written a c)
 
 -- the data behind the header, at this place, where there are any
-abbrev pub data_written : Cells → Described → ℕ → List ℕ
-data_written c a place = if has_data a c then stored_written c a place else []
+abbrev pub data_written : ℕ → Cells → Described → ℕ → List ℕ
+data_written chunk_k c a place = if has_data a c then stored_written chunk_k c a place else []
 
 -- so many bytes; none where an image cannot have as many
 abbrev pub IsLength : Option ℕ → ℕ → Type 0

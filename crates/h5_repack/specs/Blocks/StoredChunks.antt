@@ -23,13 +23,13 @@ part_bytes t part = cells_bytes t part.1
 abbrev pub parts_bytes : HeldCells → List ℕ
 parts_bytes h = flat_map (part_bytes h.fixed) h.parts
 
--- chunks at these offsets behind their tree, which is at this place; nothing where there is none
-abbrev pub parts_written : HeldCells → List (List ℕ) → ℕ → List ℕ
-parts_written h [] place = []
-parts_written h (first ∷ others) place = chunk_nodes (part_length h) h.chunk first (first ∷ others) place ++ parts_bytes h
+-- chunks at these offsets behind their tree, of nodes of this K, which is at this place; nothing where there is none
+abbrev pub parts_written : ℕ → HeldCells → List (List ℕ) → ℕ → List ℕ
+parts_written k h [] place = []
+parts_written k h (first ∷ others) place = chunk_nodes k (part_length h) h.chunk first (first ∷ others) place ++ parts_bytes h
 
-abbrev pub chunks_written : HeldCells → ℕ → List ℕ
-chunks_written h place = parts_written h (part_offsets h) place
+abbrev pub chunks_written : ℕ → HeldCells → ℕ → List ℕ
+chunks_written k h place = parts_written k h (part_offsets h) place
 
 -- ---- keys of the tree
 

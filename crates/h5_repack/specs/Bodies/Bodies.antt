@@ -1,5 +1,5 @@
 -- The messages that a header has in the plain layout (File Format Specification 3.0, section IV.A.2).
-use Rattle.std.specs.Prelude.{ℕ, ◌+◌, ◌*◌, ◌||◌, Bool, not, nat_lt, if◌then◌else◌, ℤ, Option, List, [], ◌∷◌, ◌++◌, map, length}
+use Rattle.std.specs.Prelude.{ℕ, ◌+◌, ◌*◌, ◌||◌, Bool, not, nat_lt, if◌then◌else◌, ℤ, Option, List, [], ◌∷◌, ◌++◌, map, length, unwrap_or}
 use Rattle.std.specs.FinMap.{entries}
 use Rattle.h5_bytes.specs.Texts.{pad8}
 use Rattle.h5_model.specs.Tree.Places.{cells}
@@ -16,9 +16,13 @@ use Rattle.h5_model.specs.Tree.Objects.{Object, Dataset, Storage, Compact, Conti
 abbrev pub kept_message : Kept → ℕ × List ℕ
 kept_message k = (k.kind, k.body)
 
--- an attribute's body, raised to a multiple of 8
+-- an attribute's body of version 1, raised to a multiple of 8
+abbrev pub attribute_body : List ℕ → Attribute → List ℕ
+attribute_body name a = attribute_bytes name a.fixed a.sizes a.values (pad8 (attribute_size (length name) a.sizes (a.fixed).size))
+
+-- it, or the body that is kept
 abbrev pub attribute_message : (List ℕ × Attribute) → ℕ × List ℕ
-attribute_message (name, a) = (attribute_kind, attribute_bytes name a.fixed a.sizes a.values (pad8 (attribute_size (length name) a.sizes (a.fixed).size)))
+attribute_message (name, a) = (attribute_kind, unwrap_or a.body (attribute_body name a))
 
 abbrev pub others_of : Object → List (ℕ × List ℕ)
 others_of o = map kept_message o.kept ++ map attribute_message (entries o.attributes)

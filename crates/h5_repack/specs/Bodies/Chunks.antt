@@ -5,7 +5,6 @@ use Rattle.std.specs.List.{flat_map}
 use Rattle.h5_model.specs.Format.Nodes.{chunk_kind, node_length}
 use Rattle.h5_model.specs.Format.Plain.{cells_bytes}
 use Rattle.h5_model.specs.Format.PlainLength.{nodes_over}
-use Rattle.h5_model.specs.Format.PlainSuperblock.{plain_chunk_k}
 use Rattle.h5_model.specs.Tree.Objects.{Dataset}
 use Rattle.h5_model.specs.Tree.Places.{cells}
 use Rattle.h5_btree.specs.Writing.Written.{tree_bytes}
@@ -36,18 +35,18 @@ chunk_children size chunk at [] = []
 chunk_children size chunk at (offsets ∷ others) =
     record { at = at; key = key_after size chunk offsets others } ∷ chunk_children size chunk (at + size) others
 
--- where so many chunks stand behind their tree, which is at this place
-abbrev pub chunks_place : List ℕ → ℕ → ℕ → ℕ
-chunks_place chunk count at = at + nodes_over 64 (2 * plain_chunk_k) count * node_length (chunk_kind plain_chunk_k (length chunk))
+-- where so many chunks stand behind their tree, of nodes of this K, which is at this place
+abbrev pub chunks_place : ℕ → List ℕ → ℕ → ℕ → ℕ
+chunks_place k chunk count at = at + nodes_over 64 (2 * k) count * node_length (chunk_kind k (length chunk))
 
 -- the tree of the chunks of so many bytes at these offsets, of which the first is given apart
-abbrev pub chunk_nodes : ℕ → List ℕ → List ℕ → List (List ℕ) → ℕ → List ℕ
-chunk_nodes size chunk first all at =
-    tree_bytes (chunk_kind plain_chunk_k (length chunk)) chunk_key (record { bytes = size; offsets = first }) at
-    (chunk_children size chunk (chunks_place chunk (length all) at) all)
+abbrev pub chunk_nodes : ℕ → ℕ → List ℕ → List ℕ → List (List ℕ) → ℕ → List ℕ
+chunk_nodes k size chunk first all at =
+    tree_bytes (chunk_kind k (length chunk)) chunk_key (record { bytes = size; offsets = first }) at
+    (chunk_children size chunk (chunks_place k chunk (length all) at) all)
 
 -- the tree at this place, and the chunks; nothing where no chunk is stored
-abbrev pub chunked_data : Dataset → List ℕ → List (List ℕ) → ℕ → List ℕ
-chunked_data d chunk [] at = []
-chunked_data d chunk (first ∷ others) at =
-    chunk_nodes (chunk_length d chunk) chunk first (first ∷ others) at ++ flat_map (chunk_data d chunk) (first ∷ others)
+abbrev pub chunked_data : ℕ → Dataset → List ℕ → List (List ℕ) → ℕ → List ℕ
+chunked_data k d chunk [] at = []
+chunked_data k d chunk (first ∷ others) at =
+    chunk_nodes k (chunk_length d chunk) chunk first (first ∷ others) at ++ flat_map (chunk_data d chunk) (first ∷ others)

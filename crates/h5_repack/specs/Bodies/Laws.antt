@@ -11,19 +11,19 @@ use Rattle.h5_model.specs.Format.Messages.{prefix_at, reference_count}
 use Rattle.h5_model.specs.Format.Plain.{header_bytes}
 use Rattle.h5_model.specs.Format.Reads.{Placed, ReadsAs, HasObject, all_blocks}
 use Rattle.h5_model.specs.Format.Sizes.{header_size}
-use Rattle.h5_model.specs.Format.Superblock.{leaf_k, internal_k}
+use Rattle.h5_model.specs.Format.Superblock.{chunk_k, k_values}
 use Rattle.h5_model.specs.Tree.Objects.{Tree, Object, Array, Dataset}
 use Rattle.h5_repack.specs.Bodies.Bodies.{others_of, array_messages}
-use Rattle.h5_repack.specs.Bodies.Headers.{AreStoredFor, is_stored, data_of}
+use Rattle.h5_repack.specs.Bodies.Headers.{AreStoredFor, IsLowStorage, is_stored, data_of}
 use Rattle.h5_repack.specs.Bodies.Sound.{IsPlainObject, IsPlainArray}
+use Rattle.h5_model.specs.declared.k_values.KValues.{KValues}
 
 -- the image reads as the tree, has these K values, and has no gap
-pub record IsPlainReading (image : List ℕ) (leaf internal : ℕ) (table : FinMap nat_cmp ℕ) (tree : Tree) : Type 0 where
+pub record IsPlainReading (image : List ℕ) (k : KValues) (table : FinMap nat_cmp ℕ) (tree : Tree) : Type 0 where
   pub placed : List Placed
   pub reads : ReadsAs image table tree placed
   pub covered : CoverOnce (length image) (all_blocks image placed)
-  pub leaf_is : leaf_k image ≡ leaf
-  pub internal_is : internal_k image ≡ internal
+  pub k_is : k_values image ≡ k
 
 -- ---- arrays
 
@@ -34,13 +34,14 @@ counted_header count p d address = header_bytes count (array_messages d address 
 -- Such a header, with the data or the chunks that are stored, reads as the array, and has that count. The other blocks are those of the
 -- data, without gaps.
 abbrev pub ArrayReads : Type 0
-ArrayReads = (image : List ℕ) (table : FinMap nat_cmp ℕ) (at place count : ℕ) (p : Object) (d : Dataset) (stored : List (List ℕ)) → IsPlainObject p → p.content ≡ Array d
+ArrayReads = (image : List ℕ) (table : FinMap nat_cmp ℕ) (at place count k : ℕ) (p : Object) (d : Dataset) (stored : List (List ℕ)) → IsPlainObject p → p.content ≡ Array d
     → IsPlainArray d (length (others_of p)) → AreStoredFor stored d → 3 + length (others_of p) ≤ 65535 → count < 2 ^ 32 → header_size p < 2 ^ 31
-    → place + length (data_of stored d place) < 2 ^ 63
+    → chunk_k image ≡ k → 1 ≤ k → k ≤ 32767 → IsLowStorage k (length stored) d.storage
+    → place + length (data_of k stored d place) < 2 ^ 63
     → part at (header_size p) image ≡ counted_header count p d (if is_stored stored d.storage then Some place else None)
-    → part place (length (data_of stored d place)) image ≡ data_of stored d place
+    → part place (length (data_of k stored d place)) image ≡ data_of k stored d place
     → (blocks : List Block) × HasObject image table at p (block at (header_size p) ∷ blocks) × (reference_count (prefix_at image at) ≡ count)
-    × Run place blocks (place + length (data_of stored d place))
+    × Run place blocks (place + length (data_of k stored d place))
 
 -- it has the length that is counted for it
 abbrev pub ArrayLength : Type 0

@@ -1,8 +1,9 @@
 -- Which objects the plain layout can hold: those that an image reads as, or that an accepted edit makes of them.
-use Rattle.std.specs.Prelude.{◌≡◌, ℕ, ◌+◌, ◌*◌, ◌^◌, ◌%◌, ◌<◌, ◌≤◌, ◌==◌, ◌||◌, true, false, IsTrue, IfSome, pos, Option, List, length, replicate}
+use Rattle.std.specs.Prelude.{◌≡◌, ℕ, ◌+◌, ◌*◌, ◌^◌, ◌%◌, ◌<◌, ◌≤◌, ◌==◌, ◌||◌, true, false, IsTrue, IfSome, pos, Option, Some, None, List, length, replicate}
 use Rattle.std.specs.List.{AllByRecursion, AllZip, list_any}
 use Rattle.std.specs.FinMap.{entries}
 use Rattle.h5_bytes.specs.Bytes.{undefined}
+use Rattle.h5_model.specs.Format.AttributeBody.{attribute_of}
 use Rattle.h5_model.specs.Format.Fixed.{Fixed, IsFixed}
 use Rattle.h5_model.specs.Tree.Places.{cells, extent_cells}
 use Rattle.h5_model.specs.Edits.Refusal.{has_zero}
@@ -17,6 +18,11 @@ pub record IsPlainKept (k : Kept) : Type 0 where
   pub padded : length k.body % 8 ≡ 0
   pub low : length k.body < 65536
 
+-- the body that is kept says the attribute, and a message may have it; a body of version 1 fits in one
+abbrev pub IsPlainBody : List ℕ → Attribute → Option (List ℕ) → Type 0
+IsPlainBody name a None = attribute_size (length name) a.sizes (a.fixed).size ≤ 65528
+IsPlainBody name a (Some body) = (attribute_of body ≡ Some (name, a)) × (length body % 8 ≡ 0) × (length body < 65536)
+
 -- a name and values that fit in one message
 pub record IsPlainAttribute (e : List ℕ × Attribute) : Type 0 where
   pub named : 1 ≤ length e.0
@@ -26,7 +32,7 @@ pub record IsPlainAttribute (e : List ℕ × Attribute) : Type 0 where
   pub counted : length (e.1).values ≡ cells (e.1).sizes
   pub of_type : AreOf (e.1).fixed (e.1).values
   pub few : extent_cells (e.1).sizes ≤ 2 ^ 40
-  pub room : attribute_size (length e.0) (e.1).sizes ((e.1).fixed).size ≤ 65528
+  pub body : IsPlainBody e.0 e.1 (e.1).body
 
 pub record IsPlainObject (o : Object) : Type 0 where
   pub kept : AllByRecursion IsPlainKept o.kept

@@ -1,13 +1,17 @@
 //! The bytes of cells (File Format Specification 3.0, section IV.A.2.d, class 0), and where they stand.
-ghost use Rattle.std.specs.Prelude.{◌≡◌, ℕ, ◌-◌, ◌*◌, ◌^◌, ◌≤◌, ◌++◌, OnOk, true, length, replicate};
+ghost use Rattle.std.specs.Prelude.{◌≡◌, ℕ, ◌-◌, ◌*◌, ◌^◌, ◌<◌, ◌≤◌, ◌++◌, OnOk, nat_le, true, length, replicate};
 ghost use Rattle.h5_model.specs.Format.Fixed.{bytes_of, fits};
 ghost use Rattle.h5_bytes.specs.Numbers.{zeros};
 ghost use Rattle.h5_model.specs.Format.Plain.{cells_bytes};
 ghost use Rattle.h5_model.specs.Tree.Places.{cells as cells_of};
+ghost use Rattle.h5_btree.specs.Writing.Written.{root_level};
 ghost use Rattle.h5_repack.specs.Blocks.ArrayHeader.{IsArrayToWrite, IsLength, address_written, are_stored as are_cells_stored, data_written, has_data};
 ghost use Rattle.h5_repack.specs.Blocks.Parts.{copies};
+ghost use Rattle.h5_repack.specs.Blocks.Written.{chunks_of};
 
-use crate::blocks::chunks::{chunks_length, has_chunks, length_in_image, push_chunks};
+use crate::blocks::chunks::{
+    chunks_length, has_chunks, has_low_chunks, length_in_image, push_chunks,
+};
 use h5_bytes::push_bytes;
 use h5_layout::{ArrayRef, HeldChunks, Layout};
 use h5_model::Fixed;
@@ -103,10 +107,12 @@ fn stores_data(array: &ArrayRef<'_>, cells: &Cells<'_>) -> bool
 }
 
 /// How many bytes of data stand behind the header of an array with these cells; `None` where an image cannot have as
-/// many.
-pub fn data_length(array: &ArrayRef<'_>, cells: &Cells<'_>) -> Option<u64>
-    requires { IsArrayToWrite array.now cells.now }
-    ensures { (place : ℕ) → IsLength result (length (data_written cells.now array.now place)) }
+/// many. `chunk_k` is K of the nodes of the tree over chunks.
+pub fn data_length(chunk_k: u16, array: &ArrayRef<'_>, cells: &Cells<'_>) -> Option<u64>
+    requires some { 1 ≤ chunk_k }
+    requires most { chunk_k ≤ 32767 }
+    requires array { IsArrayToWrite array.now cells.now }
+    ensures { (place : ℕ) → IsLength result (length (data_written chunk_k cells.now array.now place)) }
 {
     if !stores_data(array, cells) {
         return Some(0);
@@ -115,7 +121,22 @@ pub fn data_length(array: &ArrayRef<'_>, cells: &Cells<'_>) -> Option<u64>
         Cells::Unset => unreachable!(),
         Cells::Filled => length_in_image(cells_length(array)),
         Cells::Stored(bytes) => length_in_image(bytes.len() as u64),
-        Cells::Chunks(held) => chunks_length(held),
+        Cells::Chunks(held) => chunks_length(chunk_k, held),
+    }
+}
+
+/// Whether the tree of the chunks that are stored, of nodes of this K, has at most 16 levels.
+pub(crate) fn has_low_tree(chunk_k: u16, cells: &Cells<'_>) -> bool
+    requires some { 1 ≤ chunk_k }
+    requires most { chunk_k ≤ 32767 }
+    requires few { length (chunks_of cells.now) < 2 ^ 32 }
+    ensures { result ≡ nat_le (root_level chunk_k (length (chunks_of cells.now))) 15 }
+{
+    match cells {
+        Cells::Unset => true,
+        Cells::Filled => true,
+        Cells::Stored(_) => true,
+        Cells::Chunks(held) => has_low_chunks(chunk_k, held),
     }
 }
 
@@ -132,7 +153,7 @@ pub fn cells_address(array: &ArrayRef<'_>, cells: &Cells<'_>, place: u64) -> Opt
 }
 
 /// Appends the data of an array with these cells, where it has any behind its header: one block, or the tree of its
-/// chunks and the chunks. `place` is the address at which `out` ends.
+/// chunks, of nodes of the K `chunk_k`, and the chunks. `place` is the address at which `out` ends.
 ///
 /// # Errors
 ///
@@ -140,14 +161,18 @@ pub fn cells_address(array: &ArrayRef<'_>, cells: &Cells<'_>, place: u64) -> Opt
 pub fn push_data(
     alloc: Global,
     out: &mut Vec<u8>,
+    chunk_k: u16,
     array: &ArrayRef<'_>,
     cells: &Cells<'_>,
     place: u64,
 ) -> Result<(), AllocError>
+    requires some { 1 ≤ chunk_k }
+    requires most { chunk_k ≤ 32767 }
     requires array { IsArrayToWrite array.now cells.now }
+    requires level { root_level chunk_k (length (chunks_of cells.now)) ≤ 15 }
     requires low { place ≤ 2 ^ 31 }
-    requires few { length (data_written cells.now array.now place) ≤ 2 ^ 31 }
-    ensures { OnOk result (out.new.items ≡ out.old.items ++ data_written cells.now array.now place) }
+    requires few { length (data_written chunk_k cells.now array.now place) ≤ 2 ^ 31 }
+    ensures { OnOk result (out.new.items ≡ out.old.items ++ data_written chunk_k cells.now array.now place) }
 {
     if !stores_data(array, cells) {
         return Ok(());
@@ -156,6 +181,6 @@ pub fn push_data(
         Cells::Unset => unreachable!(),
         Cells::Filled => push_cells(alloc, out, &array.fixed(), array.fill(), array.cells()),
         Cells::Stored(bytes) => push_bytes(out, bytes),
-        Cells::Chunks(held) => push_chunks(alloc, out, held, place),
+        Cells::Chunks(held) => push_chunks(alloc, out, chunk_k, held, place),
     }
 }

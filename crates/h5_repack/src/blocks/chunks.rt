@@ -1,10 +1,10 @@
 //! Chunks that are stored behind their tree, as they are appended (File Format Specification 3.0, sections III.A.1 and IV.A.2.i).
-ghost use Rattle.std.specs.Prelude.{◌≡◌, ℕ, ℤ, ◌+◌, ◌-◌, ◌*◌, ◌^◌, ◌<◌, ◌≤◌, ◌++◌, ◌∷◌, IfOk, List, OnOk, Some, drop, length, map, slice_get};
+ghost use Rattle.std.specs.Prelude.{◌≡◌, ℕ, ℤ, ◌+◌, ◌-◌, ◌*◌, ◌^◌, ◌<◌, ◌≤◌, ◌++◌, ◌∷◌, IfOk, List, OnOk, Some, drop, length, map, nat_le, slice_get};
 ghost use Rattle.std.specs.List.{AllByRecursion};
 ghost use Rattle.h5_model.specs.Format.Nodes.{chunk_kind, node_length};
 ghost use Rattle.h5_model.specs.Format.PlainLength.{nodes_over as nodes};
-ghost use Rattle.h5_model.specs.Format.PlainSuperblock.{plain_chunk_k};
 ghost use Rattle.h5_model.specs.Tree.Objects.{Chunked};
+ghost use Rattle.h5_btree.specs.Writing.Written.{root_level as level};
 ghost use Rattle.h5_chunks.specs.Keys.{chunk_key, index_from};
 ghost use Rattle.h5_repack.specs.Bodies.Chunks.{chunk_children, chunk_nodes, key_after};
 ghost use Rattle.h5_repack.specs.Bodies.Headers.{is_stored};
@@ -13,8 +13,8 @@ ghost use Rattle.h5_repack.specs.Blocks.StoredChunks.{IsLastKey, chunks_written,
 ghost use Rattle.h5_repack.specs.Blocks.Written.{AreWhole, chunks_of, part_offsets};
 
 use crate::blocks::cells::Cells;
-use h5_btree::{Child, NodeKind, nodes_over, push_tree};
-use h5_chunks::{CHUNK_K, ChunkKey};
+use h5_btree::{Child, NodeKind, nodes_over, push_tree, root_level};
+use h5_chunks::ChunkKey;
 use h5_group::MAXIMUM_IMAGE;
 use h5_layout::HeldChunks;
 use std::alloc::{AllocError, Global};
@@ -38,37 +38,54 @@ pub(crate) fn has_chunks(cells: &Cells<'_>) -> bool
     }
 }
 
-/// The kind of the tree over chunks.
-fn kind_of(held: &HeldChunks<'_>) -> NodeKind
-    ensures kind { result ≡ chunk_kind plain_chunk_k (length held.now.chunk) }
+/// The kind of the tree over chunks, of nodes of this K.
+fn kind_of(chunk_k: u16, held: &HeldChunks<'_>) -> NodeKind
+    requires { chunk_k ≤ 32767 }
+    ensures kind { result ≡ chunk_kind chunk_k (length held.now.chunk) }
     ensures short { result.key_length ≤ 272 }
     ensures ranked { AllByRecursion (λ (part : List ℕ × List ℤ).
         length part.0 ≡ length held.now.chunk) held.now.parts }
 {
-    NodeKind::chunks(CHUNK_K, held.chunk().len())
+    NodeKind::chunks(chunk_k, held.chunk().len())
 }
 
 /// How many bytes the nodes of a tree of this kind have over so many chunks.
 fn nodes_length(kind: &NodeKind, count: u64) -> u64
-    requires k { kind.now.k ≡ plain_chunk_k }
+    requires some { 1 ≤ kind.now.k }
+    requires most { kind.now.k ≤ 32767 }
     requires short { kind.now.key_length ≤ 272 }
     requires few { count < 2 ^ 32 }
     ensures exact { result ≡ nodes 64 (2 * kind.now.k) count * node_length kind.now }
-    ensures few { result ≤ 2 ^ 48 }
+    ensures few { result ≤ 2 ^ 58 }
 {
     nodes_over(kind, count) * kind.node_length() as u64
 }
 
+/// How many levels above the lowest the tree over chunks may have.
+const MAXIMUM_LEVEL: u32 = 15;
+
+/// Whether the tree of stored chunks has at most 16 levels.
+pub(crate) fn has_low_chunks(chunk_k: u16, held: &HeldChunks<'_>) -> bool
+    requires some { 1 ≤ chunk_k }
+    requires most { chunk_k ≤ 32767 }
+    requires few { length (part_offsets held.now) < 2 ^ 32 }
+    ensures { result ≡ nat_le (level chunk_k (length (part_offsets held.now))) 15 }
+{
+    root_level(&kind_of(chunk_k, held), held.len() as u64) <= MAXIMUM_LEVEL
+}
+
 /// How many bytes stored chunks have with their tree; `None` where an image cannot have as many.
-pub(crate) fn chunks_length(held: &HeldChunks<'_>) -> Option<u64>
-    requires { AreWhole held.now }
-    ensures { (place : ℕ) → IsLength result (length (chunks_written held.now place)) }
+pub(crate) fn chunks_length(chunk_k: u16, held: &HeldChunks<'_>) -> Option<u64>
+    requires some { 1 ≤ chunk_k }
+    requires most { chunk_k ≤ 32767 }
+    requires whole { AreWhole held.now }
+    ensures { (place : ℕ) → IsLength result (length (chunks_written chunk_k held.now place)) }
 {
     let count = held.len() as u64;
     if count == 0 {
         return Some(0);
     }
-    let kind = kind_of(held);
+    let kind = kind_of(chunk_k, held);
     let size = held.chunk_length();
     // Each has at least one byte.
     if count > MAXIMUM_IMAGE {
@@ -126,21 +143,25 @@ fn children_of<'a>(
 fn push_chunk_tree(
     alloc: Global,
     out: &mut Vec<u8>,
+    chunk_k: u16,
     held: &HeldChunks<'_>,
     place: u64,
 ) -> Result<(), AllocError>
     requires some { 1 ≤ length held.now.parts }
+    requires low_k { 1 ≤ chunk_k }
+    requires high_k { chunk_k ≤ 32767 }
+    requires level { level chunk_k (length held.now.parts) ≤ 15 }
     requires whole { AreWhole held.now }
     requires low { place ≤ 2 ^ 31 }
-    requires few { length (chunks_written held.now place) ≤ 2 ^ 31 }
+    requires few { length (chunks_written chunk_k held.now place) ≤ 2 ^ 31 }
     ensures { OnOk result ((first : List ℕ) (others : List (List ℕ))
         → part_offsets held.now ≡ first ∷ others
         → out.new.items ≡ out.old.items
-        ++ chunk_nodes (part_length held.now) held.now.chunk first (first ∷ others) place) }
+        ++ chunk_nodes chunk_k (part_length held.now) held.now.chunk first (first ∷ others) place) }
 {
     let mut last = Vec::new(alloc);
     held.push_last_key(&mut last)?;
-    let kind = kind_of(held);
+    let kind = kind_of(chunk_k, held);
     let size = held.chunk_length();
     let begin = place + nodes_length(&kind, held.len() as u64);
     let children = children_of(alloc, held, size, &last, begin)?;
@@ -160,23 +181,27 @@ fn push_parts(out: &mut Vec<u8>, held: &HeldChunks<'_>) -> Result<(), AllocError
     Ok(())
 }
 
-/// Stored chunks behind their tree, which is at this place, where `out` ends. Where there is none, nothing.
+/// Stored chunks behind their tree, of nodes of this K, which is at this place, where `out` ends. Where there is none, nothing.
 ///
 /// Takes memory for a child of each chunk, and for the nodes of two rows.
 pub(crate) fn push_chunks(
     alloc: Global,
     out: &mut Vec<u8>,
+    chunk_k: u16,
     held: &HeldChunks<'_>,
     place: u64,
 ) -> Result<(), AllocError>
+    requires some { 1 ≤ chunk_k }
+    requires most { chunk_k ≤ 32767 }
+    requires level { level chunk_k (length (part_offsets held.now)) ≤ 15 }
     requires whole { AreWhole held.now }
     requires low { place ≤ 2 ^ 31 }
-    requires few { length (chunks_written held.now place) ≤ 2 ^ 31 }
-    ensures { OnOk result (out.new.items ≡ out.old.items ++ chunks_written held.now place) }
+    requires few { length (chunks_written chunk_k held.now place) ≤ 2 ^ 31 }
+    ensures { OnOk result (out.new.items ≡ out.old.items ++ chunks_written chunk_k held.now place) }
 {
     if held.is_empty() {
         return Ok(());
     }
-    push_chunk_tree(alloc, out, held, place)?;
+    push_chunk_tree(alloc, out, chunk_k, held, place)?;
     push_parts(out, held)
 }

@@ -51,13 +51,22 @@ fn push_prefix(
 }
 
 /// What stands before a message's body: its type and the body's size.
-pub(crate) fn push_message_head(out: &mut Vec<u8>, kind: u16, size: u16) -> Result<(), AllocError>
+fn push_message_head(out: &mut Vec<u8>, kind: u16, size: u16) -> Result<(), AllocError>
     ensures { OnOk result (out.new.items ≡ out.old.items ++ message_head kind size) }
 {
     push_short(out, kind)?;
     push_short(out, size)?;
     push_zeros(out, 4)?;
     Ok(())
+}
+
+/// A message with this body.
+pub(crate) fn push_message(out: &mut Vec<u8>, kind: u16, body: &[u8]) -> Result<(), AllocError>
+    requires { length body.now < 65536 }
+    ensures { OnOk result (out.new.items ≡ out.old.items ++ message_bytes (kind, body.now)) }
+{
+    push_message_head(out, kind, body.len() as u16)?;
+    push_bytes(out, body)
 }
 
 /// How many bytes a body of so many has in a message: a multiple of 8.

@@ -2,14 +2,12 @@
 //! sections IV.A.1.a and IV.A.2).
 ghost use Rattle.std.specs.Prelude.{◌≡◌, ℕ, ◌*◌, ◌%◌, ◌<◌, ◌≤◌, [], ◌∷◌, ◌++◌, List, OnOk, length};
 ghost use Rattle.h5_model.specs.Edits.Applied.{attribute_from};
-ghost use Rattle.h5_model.specs.Format.Plain.{message_bytes};
 ghost use Rattle.h5_repack.specs.Bodies.Bodies.{attribute_message};
 ghost use Rattle.h5_repack.specs.Bodies.Sound.{IsPlainAttribute};
 ghost use Rattle.h5_repack.specs.Blocks.Written.{AreOthers};
 
 use crate::blocks::attribute::{push_new_attribute, push_stored_attribute};
-use crate::blocks::header::push_message_head;
-use h5_bytes::push_bytes;
+use crate::blocks::header::push_message;
 use h5_model::AttrSpec;
 use h5_msg::AttributeBody;
 use std::alloc::{AllocError, Global};
@@ -101,7 +99,7 @@ impl Others {
         Ok(())
     }
 
-    /// Appends the message of an attribute that another header has.
+    /// Appends the message of an attribute that another header has. A message of version 2 or 3 keeps its body.
     ///
     /// # Errors
     ///
@@ -122,13 +120,4 @@ impl Others {
         self.count += 1;
         Ok(())
     }
-}
-
-/// A message with this body.
-fn push_message(out: &mut Vec<u8>, kind: u16, body: &[u8]) -> Result<(), AllocError>
-    requires { length body.now < 65536 }
-    ensures { OnOk result (out.new.items ≡ out.old.items ++ message_bytes (kind, body.now)) }
-{
-    push_message_head(out, kind, body.len() as u16)?;
-    push_bytes(out, body)
 }

@@ -45,7 +45,7 @@ push_object-requires-clause-held c =
     let filled = all_at (IsFilled objects) c.args.order.now c.loop-number.number-index c.requires.filled c.loop-number-test.true in
     let found : slice_get objects n ≡ Some slot = slice_get_read objects (length objects) n slot refl (filled_below objects n filled) c.index-objects-number.is in
     let there : slot ≡ Some x = sym c.as_ref.ensures.value ∙ ap (λ (r : Option (Bor NewObject)). option_copied r) c.unwrap-object.ensures in
-    let h = held_at l.leaf l.internal n objects c.requires.held.0 l.sizes.now x c.requires.held.1 c.requires.held.2 (found ∙ ap (λ (s : Option NewObject). Some s) there) in
+    let h = held_at l.k n objects c.requires.held.0 l.sizes.now x c.requires.held.1 c.requires.held.2 (found ∙ ap (λ (s : Option NewObject). Some s) there) in
     (h.0, h.1, h.2, h.3, h.4)
 
 pub loop-number-preserved : goal.loop-number-preserved
@@ -59,7 +59,7 @@ loop-number-preserved c listed held sized =
     let filled = all_at (IsFilled objects) c.args.order.now i c.requires.filled c.loop-number-test.true in
     let found : slice_get objects n ≡ Some slot = slice_get_read objects (length objects) n slot refl (filled_below objects n filled) c.index-objects-number.is in
     let there : slot ≡ Some x = sym c.as_ref.ensures.value ∙ ap (λ (r : Option (Bor NewObject)). option_copied r) c.unwrap-object.ensures in
-    let h = held_at l.leaf l.internal n objects listed l.sizes.now x held sized (found ∙ ap (λ (s : Option NewObject). Some s) there) in
+    let h = held_at l.k n objects listed l.sizes.now x held sized (found ∙ ap (λ (s : Option NewObject). Some s) there) in
     objects_more (numbered_at l c.args.counts.now listed) c.args.order.now i c.args.out.now.items c.loop-number.out.items c.push_object.new.out.items
     (laid_object l (header_by l n) (slice_index c.args.counts.now n) h.0) c.loop-number-test.true (c.loop-number.invariant listed held sized)
     (c.in_ok-push_object.ensures h.0 h.1 h.2 h.3 h.4) (number_at l c.args.counts.now listed n h.0 h.5)

@@ -6,5 +6,5 @@ use Rattle.h5_repack.proofs.object.push_objects.Given as goal
 
 -- the objects so far
 abbrev pub invariant-loop-number : goal.invariant-loop-number
-invariant-loop-number l = (listed : List (Option StoredObject)) → AllZip (SlotsHold IsHeldObject) l.objects listed → AllZip (IsSlotSize l.layout.leaf l.layout.internal) listed l.layout.sizes.now
+invariant-loop-number l = (listed : List (Option StoredObject)) → AllZip (SlotsHold IsHeldObject) l.objects listed → AllZip (IsSlotSize l.layout.k) listed l.layout.sizes.now
     → l.out.items ≡ l.initial.out.items ++ flat_map (numbered_at l.layout l.counts listed) (take l.number-index l.order)

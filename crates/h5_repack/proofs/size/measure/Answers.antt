@@ -1,4 +1,4 @@
-use Rattle.std.proofs.Common.{ℕ, List, sym, subst}
+use Rattle.std.proofs.Common.{List, sym, subst}
 use Rattle.std.proofs.lemmas.Result.{IfOk-weaker, IfErr-weaker}
 use Rattle.h5_model.specs.declared.object_no.ObjectNo.{ObjectNo}
 use Rattle.h5_model.specs.declared.link.Link.{Link}
@@ -14,35 +14,35 @@ measure_group-requires-clause-held c =
           (group_of c.args.object.now o c.in-Group.links c.in-Group.is c.requires.held.1),
     )
 
-pub measure_array-requires : goal.measure_array-requires
-measure_array-requires c = (c.requires.held.0, array_of c.args.object.now c.requires.held.0 c.in-Array.array c.in-Array.cells c.in-Array.is c.requires.held.1)
+pub measure_array-requires-clause-held : goal.measure_array-requires-clause-held
+measure_array-requires-clause-held c = (c.requires.held.0, array_of c.args.object.now c.requires.held.0 c.in-Array.array c.in-Array.cells c.in-Array.is c.requires.held.1)
 
 pub returns-in-Group-clause-size : goal.returns-in-Group-clause-size
 returns-in-Group-clause-size c =
     let x = c.args.object.now in
-    IfOk-weaker c.measure_group.result (λ s. (o : StoredObject) → IsGroupObject c.deref.result.now x.others o → IsSize c.args.leaf c.args.internal o s)
-    (λ s. (o : StoredObject) → IsHeldObject x o → IsSize c.args.leaf c.args.internal o s)
+    IfOk-weaker c.measure_group.result (λ s. (o : StoredObject) → IsGroupObject c.deref.result.now x.others o → IsSize c.args.k.now o s)
+    (λ s. (o : StoredObject) → IsHeldObject x o → IsSize c.args.k.now o s)
     (λ s sized o held. sized o (subst (λ (ls : List (Link ObjectNo)). IsGroupObject ls x.others o) (sym c.deref.ensures.value) (group_of x o c.in-Group.links c.in-Group.is held)))
     c.measure_group.ensures.size
 
 pub returns-in-Group-clause-refused : goal.returns-in-Group-clause-refused
 returns-in-Group-clause-refused c =
     let x = c.args.object.now in
-    IfErr-weaker c.measure_group.result (λ fault. (o : StoredObject) → IsGroupObject c.deref.result.now x.others o → IsUnmeasured c.args.leaf c.args.internal o fault)
-    (λ fault. (o : StoredObject) → IsHeldObject x o → IsUnmeasured c.args.leaf c.args.internal o fault)
+    IfErr-weaker c.measure_group.result (λ fault. (o : StoredObject) → IsGroupObject c.deref.result.now x.others o → IsUnmeasured c.args.k.now o fault)
+    (λ fault. (o : StoredObject) → IsHeldObject x o → IsUnmeasured c.args.k.now o fault)
     (λ fault refused o held. refused o (subst (λ (ls : List (Link ObjectNo)). IsGroupObject ls x.others o) (sym c.deref.ensures.value) (group_of x o c.in-Group.links c.in-Group.is held)))
     c.measure_group.ensures.refused
 
 pub returns-in-Array-clause-size : goal.returns-in-Array-clause-size
 returns-in-Array-clause-size c =
     let x = c.args.object.now in
-    IfOk-weaker c.measure_array.result (λ s. (leaf internal : ℕ) (o : StoredObject) → IsArrayObject c.in-Array.array c.in-Array.cells x.others o → IsSize leaf internal o s)
-    (λ s. (o : StoredObject) → IsHeldObject x o → IsSize c.args.leaf c.args.internal o s)
-    (λ s sized o held. sized c.args.leaf c.args.internal o (array_of x o c.in-Array.array c.in-Array.cells c.in-Array.is held)) c.measure_array.ensures.size
+    IfOk-weaker c.measure_array.result (λ s. (o : StoredObject) → IsArrayObject c.in-Array.array c.in-Array.cells x.others o → IsSize c.args.k.now o s)
+    (λ s. (o : StoredObject) → IsHeldObject x o → IsSize c.args.k.now o s)
+    (λ s sized o held. sized o (array_of x o c.in-Array.array c.in-Array.cells c.in-Array.is held)) c.measure_array.ensures.size
 
 pub returns-in-Array-clause-refused : goal.returns-in-Array-clause-refused
 returns-in-Array-clause-refused c =
     let x = c.args.object.now in
-    IfErr-weaker c.measure_array.result (λ fault. (leaf internal : ℕ) (o : StoredObject) → IsArrayObject c.in-Array.array c.in-Array.cells x.others o → IsUnmeasured leaf internal o fault)
-    (λ fault. (o : StoredObject) → IsHeldObject x o → IsUnmeasured c.args.leaf c.args.internal o fault)
-    (λ fault refused o held. refused c.args.leaf c.args.internal o (array_of x o c.in-Array.array c.in-Array.cells c.in-Array.is held)) c.measure_array.ensures.refused
+    IfErr-weaker c.measure_array.result (λ fault. (o : StoredObject) → IsArrayObject c.in-Array.array c.in-Array.cells x.others o → IsUnmeasured c.args.k.now o fault)
+    (λ fault. (o : StoredObject) → IsHeldObject x o → IsUnmeasured c.args.k.now o fault)
+    (λ fault refused o held. refused o (array_of x o c.in-Array.array c.in-Array.cells c.in-Array.is held)) c.measure_array.ensures.refused

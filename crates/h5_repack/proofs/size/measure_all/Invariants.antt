@@ -6,4 +6,4 @@ use Rattle.h5_repack.proofs.size.measure_all.Given as goal
 
 -- the sizes so far
 abbrev pub invariant-loop-object : goal.invariant-loop-object
-invariant-loop-object l = (listed : List (Option StoredObject)) → AllZip (SlotsHold IsHeldObject) l.objects listed → AllZip (IsSlotSize l.leaf l.internal) (take l.object-index listed) l.sizes.items
+invariant-loop-object l = (listed : List (Option StoredObject)) → AllZip (SlotsHold IsHeldObject) l.objects listed → AllZip (IsSlotSize l.k) (take l.object-index listed) l.sizes.items

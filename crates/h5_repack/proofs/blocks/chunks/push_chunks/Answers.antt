@@ -9,6 +9,6 @@ pub returns : goal.returns
 returns c =
     let filled : (length c.args.held.now.parts == 0) ≡ false = sym c.is_empty.ensures ∙ c.if-is_empty.false in
     let some : 1 ≤ length c.args.held.now.parts = grind (arith, nat_tests, filled) in
-    IfOk-weaker c.push_parts.result _ (λ _. c.push_parts.new.out.items ≡ c.args.out.now.items ++ chunks_written c.args.held.now c.args.place)
-    (λ _ pushed. chunks_pushed c.args.held.now c.args.place c.args.out.now.items c.push_chunk_tree.new.out.items c.push_parts.new.out.items some c.in_ok-push_chunk_tree.ensures pushed)
+    IfOk-weaker c.push_parts.result _ (λ _. c.push_parts.new.out.items ≡ c.args.out.now.items ++ chunks_written c.args.chunk_k c.args.held.now c.args.place)
+    (λ _ pushed. chunks_pushed c.args.chunk_k c.args.held.now c.args.place c.args.out.now.items c.push_chunk_tree.new.out.items c.push_parts.new.out.items some c.in_ok-push_chunk_tree.ensures pushed)
     c.push_parts.ensures
