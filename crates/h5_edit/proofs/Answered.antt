@@ -10,8 +10,9 @@ use Rattle.h5_repack.specs.Image.Written.{StoredIn, counts_of, plain_image}
 use Rattle.h5_repack.specs.Image.Written as image
 use Rattle.h5_repack.proofs.ImageLaws.ImageLength.{image_length}
 use Rattle.h5_model.specs.Format.PlainLength.{plain_length}
-use Rattle.h5_model.specs.Format.Superblock.{leaf_k, internal_k, AreK}
+use Rattle.h5_model.specs.Format.Superblock.{AreKValues, k_values}
 use Rattle.h5_model.specs.Tree.Objects.{Tree}
+use Rattle.h5_model.specs.declared.k_values.KValues.{KValues}
 use Rattle.h5_query.specs.Renumbered.Headers.{table_with}
 use Rattle.h5_repack.specs.Bodies.Laws.{IsPlainReading}
 use Rattle.h5_laws.specs.Trees.Sound.{IsSoundTree}
@@ -34,46 +35,47 @@ use Rattle.h5_edit.proofs.StoredLaws.{length_with}
 
 -- ---- one tree, written
 
-module _ (leaf internal : ℕ) (stored : StoredIn) (tree : Tree) (k : AreK leaf internal) (sound : IsSoundTree tree) (plain : ArePlain tree) (w : Written)
-    (is : IsWritten leaf internal stored tree w) where
-  table_is : image.table_of leaf internal (counts_of stored) is.order ≡ table_with w.headers.items
-  table_is = standing_map (image.table_of leaf internal (counts_of stored) is.order) w.headers.items is.headers_are
+module _ (k : KValues) (stored : StoredIn) (tree : Tree) (are_k : AreKValues k) (sound : IsSoundTree tree) (plain : ArePlain tree) (w : Written)
+    (is : IsWritten k stored tree w) where
+  table_is : image.table_of k (counts_of stored) is.order ≡ table_with w.headers.items
+  table_is = standing_map (image.table_of k (counts_of stored) is.order) w.headers.items is.headers_are
 
-  plain_tree : IsPlainTree leaf internal stored tree
-  plain_tree = record { k = k; sound = sound; each = plain; low = is.low; chunks = is.chunks }
+  plain_tree : IsPlainTree k stored tree
+  plain_tree = record { in_range = are_k; sound = sound; each = plain; low = is.low; chunks = is.chunks }
 
-  pub read_as : IsPlainReading w.image.items leaf internal (table_with w.headers.items) tree
+  pub read_as : IsPlainReading w.image.items k (table_with w.headers.items) tree
   read_as =
-      subst (λ (bytes : List ℕ). IsPlainReading bytes leaf internal (table_with w.headers.items) tree) (sym is.image_is)
-      (subst (λ (table : FinMap nat_cmp ℕ). IsPlainReading (plain_image leaf internal stored tree is.order) leaf internal table tree) table_is
-      (plain_reads leaf internal stored tree is.order plain_tree is.ordered is.few))
+      subst (λ (bytes : List ℕ). IsPlainReading bytes k (table_with w.headers.items) tree) (sym is.image_is)
+      (subst (λ (table : FinMap nat_cmp ℕ). IsPlainReading (plain_image k stored tree is.order) k table tree) table_is
+      (plain_reads k stored tree is.order plain_tree is.ordered is.few))
 
   abbrev bytes : ℕ
-  bytes = plain_length leaf internal 32 (counts_of stored) tree
+  bytes = plain_length k (counts_of stored) tree
 
   pub short : bytes ≤ 2 ^ 31
   short =
-      let same = image_length leaf internal (counts_of stored) tree is.order is.ordered in
+      let same = image_length k (counts_of stored) tree is.order is.ordered in
       let few = is.few in
       subst (λ (n : ℕ). n ≤ 2 ^ 31) same few
 
   pub length_is : length w.image.items ≡ bytes
   length_is =
       ap length is.image_is
-      ∙ plain_ends leaf internal stored tree is.order plain_tree is.ordered
-      ∙ image_length leaf internal (counts_of stored) tree is.order is.ordered
+      ∙ plain_ends k stored tree is.order plain_tree is.ordered
+      ∙ image_length k (counts_of stored) tree is.order is.ordered
 
 module _ {f : FileState} (sound : IsSound f) where
-  abbrev leaf : ℕ
-  leaf = leaf_k f.image
+  abbrev k : KValues
+  k = k_values f.image
 
-  abbrev internal : ℕ
-  internal = internal_k f.image
-
-  pub k_there : AreK leaf internal
+  pub k_there : AreKValues k
   k_there =
       let is = sound.reads.holds.superblock in
-      record { leaf_low = is.leaf_low; leaf_high = is.leaf_high; internal_low = is.internal_low; internal_high = is.internal_high }
+      record {
+        groups = record { leaf_low = is.leaf_low; leaf_high = is.leaf_high; internal_low = is.internal_low; internal_high = is.internal_high };
+        chunk_low = is.chunk_low;
+        chunk_high = is.chunk_high;
+      }
 
   sound_there : IsSoundTree f.tree
   sound_there = reads_sound f.image f.table f.tree (sound.placed, sound.reads)
@@ -84,20 +86,20 @@ module _ {f : FileState} (sound : IsSound f) where
     pub tree_there : IsTreeToWrite new f.tree
     tree_there = record { objects_are = are; sound = sound_there; plain = opened_plain f low sound }
 
-    not_repacked : (fault : WriteFault) → IsUnwritten leaf internal (stored_in new) f.tree fault → IsRepackRefused f (fault_of_write fault)
+    not_repacked : (fault : WriteFault) → IsUnwritten k (stored_in new) f.tree fault → IsRepackRefused f (fault_of_write fault)
     not_repacked TooLong long =
-        (plain_length leaf internal 32 (counts_of (stored_in new)) f.tree, length_with f f.tree (stored_in new) kept, long)
-    not_repacked TooDeep deep = absurd (deep.3 (read_low f.image f.table f.tree (sound.placed, sound.reads) deep.0 deep.1 deep.2))
+        (plain_length k (counts_of (stored_in new)) f.tree, length_with f f.tree (stored_in new) kept, long)
+    not_repacked TooDeep deep = absurd (deep.3 (read_low f sound (stored_in new) kept deep.0 deep.1 deep.2))
     not_repacked NoMemory no_memory = tt
 
-    was_repacked : (w : Written) → IsWritten leaf internal (stored_in new) f.tree w → length w.headers.items ≡ length new → length new ≡ f.next
+    was_repacked : (w : Written) → IsWritten k (stored_in new) f.tree w → length w.headers.items ≡ length new → length new ≡ f.next
         → IsRepackMade f (record { image = w.image; headers = w.headers })
     was_repacked w is numbered counted =
-        let long = length_is leaf internal (stored_in new) f.tree k_there sound_there (opened_plain f low sound) w is in
-        let few = short leaf internal (stored_in new) f.tree k_there sound_there (opened_plain f low sound) w is in
+        let long = length_is k (stored_in new) f.tree k_there sound_there (opened_plain f low sound) w is in
+        let few = short k (stored_in new) f.tree k_there sound_there (opened_plain f low sound) w is in
         record {
           anew = record {
-            reads = read_as leaf internal (stored_in new) f.tree k_there sound_there (opened_plain f low sound) w is;
+            reads = read_as k (stored_in new) f.tree k_there sound_there (opened_plain f low sound) w is;
             numbered = numbered ∙ counted;
             few = sound.numbers.low;
           };
@@ -105,13 +107,11 @@ module _ {f : FileState} (sound : IsSound f) where
           few = omega (arith, long, few);
         }
 
-    pub repacked : (l i : ℕ) → l ≡ leaf → i ≡ internal → length new ≡ f.next → (r : Result Written WriteFault)
-        → IfOk r (λ w. (t : Tree) → IsTreeToWrite new t → IsWritten l i (stored_in new) t w) → IfOk r (λ w. length w.headers.items ≡ length new)
-        → IfErr r (λ fault. (t : Tree) → IsTreeToWrite new t → IsUnwritten l i (stored_in new) t fault)
+    pub repacked : (given : KValues) → given ≡ k → length new ≡ f.next → (r : Result Written WriteFault)
+        → IfOk r (λ w. (t : Tree) → IsTreeToWrite new t → IsWritten given (stored_in new) t w) → IfOk r (λ w. length w.headers.items ≡ length new)
+        → IfErr r (λ fault. (t : Tree) → IsTreeToWrite new t → IsUnwritten given (stored_in new) t fault)
         → MatchResult (answer_to r) (IsRepackMade f) (IsRepackRefused f)
-    repacked l i same same' counted (Ok w) written numbered not_written =
-        was_repacked w (subst (λ n. IsWritten n internal (stored_in new) f.tree w) same (subst (λ n. IsWritten l n (stored_in new) f.tree w) same' (written f.tree tree_there)))
-        numbered counted
-    repacked l i same same' counted (Err fault) written numbered not_written =
-        not_repacked fault
-        (subst (λ n. IsUnwritten n internal (stored_in new) f.tree fault) same (subst (λ n. IsUnwritten l n (stored_in new) f.tree fault) same' (not_written f.tree tree_there)))
+    repacked given same counted (Ok w) written numbered not_written =
+        was_repacked w (subst (λ (x : KValues). IsWritten x (stored_in new) f.tree w) same (written f.tree tree_there)) numbered counted
+    repacked given same counted (Err fault) written numbered not_written =
+        not_repacked fault (subst (λ (x : KValues). IsUnwritten x (stored_in new) f.tree fault) same (not_written f.tree tree_there))

@@ -58,8 +58,7 @@ module _ (f : FileState) (path : List ℕ) (r : Removal) (is : IsRemoval f.tree 
     state = (λ i. record { tree = made.state.0 i; next = made.state.1 i }) ∙ ap (λ (t : Tree). record { tree = t; next = f.next }) (sym gives);
     sound = made.sound;
     whole = made.whole;
-    leaf = made.leaf;
-    internal = made.internal;
+    k = made.k;
     object = named;
     refreshed = refreshed;
     bytes = 0;

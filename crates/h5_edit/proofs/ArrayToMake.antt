@@ -1,9 +1,9 @@
 -- The bytes of a new array, as they are to stand behind a link that is put: they are its header, and behind it its cells where they are in
 -- one block (File Format Specification 3.0, sections IV.A.1.a and IV.A.2).
-use Rattle.std.proofs.Common.{◌≡◌, ℕ, ◌+◌, ◌*◌, ◌≤◌, ◌^◌, IsTrue, List, [], ◌∷◌, ◌++◌, length, replicate, Option, Some, None, refl, sym, ap, ap₂, ◌∙◌, subst, arith, length-append}
+use Rattle.std.proofs.Common.{◌≡◌, ℕ, zero, suc, ◌+◌, ◌*◌, ◌<◌, ◌≤◌, ◌^◌, true, false, IsTrue, List, [], ◌∷◌, ◌++◌, length, map, replicate, Option, Some, None, refl, sym, ap, ap₂, ◌∙◌, subst, arith, length-append}
 use Rattle.std.specs.Prelude.{if◌then◌else◌}
 use Rattle.std.specs.List.{AllByRecursion, AllZip, IsDistinct}
-use Rattle.std.specs.FinMap.{empty}
+use Rattle.std.specs.FinMap.{empty, values}
 use Rattle.std.proofs.lemmas.List.{length-take, length-drop}
 use Rattle.std.proofs.lemmas.Slice.Zip.{AllZip-long}
 use Rattle.h5_bytes.specs.Bytes.{part}
@@ -20,13 +20,16 @@ use Rattle.h5_layout.proofs.ToldLaws.{told}
 use Rattle.h5_model.specs.Edits.Applied.{new_dataset, new_object}
 use Rattle.h5_model.specs.Edits.Refusal.{is_chunked}
 use Rattle.h5_model.specs.Format.Bodies.{raised, fill_bytes}
-use Rattle.h5_model.specs.Format.Chunks.{Chunks}
+use Rattle.h5_model.specs.Format.Chunks.{Chunks, HasChunks}
 use Rattle.h5_model.specs.Format.Fixed.{Fixed, IsFixed}
 use Rattle.h5_model.specs.Format.Layout.{Layout, InMessage, InBlock, InChunks}
 use Rattle.h5_model.specs.Format.Messages.{Message, HasMessages, prefix_at, reference_count, first_size, continuations}
+use Rattle.h5_model.specs.Format.Nodes.{Kind, chunk_kind, node_block, node_length, reading_of, tree_blocks}
 use Rattle.h5_model.specs.Format.Plain.{header_bytes, messages_bytes, message_bytes, cells_bytes}
-use Rattle.h5_model.specs.Format.Reads.{HasAttributes, HasData, HasDataset, HasObject}
+use Rattle.h5_model.specs.Format.Reads.{HasAttributes, HasData, HasDataset, HasObject, storage_of}
+use Rattle.h5_model.specs.Format.Rows.{Reading, next_row, nodes}
 use Rattle.h5_model.specs.Format.Sizes.{header_size, layout_size}
+use Rattle.h5_model.specs.Format.Superblock.{chunk_k}
 use Rattle.h5_model.specs.Tree.Objects.{Dataset, Storage, Compact, Contiguous, Chunked, Array}
 use Rattle.h5_model.specs.Tree.Places.{cells}
 use Rattle.h5_model.specs.declared.dataset.Spec.{Spec}
@@ -53,9 +56,10 @@ use Rattle.h5_repack.specs.Bodies.Sound.{IsBound, IsPlainArray, IsPlainStorage}
 use Rattle.h5_repack.specs.Objects.Objects.{IsNewArray}
 use Rattle.h5_repack.specs.declared.blocks.cells.Cells.TheVariants.{Filled}
 use Rattle.h5_repack.proofs.BlockLaws.HeaderLaws.{header_is, data_is, address_is}
-use Rattle.h5_repack.proofs.BodyLaws.ArrayReads.{array_reads}
-use Rattle.h5_repack.proofs.BodyLaws.HeaderLengths.{array_length, length-layout}
+use Rattle.h5_repack.proofs.BodyLaws.HeaderArray.{IsLaid, block_laid, chunks_laid, compact_laid, laid_reads, nowhere_laid}
+use Rattle.h5_repack.proofs.BodyLaws.HeaderLengths.{array_length, head_of, length-layout}
 use Rattle.h5_repack.proofs.BodyLaws.HeaderSpace.{space_padded}
+use Rattle.h5_repack.proofs.ChunkLaws.HeldChunks.{none_unset}
 use Rattle.h5_repack.proofs.ImageLaws.Objects.{first_part, second_part}
 use Rattle.h5_edit.specs.Changed.Cells.{new_count}
 use Rattle.h5_edit.proofs.NewObjects.{new_data}
@@ -153,23 +157,49 @@ module _ (d : Dataset) (is : IsPlainArray d 0) (address : Option ℕ) where
 
 -- ---- the content
 
--- data that stand in an image are those that it tells
-data_read : (image : List ℕ) (t : Fixed) (layout : Layout) (chunks : Chunks) (blocks : List Block) → HasData image t layout chunks blocks → Inside (length image) blocks
-    → AreDataRead image t layout
-data_read image t (InMessage bytes) chunks blocks has inside = tt
-data_read image t (InBlock None) chunks blocks has inside = tt
-data_read image t (InBlock (Some b)) chunks blocks has inside = let own = subst (Inside (length image)) has.1 inside in own.0
-data_read image t (InChunks sizes None) chunks blocks has inside = tt
-data_read image t (InChunks sizes (Some root)) chunks blocks has inside =
-    let layout : Layout = InChunks sizes (Some root) in
-    let blocks_are : blocks ≡ data_blocks image t layout = told_blocks image t layout chunks blocks has in
-    record {
-      stored = subst (λ c. HasData image t layout c (data_blocks image t layout)) (told_chunks image t layout chunks blocks has)
-          (subst (λ bs. HasData image t layout chunks bs) blocks_are has);
-      inside = subst (Inside (length image)) blocks_are inside;
-    }
+-- a tree has a root
+first_node : (V : Reading) (level root : ℕ) → (rest : List ℕ) × (nodes V level (root ∷ []) ≡ root ∷ rest)
+first_node V zero root = ([], refl)
+first_node V (suc level) root = (nodes V level (next_row V (root ∷ [])), refl)
 
-module _ (d : Dataset) (is : IsPlainArray d 0) (unstored : AreStoredFor [] d) (at place : ℕ) where
+-- so it takes bytes
+no_tree : (image : List ℕ) (k : ℕ) (sizes : List ℕ) (bytes root : ℕ) (chunks : Chunks) (blocks : List Block) (place : ℕ)
+    → HasChunks image k sizes bytes root chunks blocks → Run place blocks place → ⊥
+no_tree image k sizes bytes root chunks blocks place has run =
+    let kind : Kind = chunk_kind k (length sizes) in
+    let first = first_node (reading_of image kind has.owned) has.level root in
+    let all : blocks ≡ node_block kind root ∷ (tree_blocks kind first.0 ++ map (λ at. block at bytes) (values chunks))
+    = has.laid ∙ ap (λ owned. tree_blocks kind owned ++ map (λ at. block at bytes) (values chunks)) ((has.tree).owns ∙ first.1) in
+    let from_root : Run place (node_block kind root ∷ (tree_blocks kind first.0 ++ map (λ at. block at bytes) (values chunks))) place
+    = subst (λ bs. Run place bs place) all run in
+    let behind = run_rises (place + node_length kind) place _ from_root.1 in
+    omega (arith, behind)
+
+-- data that stand in an image, other than a tree of chunks, are those that it tells
+data_read : (image : List ℕ) (t : Fixed) (layout : Layout) (chunks : Chunks) (blocks : List Block) → HasData image t layout chunks blocks → Inside (length image) blocks
+    → ((sizes : List ℕ) (root : ℕ) → layout ≡ InChunks sizes (Some root) → ⊥) → AreDataRead image t layout
+data_read image t (InMessage bytes) chunks blocks has inside other = tt
+data_read image t (InBlock None) chunks blocks has inside other = tt
+data_read image t (InBlock (Some b)) chunks blocks has inside other = let own = subst (Inside (length image)) has.1 inside in own.0
+data_read image t (InChunks sizes None) chunks blocks has inside other = tt
+data_read image t (InChunks sizes (Some root)) chunks blocks has inside other = absurd (other sizes root refl)
+
+-- where the data stand of an array of which no chunk is stored, by how it is stored
+laid_by : (k : ℕ) (image : List ℕ) (place others : ℕ) (d : Dataset) (s : Storage) → IsPlainArray (record d { storage = s }) others → AreStoredFor [] (record d { storage = s })
+    → place + length (data_of k [] (record d { storage = s }) place) < 2 ^ 63
+    → part place (length (data_of k [] (record d { storage = s }) place)) image ≡ data_of k [] (record d { storage = s }) place
+    → IsLaid image place (place + length (data_of k [] (record d { storage = s }) place)) (if is_stored [] s then Some place else None) (record d { storage = s })
+laid_by k image place others d Compact is are room there =
+    compact_laid image place d.fixed d.sizes d.maxima d.fill d.cells is.fixed (is.sound).values (is.sound).counted is.few is.stored
+laid_by k image place others d (Contiguous true) is are room there =
+    block_laid image place d.fixed d.sizes d.maxima d.fill d.cells is.fixed (is.sound).values (is.sound).counted is.few (omega (arith, room)) is.stored there
+laid_by k image place others d (Contiguous false) is are room there =
+    nowhere_laid image place d.fixed d.sizes d.maxima d.fill d.cells is.fixed (is.sound).values (is.sound).counted is.few is.stored
+laid_by k image place others d (Chunked chunk) is are room there =
+    chunks_laid image place d.fixed d.sizes d.maxima d.fill d.cells is.fixed (is.sound).values (is.sound).counted is.few chunk ((is.sound).boxed chunk refl) is.ranked is.stored
+    (none_unset (record d { storage = Chunked chunk }) chunk (is.sound).counted are)
+
+module _ (k : ℕ) (d : Dataset) (is : IsPlainArray d 0) (unstored : AreStoredFor [] d) (at place : ℕ) where
   abbrev address : Option ℕ
   address = if is_stored [] d.storage then Some place else None
 
@@ -180,7 +210,7 @@ module _ (d : Dataset) (is : IsPlainArray d 0) (unstored : AreStoredFor [] d) (a
   front = header d is address at
 
   abbrev data_bytes : List ℕ
-  data_bytes = data_of [] d place
+  data_bytes = data_of k [] d place
 
   others_none : length (others_of (new_object (Array d))) ≡ 0
   others_none = ap length (no_others (Array d))
@@ -201,8 +231,12 @@ module _ (d : Dataset) (is : IsPlainArray d 0) (unstored : AreStoredFor [] d) (a
       (low : place + length data_bytes ≤ 2 ^ 31) (inside : place + length data_bytes ≤ length image) where
     reads : (blocks : List Block) × HasObject image empty at (new_object (Array d)) (block at (header_size (new_object (Array d))) ∷ blocks)
         × (reference_count (prefix_at image at) ≡ 1) × Run place blocks (place + length data_bytes)
-    reads = array_reads image empty at place 1 (new_object (Array d)) d [] (plain_new (Array d)) refl plain_d unstored (omega (arith, others_none)) (omega arith)
-        (omega (arith, size, long, short_bodies d is address)) (omega (arith, low)) (ap (λ n. part at n image) size ∙ there ∙ sym counted) data_there
+    reads =
+        let others : ℕ = length (others_of (new_object (Array d))) in
+        let laid = laid_by k image place others d d.storage plain_d unstored (omega (arith, low)) data_there in
+        laid_reads image empty at place (place + length data_bytes) 1 (header_size (new_object (Array d))) (new_object (Array d)) (plain_new (Array d)) d (head_of d others plain_d) address
+        laid (omega (arith, others_none)) (omega arith) (omega (arith, size, long, short_bodies d is address)) refl
+        (array_length 1 address (new_object (Array d)) d (plain_new (Array d)) refl plain_d) (ap (λ n. part at n image) size ∙ there ∙ sym counted)
 
     object : HasObject image empty at (new_object (Array d)) (block at (header_size (new_object (Array d))) ∷ reads.0)
     object = reads.1
@@ -244,9 +278,18 @@ module _ (d : Dataset) (is : IsPlainArray d 0) (unstored : AreStoredFor [] d) (a
     list : IsArrayList messages
     list = record { kinds = kinds d is address at; attributes = attributes d is address at; array = subst (HasArray messages) (sym array_is) array }
 
+    -- no tree of chunks stands there
+    no_chunks : (sizes : List ℕ) (root : ℕ) → dataset.layout ≡ InChunks sizes (Some root) → ⊥
+    no_chunks sizes root is =
+        let chunked : d.storage ≡ Chunked sizes = dataset.storage ∙ ap (storage_of d.sizes) is in
+        let nothing : length data_bytes ≡ 0 = ap (λ (s : Storage). length (data_of k [] (record d { storage = s }) place)) chunked in
+        let ends : place + length data_bytes ≡ place = omega (arith, nothing) in
+        no_tree image (chunk_k image) sizes (cells sizes * (d.fixed).size) root dataset.chunks blocks place
+        (subst (λ (l : Layout). HasData image d.fixed l dataset.chunks blocks) is dataset.stored) (subst (λ to. Run place blocks to) ends run)
+
     read : AreDataRead image (type_told messages) (layout_told messages)
     read = subst (λ (a : Described). AreDataRead image a.fixed a.layout) (sym array_is)
-        (data_read image d.fixed dataset.layout dataset.chunks blocks dataset.stored (run_inside place (place + length data_bytes) (length image) blocks inside run))
+        (data_read image d.fixed dataset.layout dataset.chunks blocks dataset.stored (run_inside place (place + length data_bytes) (length image) blocks inside run) no_chunks)
 
     dataset_is : dataset_told image (array_told messages) ≡ d
     dataset_is =
@@ -269,6 +312,9 @@ module _ (f : FileState) (b : ObjectBytes) (spec : Spec) (array : Described) (ot
     (bounds : AllZip IsBound spec.dims spec.maxima) (new : IsNewArray array Filled (new_dataset spec)) (none : AreOthers [] others)
     (header_there : b.header.now ≡ header_written 1 array Filled others (address_written array Filled (object_place f b + length b.header.now)))
     (content_there : b.content ≡ bytes.Cells spec.fixed spec.fill (new_count array)) (low : object_place f b + length (object_bytes b) ≤ 2 ^ 31) where
+  abbrev k : ℕ
+  k = chunk_k f.image
+
   abbrev d : Dataset
   d = new_dataset spec
 
@@ -291,12 +337,12 @@ module _ (f : FileState) (b : ObjectBytes) (spec : Spec) (array : Described) (ot
   header_as =
       header_there ∙ ap (header_written 1 array Filled others) (address_is array Filled d new place) ∙ header_is array Filled d new others [] none 1 own_address
 
-  data_as : stored_content b.content ≡ data_of [] d place
+  data_as : stored_content b.content ≡ data_of k [] d place
   data_as =
       ap stored_content content_there ∙ ap₂ (λ t v. cells_bytes t (replicate (new_count array) v)) (sym new.fixed_is) (sym new.fill_is)
-      ∙ new_data array place ∙ data_is array Filled d new place
+      ∙ new_data array ∙ data_is array Filled d new k place
 
-  whole : length (object_bytes b) ≡ length b.header.now + length (data_of [] d place)
+  whole : length (object_bytes b) ≡ length b.header.now + length (data_of k [] d place)
   whole = length-append b.header.now (stored_content b.content) ∙ ap (λ n. length b.header.now + n) (ap length data_as)
 
   some : 16 ≤ length b.header.now
@@ -307,13 +353,13 @@ module _ (f : FileState) (b : ObjectBytes) (spec : Spec) (array : Described) (ot
   own_content image there =
       let front_is : part begin (length (header_bytes 1 (array_messages d own_address 0))) image ≡ header_bytes 1 (array_messages d own_address 0)
       = subst (λ h. part begin (length h) image ≡ h) header_as (first_part begin b.header.now (stored_content b.content) image there) in
-      let data_is : part place (length (data_of [] d place)) image ≡ data_of [] d place
+      let data_is : part place (length (data_of k [] d place)) image ≡ data_of k [] d place
       = subst (λ bs. part place (length bs) image ≡ bs) data_as (second_part begin b.header.now (stored_content b.content) image there) in
       let inside : begin + length (object_bytes b) ≤ length image = part_inside begin (object_bytes b) image (omega (arith, whole, some)) there in
-      let end : place + length (data_of [] d place) ≡ begin + length (object_bytes b) = omega (arith, whole) in
+      let end : place + length (data_of k [] d place) ≡ begin + length (object_bytes b) = omega (arith, whole) in
       subst (λ c. IsContentMade image own_messages (content_of c) place (begin + length (object_bytes b)) (Array d)) (sym content_there)
       (subst (λ to. IsContentMade image own_messages content.Array place to (Array d)) end
-      (content_made d is new.stored_are begin place image front_is data_is (omega (arith, end, low)) (omega (arith, end, inside))))
+      (content_made k d is new.stored_are begin place image front_is data_is (omega (arith, end, low)) (omega (arith, end, inside))))
 
   made : IsToBeMade f b (new_object (Array (new_dataset spec)))
   made = record {

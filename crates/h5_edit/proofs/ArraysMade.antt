@@ -17,7 +17,7 @@ use Rattle.h5_query.specs.ObjectAdded.{IsToBeMade, object_bytes, place_in, tree_
 use Rattle.h5_query.specs.ObjectBytesType.{ObjectBytes}
 use Rattle.h5_query.specs.Opened.Sound.{IsSound}
 use Rattle.h5_query.specs.Opened.State.{FileState}
-use Rattle.h5_repack.specs.Blocks.ArrayHeader.{FitsLayout, IsArrayToWrite, IsLength, address_written, data_written, has_data, header_written}
+use Rattle.h5_repack.specs.Blocks.ArrayHeader.{FitsLayout, IsArrayToWrite, IsLength, address_written, has_data, header_written}
 use Rattle.h5_repack.specs.Blocks.Others.{OthersBytes}
 use Rattle.h5_repack.specs.Blocks.Written.{AreOthers, HasRoom}
 use Rattle.h5_repack.specs.Bodies.Sound.{IsBound, IsPlainArray}
@@ -34,7 +34,7 @@ use Rattle.h5_edit.specs.declared.rules.place.NewPlace.{NewPlace}
 use Rattle.h5_edit.proofs.ArrayToMake.{array_to_make}
 use Rattle.h5_edit.proofs.FitLaws.NewArrays.{IsSoundSpec, accepted_spec, maxima_long, plain_new_array}
 use Rattle.h5_edit.proofs.LinkFacts.{array_edit}
-use Rattle.h5_edit.proofs.NewObjects.{new_data_length, new_header_length, new_held, new_object_length, new_stored}
+use Rattle.h5_edit.proofs.NewObjects.{filled_data, new_data_length, new_header_length, new_held, new_object_length, new_stored}
 use Rattle.h5_edit.proofs.ObjectsMade.{IsObjectAdded, object_asked, object_made}
 
 -- where the cells stand, if they stand anywhere
@@ -65,12 +65,12 @@ module _ (f : FileState) {path : List ℕ} {spec : Spec} {place : NewPlace} (pla
 
     -- how many bytes its header and its cells have
     module _ (header : ℕ) (rest : Option ℕ) (exact : (c : Cells) (n : ℕ) (address : Option ℕ) → HasRoom c (cells array.sizes * (array.fixed).size)
-        → header ≡ length (header_written n array c others address)) (measured : (at : ℕ) → IsLength rest (length (data_written Filled array at))) where
+        → header ≡ length (header_written n array c others address)) (measured : (at : ℕ) → IsLength rest (length (filled_data array))) where
       pub header_is : header ≡ new_header spec
       header_is = exact Filled 1 None tt ∙ new_header_length spec formed fixed bounds array new others none 1 None
 
       pub data_is : IsLength rest (contiguous_data spec)
-      data_is = subst (IsLength rest) (new_data_length spec formed fixed bounds array new others none 0) (measured 0)
+      data_is = subst (IsLength rest) (new_data_length spec formed fixed bounds array new others none) (measured 0)
 
       pub array_counted : header + contiguous_data spec ≡ new_header spec + contiguous_data spec
       array_counted = ap (λ n. n + contiguous_data spec) header_is

@@ -175,8 +175,7 @@ module _ (f : FileState) (path : List ℕ) (number : ℕ) (now : FileState) (e :
       state = (λ i. record { tree = is.state.0 i; next = is.state.1 i }) ∙ ap (λ (t : Tree). record { tree = t; next = f.next }) tree_set;
       sound = is.sound;
       whole = is.whole;
-      leaf = is.leaf;
-      internal = is.internal;
+      k = is.k;
       object = named ∙ sym at.object;
       refreshed = refreshed;
       bytes = bytes;
@@ -205,8 +204,7 @@ module _ (f : FileState) (path : List ℕ) (number : ℕ) (now : FileState) (e :
       state = (λ i. record { tree = is.state.0 i; next = is.state.1 i }) ∙ ap (λ (t : Tree). record { tree = t; next = f.next }) tree_removed;
       sound = is.sound;
       whole = is.whole;
-      leaf = is.leaf;
-      internal = is.internal;
+      k = is.k;
       object = named ∙ sym at.object;
       refreshed = refreshed;
       bytes = 0;

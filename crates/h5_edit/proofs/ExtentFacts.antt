@@ -118,8 +118,7 @@ module _ (f : FileState) (path dims : List ℕ) (number : ℕ) (at : IsAt f.tree
       state = (λ i. record { tree = is.state.0 i; next = is.state.1 i }) ∙ ap (λ (t : Tree). record { tree = t; next = f.next }) tree_resized;
       sound = is.sound;
       whole = is.whole;
-      leaf = is.leaf;
-      internal = is.internal;
+      k = is.k;
       object = named ∙ sym at.object;
       refreshed = refreshed;
       bytes = extent_bytes lacks dims;

@@ -62,7 +62,7 @@ module _ {f : FileState} (sound : IsSound f) {b : ObjectBytes} {table : SymbolTa
 
   group_written : IsToBeMade f b (new_object (Group empty))
   group_written =
-      group_to_make f b table leaf internal at out (rw (is.leaf_is, is.internal_is) (k_there sound)) (sym is.leaf_is) (sym is.internal_is)
+      group_to_make f b table leaf internal at out (rw (is.leaf_is, is.internal_is) ((k_there sound).groups)) (sym is.leaf_is) (sym is.internal_is)
       (is.place.0 ∙ ap (place_in f) is.counted) (subst (λ n. at + n ≤ 2 ^ 31) is.counted is.place.1)
       (is.bytes ∙ ap (λ (xs : List ℕ). xs ++ (group_header (at + 40) (at + 40 + group_node internal) [] ++ links_bytes leaf internal (at + 40) [])) is.none) is.table_is header_is is.content
       behind_is

@@ -8,7 +8,7 @@ use Rattle.std.proofs.lemmas.Bool.{cases_lt}
 use Rattle.std.proofs.Math.Nat.{mul-le-mul_right, mul_assoc, mul_comm}
 use Rattle.h5_bytes.specs.Tables.{table}
 use Rattle.h5_model.specs.Format.Rows.{Reading, blank, only, next_row, leaves}
-use Rattle.h5_model.specs.Format.Nodes.{group_kind, node_at, node_bytes, node_of, reading_of, entries_in, child_in, IsNode, HasTree}
+use Rattle.h5_model.specs.Format.Nodes.{Kind, node_at, node_bytes, node_of, reading_of, entries_in, child_in, IsNode, HasTree}
 use Rattle.h5_model.specs.Format.PlainLength.{rows_of}
 use Rattle.h5_model.proofs.RowLaws.{at_listed}
 use Rattle.h5_btree.specs.Writing.Written.{level_over, root_level}
@@ -57,12 +57,12 @@ level_few m (suc level) levels n some deep few = elim (cases_lt m n) [
 
 -- ---- one tree
 
-children_few : (k : ℕ) (bytes : List ℕ) → IsNode (group_kind k) bytes → length (node_of (group_kind k) bytes).children ≤ 2 * k
+children_few : (kind : Kind) (bytes : List ℕ) → IsNode kind bytes → length (node_of kind bytes).children ≤ 2 * kind.k
 unfolding node_of
-children_few k bytes is =
-    let all : length (table (child_in (group_kind k) bytes) (entries_in bytes)) ≡ entries_in bytes = length-map-range_with_len (child_in (group_kind k) bytes) 0 (entries_in bytes) in
-    let few : entries_in bytes ≤ 2 * k = is.roomy in
-    subst (λ n. n ≤ 2 * k) (sym all) few
+children_few kind bytes is =
+    let all : length (table (child_in kind bytes) (entries_in bytes)) ≡ entries_in bytes = length-map-range_with_len (child_in kind bytes) 0 (entries_in bytes) in
+    let few : entries_in bytes ≤ 2 * kind.k = is.roomy in
+    subst (λ n. n ≤ 2 * kind.k) (sym all) few
 
 module _ (V : Reading) (m : ℕ) (few : (at : ℕ) → length (V at).children ≤ m) where
   leaves_few : (level : ℕ) (row : List ℕ) → length (leaves V level row) ≤ length row * most_under m level
@@ -76,23 +76,23 @@ module _ (V : Reading) (m : ℕ) (few : (at : ℕ) → length (V at).children �
         swapped : (a b c : ℕ) → a * b * c ≡ a * (c * b)
         swapped a b c = mul_assoc a b c ∙ ap (λ n. a * n) (mul_comm b c)
 
-module _ (image : List ℕ) (k root level : ℕ) (owned children : List ℕ) (some : 1 ≤ k) (has : HasTree image (group_kind k) root level owned children) where
+module _ (image : List ℕ) (kind : Kind) (root level : ℕ) (owned children : List ℕ) (some : 1 ≤ kind.k) (has : HasTree image kind root level owned children) where
   abbrev V : Reading
-  V = reading_of image (group_kind k) owned
+  V = reading_of image kind owned
 
-  node_few : (at : ℕ) → length (V at).children ≤ 2 * k
+  node_few : (at : ℕ) → length (V at).children ≤ 2 * kind.k
   node_few at = by_test (list_any (λ n. n == at) owned) refl where
-    by_test : (b : Bool) → list_any (λ n. n == at) owned ≡ b → length (if b then node_at image (group_kind k) at else blank).children ≤ 2 * k
+    by_test : (b : Bool) → list_any (λ n. n == at) owned ≡ b → length (if b then node_at image kind at else blank).children ≤ 2 * kind.k
     by_test true is =
-        let node = at_listed (λ n. IsNode (group_kind k) (node_bytes image (group_kind k) n)) owned at has.formed is in
-        children_few k (node_bytes image (group_kind k) at) node
+        let node = at_listed (λ n. IsNode kind (node_bytes image kind n)) owned at has.formed is in
+        children_few kind (node_bytes image kind at) node
     by_test false is = omega arith
 
   -- a tree over as many would be no higher
-  pub level_read : (n : ℕ) → n ≤ length children → root_level k n ≤ level
+  pub level_read : (n : ℕ) → n ≤ length children → root_level kind.k n ≤ level
   level_read n few =
-      let all = leaves_few V (2 * k) node_few level (root ∷ []) in
+      let all = leaves_few V (2 * kind.k) node_few level (root ∷ []) in
       let count : length children ≡ length (leaves V level (root ∷ [])) = ap length has.all in
       let low = has.low in
-      let over : level_over 64 (2 * k) n ≤ level = level_few (2 * k) level 64 n (omega arith) (omega arith) (omega (arith, all, count)) in
-      omega (arith, over, root_level_is k n)
+      let over : level_over 64 (2 * kind.k) n ≤ level = level_few (2 * kind.k) level 64 n (omega arith) (omega arith) (omega (arith, all, count)) in
+      omega (arith, over, root_level_is kind.k n)

@@ -276,8 +276,7 @@ module _ (f : FileState) (path : List ℕ) (parent : ℕ) (name : List ℕ) (edi
         state = (λ i. record { tree = changed.state.0 i; next = changed.state.1 i }) ∙ (λ i. record { tree = is.tree i; next = is.counted i });
         sound = changed.sound;
         whole = changed.whole;
-        leaf = changed.leaf;
-        internal = changed.internal;
+        k = changed.k;
         object = named;
         refreshed = refreshed;
         bytes = bound_of (facts_of false).room f.tree edit;

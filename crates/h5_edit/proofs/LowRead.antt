@@ -1,26 +1,44 @@
--- The tree of every group that was read has at most 16 levels (File Format Specification 3.0, sections III.A.1 and III.B).
-use Rattle.std.proofs.Common.{◌≡◌, ℕ, ◌+◌, ◌*◌, ◌≤◌, List, [], ◌∷◌, map, length, sym, ap, ◌∙◌, subst, inl, inr, arith}
+-- The tree of every group that was read, and of the chunks of every array, has at most 16 levels, and needs no more where it is written
+-- anew (File Format Specification 3.0, sections III.A.1 and III.B).
+use Rattle.std.proofs.Common.{◌≡◌, ℕ, ◌+◌, ◌*◌, ◌≤◌, not, List, [], ◌∷◌, length, refl, sym, ap, ◌∙◌, subst, inl, inr, arith, Option, Some, None}
 use Rattle.std.proofs.lemmas.List.{length-map}
+use Rattle.std.proofs.lemmas.List.Filters.{length-filter_both}
 use Rattle.std.proofs.lemmas.List.FromFn.{length-map-range_with_len}
 use Rattle.std.proofs.lemmas.Slice.Zip.{AllZip-long}
+use Rattle.std.specs.Prelude.{T}
 use Rattle.std.specs.List.{AllByRecursion, flat_map}
 use Rattle.std.specs.Ordering.{nat_cmp}
-use Rattle.std.specs.FinMap.{FinMap, entries, len, len-entries}
+use Rattle.std.specs.Cmp.Lexicographic.{slice_cmp}
+use Rattle.std.specs.FinMap.{empty, entries, entries-from_sorted, entries_sorted, from_sorted, get, is_sorted, len, len-entries, retain_keys, same_entries_map, values}
+use Rattle.std.specs.FinMap.Entries.{is_sorted-where_key, where_key}
 use Rattle.h5_bytes.specs.Bytes.{part}
 use Rattle.h5_bytes.specs.declared.Block.{Block}
+use Rattle.h5_layout.specs.HeldChunks.{held_chunks}
+use Rattle.h5_model.specs.Format.Chunks.{Chunks}
+use Rattle.h5_model.specs.Format.Fixed.{Fixed}
+use Rattle.h5_model.specs.Format.Layout.{Layout, InMessage, InBlock, InChunks}
 use Rattle.h5_model.specs.Format.Links.{HasLinks}
+use Rattle.h5_model.specs.Format.Nodes.{chunk_kind, group_kind}
 use Rattle.h5_model.specs.Format.PlainLength.{rows_of}
-use Rattle.h5_model.specs.Format.Reads.{Placed, IsPlaced, HasObject, IsSame, Reads, ReadsAs}
-use Rattle.h5_model.specs.Format.Superblock.{leaf_k, internal_k}
+use Rattle.h5_model.specs.Format.Reads.{HasData, IsSame}
+use Rattle.h5_model.specs.Format.Superblock.{chunk_k, k_values}
 use Rattle.h5_model.specs.Format.Symbols.{Target, IsSymbolNode, entries_of, entry_of, link_of, symbol_bytes, symbols_at, symbols_in, symbols_of}
-use Rattle.h5_model.specs.Tree.Objects.{Tree, Object, Group, Array, Links}
+use Rattle.h5_model.specs.Tree.Objects.{Object, Array, Dataset, Storage, Compact, Contiguous, Chunked}
+use Rattle.h5_model.specs.Tree.Places.{is_inside}
+use Rattle.h5_model.proofs.MapSteps.{entries-empty, retain_by_name}
 use Rattle.h5_btree.specs.Writing.Written.{root_level}
-use Rattle.h5_laws.proofs.Lists.{In, in_all, from_map}
-use Rattle.h5_laws.proofs.Maps.{entry_of_get}
+use Rattle.h5_btree.proofs.WriteLaws.Counts.{level_one, root_level_is}
+use Rattle.h5_laws.proofs.Maps.{true_of}
 use Rattle.h5_laws.proofs.Objects.{content_cases}
-use Rattle.h5_laws.proofs.SoundLaws.LinksThere.{group_of}
-use Rattle.h5_repack.specs.Image.Plain.{AreLow}
+use Rattle.h5_query.specs.Opened.Sound.{IsSound}
+use Rattle.h5_query.specs.Opened.State.{FileState}
+use Rattle.h5_repack.specs.Bodies.Headers.{IsLowStorage}
+use Rattle.h5_repack.specs.Image.Plain.{AreLow, IsLowContent}
+use Rattle.h5_repack.specs.Image.Written.{StoredIn}
+use Rattle.h5_edit.specs.StoredChunks.{AreStoredAfter, AreStoredOf}
+use Rattle.h5_edit.proofs.FitLaws.OpenedTrees.{IsRead, object_read}
 use Rattle.h5_edit.proofs.Levels.{flat_few, only_few, rows_fit, level_read}
+use Rattle.h5_edit.proofs.StoredLaws.{dataset_is}
 
 -- ---- links that were read
 
@@ -46,29 +64,75 @@ module _ (image : List ℕ) (leaf k root heap : ℕ) (links : List (List ℕ × 
 
   pub links_low : 1 ≤ k → root_level k (rows_of (2 * leaf) (length links)) ≤ 15
   links_low some_k =
-      let level = level_read image k root has.level has.owned has.symbol_nodes some_k has.tree (rows_of (2 * leaf) (length links)) (rows_fit (2 * leaf) (length links) (length has.symbol_nodes) (omega arith) links_few) in
+      let level = level_read image (group_kind k) root has.level has.owned has.symbol_nodes some_k has.tree (rows_of (2 * leaf) (length links)) (rows_fit (2 * leaf) (length links) (length has.symbol_nodes) (omega arith) links_few) in
       let low = (has.tree).low in
       omega (arith, level, low)
 
--- ---- all groups
+-- ---- chunks that were read
 
-group_low : (image : List ℕ) (table : FinMap nat_cmp ℕ) (tree : Tree) (placed : List Placed) → ReadsAs image table tree placed → AreLow (leaf_k image) (internal_k image) tree
-group_low image table tree placed reads number links is =
-    let g = group_of tree number links is in
-    let there : In (number, g.0.object) (map (λ (x : Placed). (x.number, x.object)) placed) = subst (In (number, g.0.object)) reads.holds.objects (entry_of_get tree number g.0.object g.0.stands) in
-    let by = from_map (λ (x : Placed). (x.number, x.object)) (number, g.0.object) placed there in
-    let x = by.0 in
-    let has : HasObject image table x.header x.object x.blocks = in_all (IsPlaced image table) x placed reads.holds.each by.1 in
-    let content : x.object.content ≡ Group links = ap (λ (p : ℕ × Object). (p.1).content) by.2 ∙ g.0.is ∙ ap (λ (ls : Links). Group ls) g.1 in
-    let superblock = reads.holds.superblock in
-    elim (content_cases image table has.messages x.object.content has.content_blocks has.content) [
-      | inl (own, e, found, group, zip) ↦
-          let same : own ≡ links = let both : Group own ≡ Group links = sym e ∙ content in cc in
-          let low = links_low image (leaf_k image) (internal_k image) _ _ found has.content_blocks superblock.leaf_low group.linked superblock.internal_low in
-          let count : length found ≡ len links = AllZip-long (IsSame table) (entries own) found zip ∙ sym (len-entries own) ∙ ap (λ (ls : Links). len ls) same in
-          subst (λ n. root_level (internal_k image) (rows_of (2 * leaf_k image) n) ≤ 15) count low
-      | inr (d, e, array) ↦ absurd (let never : Array d ≡ Group links = sym e ∙ content in cc)
-    ]
+-- no more chunks hold a cell of an extent than are stored
+pub held_few : (sizes : List ℕ) (chunks : Chunks) → length (held_chunks sizes chunks) ≤ length (entries chunks)
+held_few sizes chunks =
+    let by = slice_cmp nat_cmp in
+    let sorted : T (is_sorted by (entries chunks)) = entries_sorted chunks in
+    let again : chunks ≡ from_sorted (entries chunks) = same_entries_map chunks (from_sorted (entries chunks)) (sym (entries-from_sorted by (entries chunks) sorted)) in
+    let kept : entries (retain_keys chunks (is_inside sizes)) ≡ where_key by (is_inside sizes) (entries chunks)
+    = ap (λ (m : Chunks). entries (retain_keys m (is_inside sizes))) again
+    ∙ ap entries (retain_by_name (entries chunks) (is_inside sizes) (true_of _ sorted))
+    ∙ entries-from_sorted by (where_key by (is_inside sizes) (entries chunks)) (is_sorted-where_key by (is_inside sizes) (entries chunks) sorted) in
+    let passing = length-filter_both (λ (e : List ℕ × ℕ). is_inside sizes e.0) (λ (e : List ℕ × ℕ). not (is_inside sizes e.0)) (λ e. refl) (entries chunks) in
+    omega (arith, ap length kept, length-map (entries (retain_keys chunks (is_inside sizes))) (λ (e : List ℕ × ℕ). e.0), passing)
 
-pub read_low : (image : List ℕ) (table : FinMap nat_cmp ℕ) (tree : Tree) → Reads image table tree → AreLow (leaf_k image) (internal_k image) tree
-read_low image table tree (placed, reads) = group_low image table tree placed reads
+module _ (image : List ℕ) (some : 1 ≤ chunk_k image) (n : ℕ) where
+  -- no chunk needs a tree of one node
+  none_low : (chunks : Chunks) → chunks ≡ empty → n ≤ length (entries chunks) → root_level (chunk_k image) n ≤ 15
+  none_low chunks none few =
+      let zero_of : length (entries chunks) ≡ 0 = ap (λ (m : Chunks). length (entries m)) none ∙ ap length (entries-empty {X = ℕ} (slice_cmp nat_cmp)) in
+      omega (arith, few, zero_of, root_level_is (chunk_k image) n, level_one 64 (2 * chunk_k image) n)
+
+  -- as many chunks as are stored, or fewer, need no higher tree than theirs
+  pub stored_low : (t : Fixed) (l : Layout) (chunks : Chunks) (blocks : List Block) → HasData image t l chunks blocks → n ≤ length (entries chunks)
+      → root_level (chunk_k image) n ≤ 15
+  stored_low t (InMessage bytes) chunks blocks has few = none_low chunks has.0 few
+  stored_low t (InBlock None) chunks blocks has few = none_low chunks has.0 few
+  stored_low t (InBlock (Some b)) chunks blocks has few = none_low chunks has.0 few
+  stored_low t (InChunks sizes None) chunks blocks has few = none_low chunks has.0 few
+  stored_low t (InChunks sizes (Some root)) chunks blocks has few =
+      let many : length (values chunks) ≡ length (entries chunks) = length-map (entries chunks) (λ (e : List ℕ × ℕ). e.1) in
+      let level = level_read image (chunk_kind (chunk_k image) (length sizes)) root has.level has.owned (values chunks) some has.tree n (omega (arith, few, many)) in
+      let low = (has.tree).low in
+      omega (arith, level, low)
+
+-- ---- all objects
+
+module _ (f : FileState) (sound : IsSound f) (stored : StoredIn) (are : AreStoredAfter f f.tree stored) where
+  -- chunks that are stored of an array
+  storage_low : (number header : ℕ) (o : Object) (d : Dataset) → get f.tree number ≡ Some o → get f.table number ≡ Some header → o.content ≡ Array d
+      → (s : Storage) → d.storage ≡ s → IsLowStorage (chunk_k f.image) (length (stored number)) s
+  storage_low number header o d there listed is Compact of = tt
+  storage_low number header o d there listed is (Contiguous held) of = tt
+  storage_low number header o d there listed is (Chunked chunk) of =
+      let kept : AreStoredOf f.image d.sizes (Some header) (stored number)
+      = subst (λ (found : Option ℕ). AreStoredOf f.image d.sizes found (stored number)) listed (are number d (dataset_is f.tree number o (Array d) there is) chunk of) in
+      let has = kept.1 in
+      let stands = subst (λ (chunks : Chunks). HasData f.image has.dataset.fixed has.array.layout chunks has.data_blocks) has.chunks_are has.array.stored in
+      stored_low f.image sound.reads.holds.superblock.chunk_low (length (stored number)) has.dataset.fixed has.array.layout kept.0 has.data_blocks stands
+      (omega (arith, held_few d.sizes kept.0, ap length kept.2))
+
+  content_low : (number : ℕ) (o : Object) (there : get f.tree number ≡ Some o) → IsRead f sound number o there
+      → IsLowContent (k_values f.image) (length (stored number)) o.content
+  content_low number o there r =
+      elim (content_cases f.image f.table r.has.messages o.content r.has.content_blocks r.has.content) [
+        | inl (links, e, found, group, zip) ↦
+            let superblock = sound.reads.holds.superblock in
+            let low = links_low f.image _ _ _ _ found r.has.content_blocks superblock.leaf_low group.linked superblock.internal_low in
+            let count : length found ≡ len links = AllZip-long (IsSame f.table) (entries links) found zip ∙ sym (len-entries links) in
+            subst (IsLowContent (k_values f.image) (length (stored number))) (sym e)
+            (subst (λ (n : ℕ). root_level (k_values f.image).internal (rows_of (2 * (k_values f.image).leaf) n) ≤ 15) count low)
+        | inr (d, e, array) ↦
+            subst (IsLowContent (k_values f.image) (length (stored number))) (sym e) (storage_low number r.header o d there r.listed e d.storage refl)
+      ]
+
+  -- where these chunks are stored
+  pub read_low : AreLow (k_values f.image) stored f.tree
+  read_low number o there = content_low number o there (object_read f sound number o there)

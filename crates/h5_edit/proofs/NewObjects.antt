@@ -29,7 +29,7 @@ use Rattle.h5_query.specs.ContentBytesType.{ContentBytes}
 use Rattle.h5_query.specs.ContentBytesType.TheVariants as bytes
 use Rattle.h5_query.specs.ObjectAdded.{stored_content, object_bytes}
 use Rattle.h5_query.specs.ObjectBytesType.{ObjectBytes}
-use Rattle.h5_repack.specs.Blocks.ArrayHeader.{data_written, header_written}
+use Rattle.h5_repack.specs.Blocks.ArrayHeader.{cells_written, has_data, header_written}
 use Rattle.h5_repack.specs.Blocks.Others.{OthersBytes}
 use Rattle.h5_repack.specs.Blocks.Written.{AreOthers}
 use Rattle.h5_repack.specs.Bodies.Sound.{IsBound}
@@ -43,9 +43,13 @@ use Rattle.h5_edit.proofs.FitLaws.PlainObjects.{no_others}
 
 -- ---- the cells of a new array
 
--- those in a block of their own are what stands behind the header
-pub new_data : (a : Described) (place : ℕ) → cells_bytes a.fixed (replicate (new_count a) a.fill) ≡ data_written Filled a place
-new_data a place = by_layout a.layout where
+-- what is written of them behind the header: none of it is a chunk, so that it doesn't tell chunk K
+abbrev pub filled_data : Described → List ℕ
+filled_data a = if has_data a Filled then cells_written Filled a else []
+
+-- those in a block of their own are that
+pub new_data : (a : Described) → cells_bytes a.fixed (replicate (new_count a) a.fill) ≡ filled_data a
+new_data a = by_layout a.layout where
   in_block : (stored : Bool) → nat_lt 0 (cells a.sizes) ≡ stored → cells_bytes a.fixed (replicate (cells a.sizes) a.fill)
       ≡ (if stored then cells_bytes a.fixed (replicate (cells a.sizes) a.fill) else [])
   in_block true some = refl
@@ -53,7 +57,7 @@ new_data a place = by_layout a.layout where
       let empty : cells a.sizes ≡ 0 = grind (arith, nat_tests, none) in
       ap (λ (n : ℕ). cells_bytes a.fixed (replicate n a.fill)) empty
 
-  by_layout : (l : Layout) → cells_bytes a.fixed (replicate (new_count (record a { layout = l })) a.fill) ≡ data_written Filled (record a { layout = l }) place
+  by_layout : (l : Layout) → cells_bytes a.fixed (replicate (new_count (record a { layout = l })) a.fill) ≡ filled_data (record a { layout = l })
   by_layout (InMessage bytes) = refl
   by_layout (InBlock b) = in_block (nat_lt 0 (cells a.sizes)) refl
   by_layout (InChunks chunk root) = refl
@@ -69,8 +73,9 @@ header_counted spec =
     others none in
     omega (arith, counted)
 
-data_counted : (spec : Spec) → data_bytes 32 0 (new_dataset spec) ≡ contiguous_data spec
-data_counted spec = by_store spec.store where
+-- no chunk of it is stored, whatever chunk K is
+data_counted : (k : ℕ) (spec : Spec) → data_bytes k 0 (new_dataset spec) ≡ contiguous_data spec
+data_counted k spec = by_store spec.store where
   by_stored : (stored : Bool) → nat_lt 0 (cells spec.dims) ≡ stored → (if stored then cells spec.dims * (spec.fixed).size else 0) ≡ cells spec.dims * (spec.fixed).size
   by_stored true some = refl
   by_stored false none =
@@ -78,7 +83,7 @@ data_counted spec = by_store spec.store where
       let zero : cells spec.dims * (spec.fixed).size ≡ 0 * (spec.fixed).size = ap (λ (n : ℕ). n * (spec.fixed).size) empty in
       omega (arith, zero)
 
-  by_store : (s : Store) → data_bytes 32 0 (new_dataset (record spec { store = s })) ≡ contiguous_data (record spec { store = s })
+  by_store : (s : Store) → data_bytes k 0 (new_dataset (record spec { store = s })) ≡ contiguous_data (record spec { store = s })
   by_store store.Compact = refl
   by_store store.Contiguous = by_stored (nat_lt 0 (cells spec.dims)) refl
   by_store (store.Chunked chunk) = refl
@@ -104,13 +109,13 @@ module _ (spec : Spec) (is : IsSoundSpec spec) (fixed : IsFixed spec.fixed) (bou
   pub new_header_length : (count : ℕ) (address : Option ℕ) → length (header_written count array Filled others address) ≡ new_header spec
   new_header_length count address = array_header_size array Filled others (new_stored spec) new_held count address ∙ header_counted spec
 
-  pub new_data_length : (place : ℕ) → length (data_written Filled array place) ≡ contiguous_data spec
-  new_data_length place = array_bytes array Filled others (new_stored spec) new_held place ∙ data_counted spec
+  pub new_data_length : length (filled_data array) ≡ contiguous_data spec
+  new_data_length = array_bytes array Filled others (new_stored spec) new_held 1 (omega arith) 0 ∙ data_counted 1 spec
 
   -- the cells in a block of their own
   pub new_cells_length : length (cells_bytes spec.fixed (replicate (new_count array) spec.fill)) ≡ contiguous_data spec
   new_cells_length =
-      ap₂ (λ t v. length (cells_bytes t (replicate (new_count array) v))) (sym new.fixed_is) (sym new.fill_is) ∙ ap length (new_data array 0) ∙ new_data_length 0
+      ap₂ (λ t v. length (cells_bytes t (replicate (new_count array) v))) (sym new.fixed_is) (sym new.fill_is) ∙ ap length (new_data array) ∙ new_data_length
 
   -- and in all
   pub new_object_length : (b : ObjectBytes) (address : Option ℕ) → b.header.now ≡ header_written 1 array Filled others address

@@ -13,7 +13,9 @@ use Rattle.h5_model.specs.Format.Layout.{layout_of}
 use Rattle.h5_model.specs.Format.Messages.{Message, first_body}
 use Rattle.h5_model.specs.Format.PlainLength.{content_bytes, data_bytes, plain_length}
 use Rattle.h5_model.specs.Format.Sizes.{header_size}
-use Rattle.h5_model.specs.Format.Superblock.{leaf_k, internal_k}
+use Rattle.h5_model.specs.Format.Superblock.{chunk_k_of, k_values}
+use Rattle.h5_model.specs.Format.Plain.{plain_superblock_length}
+use Rattle.h5_model.specs.declared.k_values.KValues.{KValues}
 use Rattle.h5_model.specs.Tree.Objects.{Tree, Object, Content, Group, Array, Dataset, Storage, Compact, Contiguous, Chunked}
 use Rattle.h5_model.proofs.OneReading.{one_messages}
 use Rattle.h5_laws.proofs.Lists.{In}
@@ -67,13 +69,13 @@ same_offsets image sizes (Some header) a b p q = p.2 ∙ ap (held_chunks sizes) 
 -- ---- the length
 
 -- numbers of chunks that are the same where they count
-module _ (leaf internal k a b : ℕ) where
-  same_data : (d : Dataset) (s : Storage) → ((chunk : List ℕ) → s ≡ Chunked chunk → a ≡ b) → data_bytes k a (record d { storage = s }) ≡ data_bytes k b (record d { storage = s })
+module _ (k : KValues) (a b : ℕ) where
+  same_data : (d : Dataset) (s : Storage) → ((chunk : List ℕ) → s ≡ Chunked chunk → a ≡ b) → data_bytes (chunk_k_of k) a (record d { storage = s }) ≡ data_bytes (chunk_k_of k) b (record d { storage = s })
   same_data d Compact same = refl
   same_data d (Contiguous stored) same = refl
-  same_data d (Chunked chunk) same = ap (λ n. data_bytes k n (record d { storage = Chunked chunk })) (same chunk refl)
+  same_data d (Chunked chunk) same = ap (λ n. data_bytes (chunk_k_of k) n (record d { storage = Chunked chunk })) (same chunk refl)
 
-  same_content : (c : Content) → ((d : Dataset) (chunk : List ℕ) → c ≡ Array d → d.storage ≡ Chunked chunk → a ≡ b) → content_bytes leaf internal k a c ≡ content_bytes leaf internal k b c
+  same_content : (c : Content) → ((d : Dataset) (chunk : List ℕ) → c ≡ Array d → d.storage ≡ Chunked chunk → a ≡ b) → content_bytes k a c ≡ content_bytes k b c
   same_content (Group links) same = refl
   same_content (Array d) same = same_data d d.storage (λ chunk is. same d chunk refl is)
 
@@ -83,18 +85,18 @@ same_total f g [] same = refl
 same_total f g (x ∷ xs) same = ap₂ (λ m n. m + n) (same x (inl refl)) (same_total f g xs (λ y there. same y (inr there)))
 
 module _ (f : FileState) (tree : Tree) where
-  same_length : (s t : StoredIn) → AreStoredAfter f tree s → AreStoredAfter f tree t → (leaf internal k : ℕ)
-      → plain_length leaf internal k (counts_of s) tree ≡ plain_length leaf internal k (counts_of t) tree
+  same_length : (s t : StoredIn) → AreStoredAfter f tree s → AreStoredAfter f tree t → (k : KValues)
+      → plain_length k (counts_of s) tree ≡ plain_length k (counts_of t) tree
   unfolding plain_length
-  same_length s t p q leaf internal k = ap (λ n. 96 + n) (total-sum_by _ (entries tree) ∙ same_total _ _ (entries tree) each ∙ sym (total-sum_by _ (entries tree))) where
-    each : (e : ℕ × Object) → In e (entries tree) → header_size e.1 + content_bytes leaf internal k (counts_of s e.0) (e.1).content
-        ≡ header_size e.1 + content_bytes leaf internal k (counts_of t e.0) (e.1).content
-    each e there = ap (λ n. header_size e.1 + n) (same_content leaf internal k (counts_of s e.0) (counts_of t e.0) (e.1).content (λ d chunk is chunked.
+  same_length s t p q k = ap (λ n. plain_superblock_length k + n) (total-sum_by _ (entries tree) ∙ same_total _ _ (entries tree) each ∙ sym (total-sum_by _ (entries tree))) where
+    each : (e : ℕ × Object) → In e (entries tree) → header_size e.1 + content_bytes k (counts_of s e.0) (e.1).content
+        ≡ header_size e.1 + content_bytes k (counts_of t e.0) (e.1).content
+    each e there = ap (λ n. header_size e.1 + n) (same_content k (counts_of s e.0) (counts_of t e.0) (e.1).content (λ d chunk is chunked.
         let found = dataset_is tree e.0 e.1 (Array d) (get_of_entry nat_cmp_total tree e.0 e.1 there) is in
         ap length (same_offsets f.image d.sizes (get f.table e.0) (s e.0) (t e.0) (p e.0 d found chunk chunked) (q e.0 d found chunk chunked))))
 
   pub one_length : (m n : ℕ) → HasLengthAnew f tree m → HasLengthAnew f tree n → m ≡ n
-  one_length m n x y = x.counted ∙ same_length x.stored y.stored x.chunks y.chunks (leaf_k f.image) (internal_k f.image) 32 ∙ sym y.counted
+  one_length m n x y = x.counted ∙ same_length x.stored y.stored x.chunks y.chunks (k_values f.image) ∙ sym y.counted
 
   -- so it passes 2^31 bytes or does not
   pub not_both : IsLongAnew f tree → IsShortAnew f tree → ⊥

@@ -4,7 +4,7 @@ use Rattle.std.proofs.lemmas.Option.{slice_get_within}
 use Rattle.std.specs.FinMap.{get, len}
 use Rattle.h5_bytes.specs.Blocks.{cover, holds}
 use Rattle.h5_model.specs.Format.Reads.{Reads, ReadsAs, all_blocks}
-use Rattle.h5_model.specs.Format.Superblock.{IsSuperblock, end_of_file, leaf_k, internal_k}
+use Rattle.h5_model.specs.Format.Superblock.{IsSuperblock, end_of_file, k_values}
 use Rattle.h5_model.specs.Tree.Objects.{Tree, Object}
 use Rattle.h5_laws.proofs.Objects.{in_table}
 use Rattle.h5_laws.proofs.SoundLaws.Read.{placed_at}
@@ -91,8 +91,7 @@ module _ (f : FileState) (tree : Tree) (next : ℕ) (image : List ℕ) (hs : Lis
       sound = sound_after;
       whole = whole_after;
       free = free_is;
-      leaf = ap leaf_k image_is ∙ is.reads.leaf_is;
-      internal = ap internal_k image_is ∙ is.reads.internal_is;
+      k = ap k_values image_is ∙ is.reads.k_is;
     })
 
     pub holds_image : (value : FileState) → value ≡ after → value.image ≡ image

@@ -10,7 +10,7 @@ use Rattle.h5_model.specs.Edits.Applied.{with_dataset}
 use Rattle.h5_model.specs.Format.Chunks.{Chunks}
 use Rattle.h5_model.specs.Format.Fixed.{Fixed}
 use Rattle.h5_model.specs.Format.Layout.{Layout, InMessage, InBlock, InChunks}
-use Rattle.h5_model.specs.Format.Superblock.{leaf_k, internal_k}
+use Rattle.h5_model.specs.Format.Superblock.{k_values}
 use Rattle.h5_model.specs.Tree.Grid.{corner_of, inner_of}
 use Rattle.h5_model.specs.Tree.Objects.{Dataset, with_object}
 use Rattle.h5_model.specs.Tree.Places.{index_of, place_of}
@@ -121,7 +121,7 @@ module _ {f : FileState} {path : List ℕ} {hyper : Hyper} {values : List ℤ} {
 
   module _ (now : FileState)
       (changed : now ≡ record f { image = now.image; tree = with_object f.tree t.number (with_dataset (with_run c.place values)) })
-      (leaf : leaf_k now.image ≡ leaf_k f.image) (internal : internal_k now.image ≡ internal_k f.image) (sound : IsSound now) (whole : IsWholeFile f → IsWholeFile now)
+      (k : k_values now.image ≡ k_values f.image) (sound : IsSound now) (whole : IsWholeFile f → IsWholeFile now)
       (in_place_now : IsChangedInPlace f now (with_object f.tree t.number (with_dataset (with_run c.place values))) f.next (t.number ∷ []) 0)
       (stored : (place : ℕ) → IsCellStored f t.number place → IsCellStored now t.number place) where
     wrote : AreValuesWritten f t.number (places_in (run ∷ [])) values now
@@ -129,7 +129,7 @@ module _ {f : FileState} {path : List ℕ} {hyper : Hyper} {values : List ℤ} {
         all_written f t.number (run ∷ []) values asked.0 asked.1 (0 + run.length) [] now
         (one_more f t.number (run ∷ []) values asked.0 asked.1 0 (run ∷ []) [] run f none_yet refl values all_values now
         (subst (λ place. now ≡ record f { image = now.image; tree = with_object f.tree t.number (with_dataset (with_run place values)) }) stands.place_is changed)
-        leaf internal sound whole
+        k sound whole
         (subst (λ place. IsChangedInPlace f now (with_object f.tree t.number (with_dataset (with_run place values))) f.next (t.number ∷ []) 0) stands.place_is in_place_now) stored)
         refl
 

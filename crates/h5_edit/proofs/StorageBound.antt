@@ -36,7 +36,7 @@ use Rattle.h5_model.proofs.PlaceLaws.{index-place}
 use Rattle.h5_query.specs.Data.{dataset_told, stored_chunks}
 use Rattle.h5_shape.proofs.Members as shape
 use Rattle.h5_shape.proofs.RisingBoxes as boxes
-use Rattle.h5_layout.specs.Storage.{IsDeepFor, IsDeepIn, IsFullInTurn, chunks_room_in, storage_bytes}
+use Rattle.h5_layout.specs.Storage.{IsDeepFor, IsDeepIn, IsFullInNewTree, IsFullInTurn, chunks_room_in, storage_bytes}
 use Rattle.h5_layout.specs.Lacking.{IsFound, IsMissing, IsMissingIn}
 use Rattle.h5_layout.specs.Lacking.{lacks_cells}
 use Rattle.h5_layout.specs.declared.lacking.Missing.{Missing}
@@ -198,12 +198,19 @@ module _ (image : List ℕ) (ms : List Message) (a : Described) (has : HasArray 
   turn_below shape root all zero full = full.0
   turn_below shape root all (suc n) full = full.0
 
+  new_below : (shape : Shape) (all : List (List ℕ)) (n : ℕ) → IsFullInNewTree image shape all n → n < length all
+  new_below shape all zero never = absurd never
+  new_below shape all (suc n) full = full.0
+
   -- one of those that are missing
   pub deep_below : (m : Missing) (n : ℕ) (l : Layout) → a.layout ≡ l → IsMissingIn image a slab m l → IsDeepFor image a m n → n < new_chunks room edit (dataset_by l)
   deep_below missing.Block n l is missed deep = absurd deep
   deep_below (missing.Chunks new) n (InMessage bytes) is never deep = absurd never
   deep_below (missing.Chunks new) n (InBlock b) is never deep = absurd never
-  deep_below (missing.Chunks new) n (InChunks chunk None) is are deep = absurd (subst (IsDeepIn image a new.offsets n) is deep)
+  deep_below (missing.Chunks new) n (InChunks chunk None) is are deep =
+      let low = new_below _ new.offsets n (subst (IsDeepIn image a new.offsets n) is deep) in
+      let count = missing_counted chunk None is new are in
+      omega (arith, low, count)
   deep_below (missing.Chunks new) n (InChunks chunk (Some root)) is are deep =
       let low = turn_below _ root new.offsets n (subst (IsDeepIn image a new.offsets n) is deep) in
       let count = missing_counted chunk (Some root) is new are in

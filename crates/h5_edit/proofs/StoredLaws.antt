@@ -8,7 +8,7 @@ use Rattle.h5_layout.specs.HeldChunks.{held_chunks}
 use Rattle.h5_layout.specs.StoredAt.{HasStoredChunks}
 use Rattle.h5_model.specs.Format.PlainLength.{plain_length}
 use Rattle.h5_model.specs.Format.Reads.{HasContent}
-use Rattle.h5_model.specs.Format.Superblock.{leaf_k, internal_k}
+use Rattle.h5_model.specs.Format.Superblock.{k_values}
 use Rattle.h5_model.specs.Tree.Objects.{Tree, Object, Content, Group, Array, Dataset, dataset_in, dataset_of}
 use Rattle.h5_query.specs.Opened.Sound.{IsSound}
 use Rattle.h5_query.specs.Opened.State.{FileState}
@@ -69,13 +69,13 @@ module _ (f : FileState) (sound : IsSound f) where
 
 -- how long the image is that is written anew
 pub length_with : (f : FileState) (tree : Tree) (stored : StoredIn) → AreStoredAfter f tree stored
-    → HasLengthAnew f tree (plain_length (leaf_k f.image) (internal_k f.image) 32 (counts_of stored) tree)
+    → HasLengthAnew f tree (plain_length (k_values f.image) (counts_of stored) tree)
 length_with f tree stored are = record { stored = stored; chunks = are; counted = refl }
 
 -- it has one
 pub length_there : (f : FileState) → IsSound f → (bytes : ℕ) × HasLengthAnew f f.tree bytes
 length_there f sound =
     let there = stored_there f sound in (
-      plain_length (leaf_k f.image) (internal_k f.image) 32 (counts_of there.0) f.tree,
+      plain_length (k_values f.image) (counts_of there.0) f.tree,
       length_with f f.tree there.0 there.1,
     )

@@ -8,7 +8,7 @@ use Rattle.std.proofs.lemmas.List.{append-nil}
 use Rattle.h5_laws.proofs.Lists.{In, all_in, contains_in, in_all, in_left, in_right}
 use Rattle.h5_model.specs.Edits.Applied.{with_cells, with_dataset}
 use Rattle.h5_model.specs.Format.Fixed.{fits}
-use Rattle.h5_model.specs.Format.Superblock.{leaf_k, internal_k}
+use Rattle.h5_model.specs.Format.Superblock.{k_values}
 use Rattle.h5_model.specs.Tree.Objects.{Tree, Dataset, dataset_of, with_object}
 use Rattle.h5_model.specs.Tree.Places.{cells}
 use Rattle.h5_query.specs.ChangedInPlace.{IsChangedInPlace}
@@ -136,8 +136,7 @@ module _ (old : FileState) (number : ℕ) (all : List CellRun) (values : List �
     at = refl;
     written = record {
       changed = ap (λ (t : Tree). record old { tree = t }) (sym (changed_never old.tree number));
-      leaf = refl;
-      internal = refl;
+      k = refl;
       sound = λ sound. sound;
       whole = λ whole. whole;
       in_place = λ sound. subst (λ (t : Tree). IsChangedInPlace old old t old.next (number ∷ []) 0) (sym (changed_never old.tree number)) (changed_none old (number ∷ []) sound);
@@ -224,7 +223,7 @@ module _ (old : FileState) (number : ℕ) (all : List CellRun) (values : List �
 
     module _ (vs : List ℤ) (same : vs ≡ part) (after : FileState)
         (changed : after ≡ record now { image = after.image; tree = with_object now.tree number (with_dataset (with_run r.place vs)) })
-        (leaf : leaf_k after.image ≡ leaf_k now.image) (internal : internal_k after.image ≡ internal_k now.image) (sound : IsSound after) (whole : IsWholeFile now → IsWholeFile after)
+        (k : k_values after.image ≡ k_values now.image) (sound : IsSound after) (whole : IsWholeFile now → IsWholeFile after)
         (in_place : IsChangedInPlace now after (with_object now.tree number (with_dataset (with_run r.place vs))) now.next (number ∷ []) 0)
         (stored : (place : ℕ) → IsCellStored now number place → IsCellStored after number place) where
       tree_now : now.tree ≡ with_object old.tree number (with_dataset (with_places (places_in so.done) (take from values)))
@@ -263,8 +262,7 @@ module _ (old : FileState) (number : ℕ) (all : List CellRun) (values : List �
             );
         written = record {
           changed = state_after;
-          leaf = leaf ∙ so.written.leaf;
-          internal = internal ∙ so.written.internal;
+          k = k ∙ so.written.k;
           sound = λ _. sound;
           whole = λ w. whole (so.written.whole w);
           in_place = both_in_place;

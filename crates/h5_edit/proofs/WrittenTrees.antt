@@ -199,8 +199,7 @@ module _ (f : FileState) (path : List ℕ) (hyper : Hyper) (values : List ℤ) (
         state = λ i. record { tree = tree i; next = next i };
         sound = whole.sound;
         whole = whole.whole;
-        leaf = whole.leaf;
-        internal = whole.internal;
+        k = whole.k;
         object = named ∙ sym at.object;
         refreshed = refreshed;
         bytes = has.bytes;

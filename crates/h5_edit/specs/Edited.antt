@@ -5,7 +5,7 @@ use Rattle.h5_model.specs.Edits.Applied.{state_after, makes_object, named_object
 use Rattle.h5_model.specs.Edits.Bounds.{attribute_bound, bound_of}
 use Rattle.h5_model.specs.Edits.ImageAnswers.{Facts}
 use Rattle.h5_model.specs.Edits.Touched.{touched_by}
-use Rattle.h5_model.specs.Format.Superblock.{leaf_k, internal_k}
+use Rattle.h5_model.specs.Format.Superblock.{k_values}
 use Rattle.h5_model.specs.Tree.Paths.{object_at}
 use Rattle.h5_model.specs.declared.edits.Edit.{Edit}
 use Rattle.h5_model.specs.declared.edits.Edit.TheVariants.{CreateGroup, CreateDataset, HardLink, SoftLink, SetAttr, Write, Resize}
@@ -50,16 +50,15 @@ abbrev pub IsTrimmedBy : Edit → FileState → FileState → Type 0
 IsTrimmedBy (Resize path dims) before after = (number : ℕ) → object_at before.tree path ≡ Some number → IsArrayTrimmed after number
 IsTrimmedBy edit before after = Unit {0}
 
--- No rule refuses it. The image is one of the tree that it gives, no byte of which gets lost, and keeps the K values. The bytes of the
--- objects alone changed that the edit touches, no header moved, and the image has grown by no more than the edit needs. An object that it
--- makes stands in new blocks. Behind other sizes of an array nothing is stored outside of them.
+-- No rule refuses it. The image is one of the tree that it gives, no byte of which gets lost, and keeps the version of the superblock and
+-- all K values. The bytes of the objects alone changed that the edit touches, no header moved, and the image has grown by no more than the
+-- edit needs. An object that it makes stands in new blocks. Behind other sizes of an array nothing is stored outside of them.
 pub record IsEdited (before : FileState) (edit : Edit) (after : FileState) (e : Edited) : Type 0 where
   pub accepted : IsAccepted before edit
   pub state : state_of after ≡ state_after (state_of before) edit
   pub sound : IsSound after
   pub whole : IsWholeFile before → IsWholeFile after
-  pub leaf : leaf_k after.image ≡ leaf_k before.image
-  pub internal : internal_k after.image ≡ internal_k before.image
+  pub k : k_values after.image ≡ k_values before.image
   pub object : option_map (λ o. o.0) e.object ≡ named_object before.tree edit before.next
   pub refreshed : e.refreshed ≡ 0
   pub bytes : ℕ

@@ -5,7 +5,7 @@ use Rattle.std.specs.List.{AllByRecursion, Contains, list_all}
 use Rattle.std.specs.Option.{option_map}
 use Rattle.h5_model.specs.Edits.Applied.{with_cells, with_dataset}
 use Rattle.h5_model.specs.Format.Fixed.{fits}
-use Rattle.h5_model.specs.Format.Superblock.{leaf_k, internal_k}
+use Rattle.h5_model.specs.Format.Superblock.{k_values}
 use Rattle.h5_model.specs.Tree.Objects.{Dataset, Storage, dataset_of, with_object}
 use Rattle.h5_model.specs.Tree.Places.{cells}
 use Rattle.h5_model.specs.Views.Selection.{Slab, axes_of, selection_of}
@@ -81,8 +81,7 @@ pub record AreRunsStored (f : FileState) (number : ℕ) (runs : List CellRun) (v
 -- of the opened image the array of this number alone is another, which has these values in the cells at these places
 pub record AreValuesWritten (old : FileState) (number : ℕ) (places : List ℕ) (values : List ℤ) (new : FileState) : Type 0 where
   pub changed : new ≡ record old { image = new.image; tree = with_object old.tree number (with_dataset (with_places places values)) }
-  pub leaf : leaf_k new.image ≡ leaf_k old.image
-  pub internal : internal_k new.image ≡ internal_k old.image
+  pub k : k_values new.image ≡ k_values old.image
   pub sound : IsSound old → IsSound new
   pub whole : IsWholeFile old → IsWholeFile new
   pub in_place : IsSound old

@@ -6,8 +6,7 @@ use Rattle.h5_layout.specs.HeldChunks.{held_chunks}
 use Rattle.h5_layout.specs.StoredAt.{HasStoredChunks}
 use Rattle.h5_model.specs.Format.Chunks.{Chunks}
 use Rattle.h5_model.specs.Format.PlainLength.{plain_length}
-use Rattle.h5_model.specs.Format.PlainSuperblock.{plain_chunk_k}
-use Rattle.h5_model.specs.Format.Superblock.{leaf_k, internal_k}
+use Rattle.h5_model.specs.Format.Superblock.{k_values}
 use Rattle.h5_model.specs.Tree.Objects.{Tree, Object, Array, Dataset, Chunked, dataset_of}
 use Rattle.h5_query.specs.Opened.State.{FileState}
 use Rattle.h5_repack.specs.Image.Written.{StoredIn, counts_of}
@@ -40,4 +39,4 @@ AreStoredAfter f tree stored = (number : ℕ) → AreStoredAt f tree number (sto
 pub record HasLengthAnew (f : FileState) (tree : Tree) (bytes : ℕ) : Type 0 where
   pub stored : StoredIn
   pub chunks : AreStoredAfter f tree stored
-  pub counted : bytes ≡ plain_length (leaf_k f.image) (internal_k f.image) plain_chunk_k (counts_of stored) tree
+  pub counted : bytes ≡ plain_length (k_values f.image) (counts_of stored) tree

@@ -14,7 +14,6 @@ ghost use Rattle.h5_edit.specs.Carried.{IsRefused};
 ghost use Rattle.h5_edit.specs.Edited.{IsEdited};
 
 use crate::created::array::{array_from, block_cells};
-use crate::k_values::k_of;
 use crate::links::insertion_fault;
 use crate::rules::{NewPlace, check_create_dataset, check_create_group};
 use h5_btree::InsertFault;
@@ -24,7 +23,7 @@ use h5_repack::{
     Cells, GROUP_HEADER, Others, array_header_length, bare_group_length, bare_group_table,
     cells_address, data_length, push_array_header, push_bare_group,
 };
-use h5_space::SpaceFault;
+use h5_space::{SpaceFault, chunk_k, k_values};
 use std::alloc::Global;
 
 /// Creates an empty group at the path.
@@ -46,12 +45,12 @@ pub fn create_group(alloc: Global, opened: &mut Opened, path: &[u8]) -> Result<E
 {
     let number = opened.next();
     let place = check_create_group(opened, path)?;
-    let k = k_of(opened.image());
+    let k = k_values(opened.image().bytes());
     let Some(at) = opened.place_for(bare_group_length(k.internal)) else {
         return Err(insertion_fault(no_room(opened, &place)));
     };
     let mut bytes = Vec::new(alloc);
-    push_bare_group(alloc, &mut bytes, k.leaf, k.internal, at)?;
+    push_bare_group(alloc, &mut bytes, &k, at)?;
     let group = ObjectBytes {
         header: &bytes[..GROUP_HEADER as usize],
         content: ContentBytes::Group {
@@ -92,7 +91,8 @@ pub fn create_dataset(
     let array = array_from(alloc, spec);
     let others = Others::new(alloc);
     let header = array_header_length(&array, &others);
-    let data = data_length(&array, &Cells::Filled);
+    let chunk = chunk_k(opened.image().bytes());
+    let data = data_length(chunk, &array, &Cells::Filled);
     let Some(at) = place_with(opened, header, data) else {
         return Err(insertion_fault(no_room(opened, &place)));
     };

@@ -7,7 +7,6 @@
 mod attributes;
 mod change;
 mod created;
-mod k_values;
 mod links;
 mod made;
 mod opening;

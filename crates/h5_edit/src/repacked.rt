@@ -5,15 +5,15 @@ ghost use Rattle.h5_query.specs.Opened.Sound.{IsSound};
 ghost use Rattle.h5_edit.specs.Repacked.{IsRepackMade, IsRepackRefused};
 
 use crate::change::opened_objects;
-use crate::k_values::k_of;
 use crate::made::{Made, answer};
 use h5_model::EditFault;
 use h5_query::Opened;
 use h5_repack::write_tree;
+use h5_space::k_values;
 use std::alloc::Global;
 
-/// Writes the image anew: its objects keep their numbers, and each byte is used. Stored chunks that hold no cell of
-/// their array go.
+/// Writes the image anew: its objects keep their numbers, the superblock its version and all K values, and each byte is
+/// used. Stored chunks that hold no cell of their array go.
 ///
 /// # Errors
 ///
@@ -23,9 +23,10 @@ pub fn repack(alloc: Global, opened: &Opened) -> Result<Made, EditFault>
     ensures repacked { MatchResult result (IsRepackMade opened.now) (IsRepackRefused opened.now) }
     ensures sound { IsSound opened.now }
 {
-    let k = k_of(opened.image());
+    let bytes = opened.image().bytes();
+    let k = k_values(bytes);
     let Ok(objects) = opened_objects(alloc, opened) else {
         return Err(EditFault::NoMemory);
     };
-    answer(write_tree(alloc, k.leaf, k.internal, &objects))
+    answer(write_tree(alloc, &k, &objects))
 }

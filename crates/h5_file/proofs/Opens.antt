@@ -1,13 +1,14 @@
 -- Why bytes are not opened: the superblock of the bytes up to their end of file address, and what the walk answers.
-use Rattle.std.proofs.Common.{◌≡◌, inl, inr, ℕ, ◌+◌, ◌<◌, ◌≤◌, List, length, sym, ap, ◌∙◌, arith, rules}
+use Rattle.std.proofs.Common.{◌≡◌, inl, inr, ℕ, ◌+◌, ◌<◌, ◌≤◌, Bool, List, length, sym, ap, ◌∙◌, arith}
 use Rattle.std.specs.Prelude.{take}
-use Rattle.std.proofs.lemmas.List.{get_or-take, length-take, same_lists, places, take_all}
+use Rattle.std.proofs.lemmas.List.{length-take, take_all}
 use Rattle.h5_bytes.specs.Bytes.{number_at, byte_at, part}
-use Rattle.h5_bytes.proofs.FieldLaws.{number_at-part}
 use Rattle.h5_model.specs.Faults.Breaches.{SuperblockBreach, cut}
-use Rattle.h5_model.specs.Format.Superblock.{IsSuperblock, end_of_file}
+use Rattle.h5_model.specs.Format.Superblock.{IsSuperblock, chunk_field, end_of_file, has_chunk_k, k_values, superblock_length}
 use Rattle.h5_model.specs.declared.open_fault.Cause.{Cause}
 use Rattle.h5_model.specs.declared.open_fault.Cause.TheVariants.{NoMemory}
+use Rattle.h5_model.proofs.CutLaws.{cut_byte, cut_number, cut_part, cut_version}
+use Rattle.h5_model.proofs.KLaws.{k_values_stay, same_chunk, same_internal, same_leaf, same_length}
 use Rattle.h5_edit.specs.Opened.Refused.{IsOpenRefusedAt}
 use Rattle.h5_laws.proofs.Excluded.{breach_excludes_reads}
 use Rattle.h5_file.specs.Opening.{RefusedBy, IsReadable}
@@ -18,36 +19,42 @@ module _ (bytes : List ℕ) (is : IsSuperblock bytes) where
   pub length-cut : length (cut bytes) ≡ end_of_file bytes
   length-cut = let low = is.end_low in let high = is.end_high in let len = length-take (end_of_file bytes) bytes in omega arith
 
-  same_part : (at len : ℕ) → at + len ≤ 96 → part at len (cut bytes) ≡ part at len bytes
-  unfolding part
-  same_part at len low =
-      let begins = is.end_low in let ends = is.end_high in let long = is.whole in
-      same_lists _ _ (search (rules, places)) (λ k d l. grind (arith, places))
+  same_part : (at len : ℕ) → at + len ≤ superblock_length bytes → part at len (cut bytes) ≡ part at len bytes
+  same_part = cut_part bytes (superblock_length bytes) is.end_low is.whole
 
-  same_byte : (at : ℕ) → at < 96 → byte_at (cut bytes) at ≡ byte_at bytes at
-  same_byte at low = let begins = is.end_low in get_or-take (end_of_file bytes) bytes at 0 (omega arith)
+  same_byte : (at : ℕ) → at < superblock_length bytes → byte_at (cut bytes) at ≡ byte_at bytes at
+  same_byte = cut_byte bytes (superblock_length bytes) is.end_low is.whole
 
-  same_number : (at size : ℕ) → at + size ≤ 96 → number_at (cut bytes) at size ≡ number_at bytes at size
-  same_number at size low =
-      let none : at + 0 ≡ at = omega arith in
-      let this : number_at (part at size (cut bytes)) 0 size ≡ number_at (cut bytes) at size = rw none at (number_at-part 0 size at size (cut bytes) (omega arith)) in
-      let that : number_at (part at size bytes) 0 size ≡ number_at bytes at size = rw none at (number_at-part 0 size at size bytes (omega arith)) in
-      sym this ∙ ap (λ bs. number_at bs 0 size) (same_part at size low) ∙ that
+  same_number : (at size : ℕ) → at + size ≤ superblock_length bytes → number_at (cut bytes) at size ≡ number_at bytes at size
+  same_number = cut_number bytes (superblock_length bytes) is.end_low is.whole
+
+  -- the version says where the fields stand
+  version : has_chunk_k (cut bytes) ≡ has_chunk_k bytes
+  version = cut_version bytes (superblock_length bytes) is.end_low is.whole (omega arith)
+
+  same_field : (at : Bool → ℕ) → at (has_chunk_k bytes) + 8 ≤ superblock_length bytes
+      → number_at (cut bytes) (at (has_chunk_k (cut bytes))) 8 ≡ number_at bytes (at (has_chunk_k bytes)) 8
+  same_field at low = ap (λ has. number_at (cut bytes) (at has) 8) version ∙ same_number (at (has_chunk_k bytes)) 8 low
 
   same_end : end_of_file (cut bytes) ≡ end_of_file bytes
-  same_end = same_number 40 8 (omega arith)
+  same_end = same_field (λ has. 40 + chunk_field has) (omega arith)
+
+  k : k_values (cut bytes) ≡ k_values bytes
+  k = k_values_stay bytes (cut bytes) 26 (omega arith) (same_part 0 26 (omega arith))
 
   pub cut_ends : end_of_file (cut bytes) ≡ length (cut bytes)
   cut_ends = same_end ∙ sym length-cut
 
   pub cut_superblock : IsSuperblock (cut bytes)
   cut_superblock =
-      let leaf = same_number 16 2 (omega arith) in
-      let internal = same_number 18 2 (omega arith) in
+      let leaf = same_leaf (cut bytes) bytes k in
+      let internal = same_internal (cut bytes) bytes k in
+      let chunk = same_chunk (cut bytes) bytes k in
+      let long = same_length (cut bytes) bytes k in
       record {
-        whole = omega (arith, length-cut, is.end_low);
+        whole = omega (arith, long, length-cut, is.end_low);
         signed = same_part 0 8 (omega arith) ∙ is.signed;
-        version = same_byte 8 (omega arith) ∙ is.version;
+        version = omega (arith, same_byte 8 (omega arith), is.version);
         free_space_version = same_byte 9 (omega arith) ∙ is.free_space_version;
         root_version = same_byte 10 (omega arith) ∙ is.root_version;
         shared_version = same_byte 12 (omega arith) ∙ is.shared_version;
@@ -57,10 +64,12 @@ module _ (bytes : List ℕ) (is : IsSuperblock bytes) where
         leaf_high = omega (arith, leaf, is.leaf_high);
         internal_low = omega (arith, internal, is.internal_low);
         internal_high = omega (arith, internal, is.internal_high);
-        base = same_number 24 8 (omega arith) ∙ is.base;
-        driver = same_number 48 8 (omega arith) ∙ is.driver;
+        chunk_low = omega (arith, chunk, is.chunk_low);
+        chunk_high = omega (arith, chunk, is.chunk_high);
+        base = same_field (λ has. 24 + chunk_field has) (omega arith) ∙ is.base;
+        driver = same_field (λ has. 48 + chunk_field has) (omega arith) ∙ is.driver;
         small = omega (arith, same_end, is.small);
-        end_low = omega (arith, same_end, is.end_low);
+        end_low = omega (arith, long, same_end, is.end_low);
         end_high = omega (arith, same_end, length-cut);
       }
 

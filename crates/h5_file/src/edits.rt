@@ -338,8 +338,9 @@ impl File {
         write(self.alloc, &mut self.opened, path, hyper, values)
     }
 
-    /// Writes the image anew, without bytes that nothing uses: each block stands behind the one before it. The tree
-    /// and the numbers of its objects stay. Stored chunks that hold no cell of their array go.
+    /// Writes the image anew, without bytes that nothing uses: each block stands behind the one before it. The tree, the
+    /// numbers of its objects, the version of the superblock and all K values stay. Stored chunks that hold no cell of
+    /// their array go.
     ///
     /// # Errors
     ///

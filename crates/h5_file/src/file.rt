@@ -1,6 +1,6 @@
 //! A file in memory.
 
-ghost use Rattle.std.specs.Prelude.{◌≡◌, [], IfOk, IfErr, MatchOption, MatchResult, Some, length, map};
+ghost use Rattle.std.specs.Prelude.{◌≡◌, [], IfOk, IfErr, MatchOption, MatchResult, OnErr, Some, length, map};
 ghost use Rattle.h5_model.specs.Faults.Breaches.{cut};
 ghost use Rattle.h5_model.specs.Edits.Refusal.{first_holding};
 ghost use Rattle.h5_model.specs.Scripts.Reading.{path_rules, attribute_rules, cell_rules, dataset_rules, selection_rules};
@@ -55,7 +55,7 @@ impl Model for File {
 }
 
 impl File {
-    /// A file with an empty root group: 800 bytes.
+    /// A file with an empty root group: 800 bytes, with a superblock of version 0, leaf K 4 and internal K 16.
     ///
     /// # Errors
     ///
@@ -276,15 +276,16 @@ impl File {
     /// The links of the group with this number, in ascending order of the bytes of their names; `Ok(None)` if no
     /// group has the number.
     ///
-    /// Takes memory for a reference to each link.
+    /// Takes memory for a reference to each link, and none where no group has the number.
     ///
     /// # Errors
     ///
-    /// `AllocError` if memory is refused.
+    /// `AllocError` if a group has the number, and memory is refused.
     pub fn links(&self, number: ObjectNo) -> Result<Option<Vec<Link<'_, ObjectNo>>>, AllocError>
-        ensures { IfOk result (λ found.
+        ensures found { IfOk result (λ found.
             MatchOption found (IsNoGroup self.now.tree number.0) (λ links.
             AreGroupLinks self.now.tree number.0 links.items)) }
+        ensures refused { OnErr result (IsNoGroup self.now.tree number.0 → ⊥) }
     {
         links_of(self.alloc, &self.opened, number)
     }

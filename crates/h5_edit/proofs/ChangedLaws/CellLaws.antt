@@ -153,7 +153,7 @@ module _ (image : List ℕ) (ms : List Message) (is : IsArrayList ms) (read : Ar
     cells_are = bytes_are bytes.now low stored;
     stored_are = unchunked_stored [] bare (unchunked a.sizes a.layout other);
   })
-  kept_told (Chunks held) (chunk, root, layout, long, same) = subst (λ (h : HeldCells). IsNewArray a (Chunks h) d) (sym same) (chunked_array chunk root layout long)
+  kept_told (Chunks _) (chunk, root, layout, long, same) = subst (λ (h : HeldCells). IsNewArray a (Chunks h) d) (sym same) (chunked_array chunk root layout long)
 
   -- whatever describes it so
   pub kept_array : (x : Described) → x ≡ a → (c : Cells) → AreCellsKept image x c → IsNewArray x c d
@@ -167,7 +167,7 @@ module _ (image : List ℕ) (ms : List Message) (is : IsArrayList ms) (read : Ar
   chunks_told Unset (other, filled) chunk e = not_chunked chunk other e
   chunks_told Filled never chunk e = absurd never
   chunks_told (Stored bytes) (other, low, stored) chunk e = not_chunked chunk other e
-  chunks_told (Chunks held) (sizes, root, layout, long, same) chunk e = ap (λ (h : HeldCells). chunks_of (Chunks h)) same ∙ offsets_are sizes root layout long
+  chunks_told (Chunks _) (sizes, root, layout, long, same) chunk e = ap (λ (h : HeldCells). chunks_of (Chunks h)) same ∙ offsets_are sizes root layout long
 
   -- and of its chunks those that hold a cell
   pub kept_chunks : (x : Described) → x ≡ a → (c : Cells) → AreCellsKept image x c → (chunk : List ℕ) → d.storage ≡ Chunked chunk

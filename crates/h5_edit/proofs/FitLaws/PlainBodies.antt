@@ -1,7 +1,7 @@
 -- What the messages of a header that is read have, so that they can be written again (File Format Specification 3.0, sections IV.A.1.a
 -- and IV.A.2.m).
 use Rattle.std.proofs.Common.{◌≡◌, ℕ, ◌+◌, ◌-◌, ◌*◌, ◌%◌, ◌^◌, ◌<◌, ◌≤◌, inl, inr, List, [], ◌∷◌, ◌++◌, length, drop, take, map, Some, None, true, false, cond, refl, sym, ap, ◌∙◌, subst, arith}
-use Rattle.std.specs.Prelude.{nat_le, nat_lt, ◌==◌, slice_range}
+use Rattle.std.specs.Prelude.{Bool, nat_le, nat_lt, ◌==◌, if◌then◌else◌, slice_range}
 use Rattle.std.specs.Option.{option_and_then}
 use Rattle.std.specs.List.{AllByRecursion, range_with_len, flat_map}
 use Rattle.std.proofs.lemmas.Bool.{cases_lt}
@@ -9,8 +9,8 @@ use Rattle.std.proofs.lemmas.Bool.Decides.{nat_tests}
 use Rattle.std.proofs.lemmas.Option.{cond_some, option_and_then_some}
 use Rattle.std.proofs.lemmas.List.{length-take, get_or-take, get_or-drop, get_or_past}
 use Rattle.std.proofs.lemmas.List.FromFn.{length-map-range_with_len}
-use Rattle.h5_bytes.specs.Bytes.{number_at, part}
-use Rattle.h5_bytes.specs.Texts.{until_zero}
+use Rattle.h5_bytes.specs.Bytes.{byte_at, number_at, part}
+use Rattle.h5_bytes.specs.Texts.{pad8, until_zero}
 use Rattle.h5_bytes.specs.declared.Block.{Block}
 use Rattle.h5_bytes.proofs.PartLaws.{length-part}
 use Rattle.h5_bytes.proofs.BlockLaws.{all_append}
@@ -23,10 +23,10 @@ use Rattle.h5_model.specs.Edits.Refusal.{has_zero}
 use Rattle.h5_model.specs.Format.Sizes.{attribute_size}
 use Rattle.h5_model.specs.Tree.Sound.{AreOf}
 use Rattle.h5_model.specs.Tree.Objects.{Attribute}
-use Rattle.h5_model.specs.Format.AttributeBody.{attribute_of, attribute_with, is_attribute, name_in, name_size, datatype_size, dataspace_size, datatype_place, dataspace_place, data_place, values_at}
+use Rattle.h5_model.specs.Format.AttributeBody.{attribute_of, attribute_with, is_attribute, kept_body, name_in, name_start, name_size, datatype_size, dataspace_size, datatype_place, dataspace_place, data_place, values_at}
 use Rattle.h5_model.proofs.StoredValues.{fits_value_at}
 use Rattle.h5_query.proofs.FillLaws.{type_sound}
-use Rattle.h5_repack.specs.Bodies.Sound.{IsPlainAttribute}
+use Rattle.h5_repack.specs.Bodies.Sound.{IsPlainAttribute, IsPlainBody as IsKeptBody}
 use Rattle.h5_edit.specs.Fits.Laws.{AreBytes}
 
 -- a part of bytes
@@ -133,12 +133,34 @@ values_of_type t bytes at is low (k ∷ ks) = (fits_value_at t bytes (at + k * t
 length-range : (body : List ℕ) (at n : ℕ) → length (slice_range body at (at + n)) ≤ n
 length-range body at n = omega (arith, length-take (at + n - at) (drop at body))
 
+-- the name stands behind eight bytes or nine
+name_behind : (body : List ℕ) → 8 ≤ name_start body
+name_behind body = by_test (byte_at body 0 == 3) where
+  by_test : (b : Bool) → 8 ≤ (if b then 9 else 8)
+  by_test true = omega arith
+  by_test false = omega arith
+
+-- version 1 pads its parts
+parts_long : (body : List ℕ) → (byte_at body 0 == 1) ≡ true → 8 + pad8 (name_size body) + pad8 (datatype_size body) + pad8 (dataspace_size body) ≤ data_place body
+parts_long body first =
+    let whole : data_place body ≡ name_start body + pad8 (name_size body) + pad8 (datatype_size body) + pad8 (dataspace_size body)
+    = ap (λ (b : Bool). name_start body + (if b then pad8 (name_size body) else name_size body) + (if b then pad8 (datatype_size body) else datatype_size body)
+    + (if b then pad8 (dataspace_size body) else dataspace_size body)) first in
+    omega (arith, whole, name_behind body)
+
+module _ (body : List ℕ) (short : length body < 65536) (padded : length body % 8 ≡ 0) where
+  -- an attribute of version 1 fits in a message as it is written, one of version 2 or 3 is written as its body
+  by_version : (name : List ℕ) (a : Attribute) (b : Bool) → (byte_at body 0 == 1) ≡ b → ((byte_at body 0 == 1) ≡ true → attribute_size (length name) a.sizes (a.fixed).size ≤ 65528)
+      → attribute_of body ≡ Some (name, a) → IsKeptBody name a (if b then None else Some body)
+  by_version name a true first room said = room first
+  by_version name a false later room said = (said, padded, short)
+
 module _ (body : List ℕ) (low : AreBytes body) (short : length body < 65536) (padded : length body % 8 ≡ 0) (e : List ℕ × Attribute) (few : extent_cells (e.1).sizes ≤ 2 ^ 40) where
-  from_parts : (t : Fixed) (x : Extent) → is_attribute body ≡ true
+  from_parts : (t : Fixed) (x : Extent) → attribute_of body ≡ Some e → is_attribute body ≡ true
       → fixed_of (slice_range body (datatype_place body) (datatype_place body + datatype_size body)) ≡ Some t
       → extent_of (slice_range body (dataspace_place body) (dataspace_place body + dataspace_size body)) ≡ Some x
       → attribute_with body t x ≡ Some e → IsPlainAttribute e
-  from_parts t x form type_is extent_is h =
+  from_parts t x said form type_is extent_is h =
       let p = cond_some (nat_le (data_place body + cells x.sizes * t.size) (length body)) _ e h in
       let named : 1 ≤ length (name_in body) = grind (arith, nat_tests, form) in
       let ended : length (name_in body) < name_size body = grind (arith, nat_tests, form) in
@@ -147,27 +169,29 @@ module _ (body : List ℕ) (low : AreBytes body) (short : length body < 65536) (
       let space_room : 8 + 8 * length x.sizes ≤ dataspace_size body = omega (arith, extent.0, length-range body (dataspace_place body) (dataspace_size body)) in
       let there : data_place body + cells x.sizes * t.size ≤ length body = grind (arith, nat_tests, p.0) in
       let sound : IsFixed t = type_sound _ t type_is in
-      let room : attribute_size (length (name_in body)) x.sizes t.size ≤ 65528 = omega (arith, named, ended, type_room, space_room, there, short, padded) in
-      let plain : extent_cells x.sizes ≤ 2 ^ 40 → IsPlainAttribute (name_in body, record { fixed = t; sizes = x.sizes; values = values_at t body (data_place body) (cells x.sizes) })
+      let a : Attribute = record { fixed = t; sizes = x.sizes; values = values_at t body (data_place body) (cells x.sizes); body = kept_body body } in
+      let room : (byte_at body 0 == 1) ≡ true → attribute_size (length (name_in body)) x.sizes t.size ≤ 65528
+      = λ first. omega (arith, parts_long body first, named, ended, type_room, space_room, there, short, padded) in
+      let plain : extent_cells x.sizes ≤ 2 ^ 40 → IsPlainAttribute (name_in body, a)
       = λ small. record {
         named = named;
-        text = text_before (slice_range body 8 (8 + name_size body));
+        text = text_before (slice_range body (name_start body) (name_start body + name_size body));
         fixed = sound;
         ranked = extent.1;
         counted = length-map-range_with_len (λ k. value_at t body (data_place body + k * t.size)) 0 (cells x.sizes);
         of_type = values_of_type t body (data_place body) sound low (range_with_len 0 (cells x.sizes));
         few = small;
-        room = room;
+        body = by_version body short padded (name_in body) a (byte_at body 0 == 1) refl room (said ∙ ap Some (sym p.1));
       } in
       subst (λ (a : List ℕ × Attribute). extent_cells (a.1).sizes ≤ 2 ^ 40 → IsPlainAttribute a) p.1 plain few
 
   -- an attribute that was read can be written: it is never longer than what was read
   pub plain_attribute : attribute_of body ≡ Some e → IsPlainAttribute e
   unfolding attribute_of
-  plain_attribute h = elim (is_attribute body) as (λ b. is_attribute body ≡ b
+  plain_attribute said = elim (is_attribute body) as (λ b. is_attribute body ≡ b
       → cond b (option_and_then (λ t. option_and_then (attribute_with body t)
       (extent_of (slice_range body (dataspace_place body) (dataspace_place body + dataspace_size body))))
       (fixed_of (slice_range body (datatype_place body) (datatype_place body + datatype_size body)))) None ≡ Some e → IsPlainAttribute e) [
-        | true ↦ λ form is. option_and_then_some _ _ e is (λ t type_is inner. option_and_then_some _ _ e inner (λ x extent_is made. from_parts t x form type_is extent_is made))
+        | true ↦ λ form is. option_and_then_some _ _ e is (λ t type_is inner. option_and_then_some _ _ e inner (λ x extent_is made. from_parts t x said form type_is extent_is made))
         | false ↦ λ form none. absurd (cc)
-      ] refl h
+      ] refl said

@@ -41,7 +41,7 @@ push_object-returns-in_default-2-clause-lines t c =
     let tree = c.args.file.now.tree in
     let number = c.args.number.0 in
     let old = c.args.text.now.items in
-    let none = subst (λ found. MatchOption found (IsNoGroup tree number) (λ links. AreGroupLinks tree number links.items)) c.in_default-2.is c.in_ok-links.ensures in
+    let none = subst (λ found. MatchOption found (IsNoGroup tree number) (λ links. AreGroupLinks tree number links.items)) c.in_default-2.is c.in_ok-links.ensures.found in
     sym (ap (λ (text : List ℕ). old ++ text) (lines_of_nothing tree c.args.depth c.args.path.now.items c.args.name.now number c.in_default.ensures none) ∙ append-nil old)
 
 pub push_object-returns-then-depth-eq0-clause-lines : goal.push_object-returns-then-depth-eq0-clause-lines
@@ -50,7 +50,7 @@ push_object-returns-then-depth-eq0-clause-lines t c =
     let number = c.args.number.0 in
     let old = c.args.text.now.items in
     let name = c.args.name.now in
-    let are = subst (λ found. MatchOption found (IsNoGroup tree number) (λ links. AreGroupLinks tree number links.items)) c.in-Some-2.is c.in_ok-links.ensures in
+    let are = subst (λ found. MatchOption found (IsNoGroup tree number) (λ links. AreGroupLinks tree number links.items)) c.in-Some-2.is c.in_ok-links.ensures.found in
     c.in_ok-push_group_line.ensures
     ∙ ap (λ (p : List ℕ). old ++ line_of (joined_path p name) (codes "group")) c.as_slice.ensures.value
     ∙ ap (λ (text : List ℕ). old ++ text) (lines_of_last tree c.args.depth c.args.path.now.items name number c.in-Some-2.links.items are c.if-depth-eq0.true)
@@ -64,7 +64,7 @@ push_object-returns-clause-lines t c =
     let name = c.args.name.now in
     let line = line_of (joined_path path name) (codes "group") in
     let below = c.push_name.new.path.items in
-    let are = subst (λ found. MatchOption found (IsNoGroup tree number) (λ links. AreGroupLinks tree number links.items)) c.in-Some-2.is c.in_ok-links.ensures in
+    let are = subst (λ found. MatchOption found (IsNoGroup tree number) (λ links. AreGroupLinks tree number links.items)) c.in-Some-2.is c.in_ok-links.ensures.found in
     let deeper : suc (c.args.depth - 1) ≡ c.args.depth = omega (arith, c.if-depth-eq0.false) in
     let joined : below ≡ joined_path path name = c.in_ok-push_name.ensures ∙ sym (append_assoc path (codes "/") (escaped name)) in
     let first : c.push_group_line.new.out.items ≡ old ++ line =

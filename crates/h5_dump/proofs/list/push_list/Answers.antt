@@ -12,7 +12,7 @@ use Rattle.h5_dump.proofs.list.push_list.Goals as goal
 pub returns-in_default : goal.returns-in_default
 returns-in_default c =
     let tree = c.args.file.now.tree in
-    let none = subst (λ found. MatchOption found (IsNoGroup tree 0) (λ links. AreGroupLinks tree 0 links.items)) c.in_default.is c.in_ok-links.ensures in
+    let none = subst (λ found. MatchOption found (IsNoGroup tree 0) (λ links. AreGroupLinks tree 0 links.items)) c.in_default.is c.in_ok-links.ensures.found in
     c.in_ok-push_group_line.ensures ∙ ap (λ (text : List ℕ). c.args.text.now.items ++ text) (list_of_none tree none)
 
 pub returns : goal.returns
@@ -21,7 +21,7 @@ returns c =
     let old = c.args.text.now.items in
     let path = c.new-path.result.items in
     let listed = c.deref.result.now in
-    let are = subst (λ found. MatchOption found (IsNoGroup tree 0) (λ links. AreGroupLinks tree 0 links.items)) c.in-Some.is c.in_ok-links.ensures in
+    let are = subst (λ found. MatchOption found (IsNoGroup tree 0) (λ links. AreGroupLinks tree 0 links.items)) c.in-Some.is c.in_ok-links.ensures.found in
     subst (λ (text : List ℕ). Appends c.push_links.result old c.push_links.new.text.items text)
     (list_of_links tree 63 path c.in-Some.links.items listed are refl c.new-path.ensures.items c.deref.ensures.value)
     (appends_more c.push_links.result old (codes "/ group\n") c.push_group_line.new.out.items c.push_links.new.text.items

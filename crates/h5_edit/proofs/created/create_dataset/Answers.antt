@@ -1,9 +1,10 @@
-use Rattle.std.proofs.Common.{◌+◌, ap, arith, inl, refl, rules}
+use Rattle.std.proofs.Common.{◌+◌, ◌∙◌, ap, arith, inl, length, refl, rules}
 use Rattle.std.specs.Int.{w128}
 use Rattle.std.proofs.lemmas.Int.{to_z-of_z}
 use Rattle.std.proofs.lemmas.Result.{err_from_is_err_and}
 use Rattle.h5_model.specs.Edits.Applied.{new_dataset, new_object}
 use Rattle.h5_model.specs.Edits.Bounds.{contiguous_data, new_header}
+use Rattle.h5_model.specs.Format.Superblock.{chunk_k}
 use Rattle.h5_model.specs.Tree.Objects.{Array}
 use Rattle.h5_model.specs.declared.edits.Edit.TheVariants.{CreateDataset}
 use Rattle.h5_query.specs.ContentBytesType.TheVariants as bytes
@@ -33,8 +34,23 @@ array_header_length-header-requires-clause-fits c =
     array_room c.args.opened.now c.in_ok-place.ensures.placed c.size-size.ensures.one_of c.in_ok-place.ensures.typed c.array_from-array.result c.array_from-array.ensures c.new-others.result
     c.new-others.ensures
 
-pub data_length-data-requires : goal.data_length-data-requires
-data_length-data-requires c =
+pub chunk_k-chunk-requires : goal.chunk_k-chunk-requires
+chunk_k-chunk-requires c =
+    let whole = c.image.ensures.sound.reads.holds.superblock.whole in
+    omega (arith, whole, ap length (c.bytes.ensures ∙ c.image.ensures.bytes))
+
+pub data_length-data-requires-clause-some : goal.data_length-data-requires-clause-some
+data_length-data-requires-clause-some c =
+    let low = c.image.ensures.sound.reads.holds.superblock.chunk_low in
+    omega (arith, low, c.chunk_k-chunk.ensures ∙ ap chunk_k (c.bytes.ensures ∙ c.image.ensures.bytes))
+
+pub data_length-data-requires-clause-most : goal.data_length-data-requires-clause-most
+data_length-data-requires-clause-most c =
+    let high = c.image.ensures.sound.reads.holds.superblock.chunk_high in
+    omega (arith, high, c.chunk_k-chunk.ensures ∙ ap chunk_k (c.bytes.ensures ∙ c.image.ensures.bytes))
+
+pub data_length-data-requires-clause-array : goal.data_length-data-requires-clause-array
+data_length-data-requires-clause-array c =
     array_ready c.args.opened.now c.in_ok-place.ensures.placed c.size-size.ensures.one_of c.in_ok-place.ensures.typed c.array_from-array.result c.array_from-array.ensures c.new-others.result
     c.new-others.ensures
 

@@ -26,4 +26,4 @@ pub returns-in-Some : goal.returns-in-Some
 returns-in-Some c =
     let wrote = c.write_standing.ensures in
     standing_written c.in_ok-target.ensures.at c.in-Some.cells c.in-Some.is c.check_write.ensures.sound c.write_standing.new.self
-    (rw c.in-Some.is at wrote.changed) wrote.leaf wrote.internal wrote.sound wrote.whole (rw c.in-Some.is at wrote.in_place) wrote.stored _ refl refl
+    (rw c.in-Some.is at wrote.changed) wrote.k wrote.sound wrote.whole (rw c.in-Some.is at wrote.in_place) wrote.stored _ refl refl

@@ -1,4 +1,4 @@
-use Rattle.std.proofs.Common.{◌+◌, length, drop, take, refl, sym, ap, ◌∙◌, arith}
+use Rattle.std.proofs.Common.{◌+◌, length, drop, take, sym, ap, ◌∙◌, arith}
 use Rattle.h5_edit.proofs.WrittenRuns.{all_written, drop_twice, length_rest, none_first, one_more, room, run_stored}
 use Rattle.h5_edit.proofs.written.write_runs.Goals as goal
 
@@ -35,7 +35,7 @@ loop-run-preserved c =
       are = so.are;
       from = so.from + c.in-Some.run'.length;
       first = one_more c.args.opened.now c.args.number c.args.runs c.args.values.now so.d so.are so.from c.loop-run.run-iterator _ c.in-Some.run' c.loop-run.opened so.first c.in-Some.ensures.steps
-          _ (c.split_at-first.ensures.front ∙ ap (take c.in-Some.run'.length) so.rest) c.write_cells.new.self wrote.changed wrote.leaf wrote.internal wrote.sound wrote.whole wrote.in_place wrote.stored;
+          _ (c.split_at-first.ensures.front ∙ ap (take c.in-Some.run'.length) so.rest) c.write_cells.new.self wrote.changed wrote.k wrote.sound wrote.whole wrote.in_place wrote.stored;
       rest = c.split_at-first.ensures.back ∙ ap (drop c.in-Some.run'.length) so.rest ∙ sym (drop_twice c.args.values.now so.from c.in-Some.run'.length);
     }
 

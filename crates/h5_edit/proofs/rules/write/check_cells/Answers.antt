@@ -1,11 +1,10 @@
-use Rattle.std.proofs.Common.{rules, ◌≡◌, ◌==◌, ◌∙◌, ◌≤◌, ◌<◌, ◌^◌, ℕ, Bool, true, false, None, Some, length, not, ◌++◌, refl, sym, ap, subst, arith}
+use Rattle.std.proofs.Common.{rules, ◌≡◌, ◌==◌, ◌∙◌, ◌≤◌, true, false, None, length, not, ◌++◌, refl, sym, ap, subst, arith}
 use Rattle.std.specs.List.{list_all}
 use Rattle.std.proofs.lemmas.Bool.Decides.{nat_tests}
 use Rattle.h5_model.specs.Format.Fixed.{Fixed, fits}
 use Rattle.h5_model.specs.Tree.Places.{cells}
 use Rattle.h5_model.specs.Views.Selection.{axes_of, selected_cells}
 use Rattle.h5_model.specs.Edits.Refusal.{first_holding}
-use Rattle.h5_model.proofs.RefusalLaws.{first_holding-none}
 use Rattle.h5_shape.proofs.Products.{cells_le}
 use Rattle.h5_query.proofs.RuleLaws.{first-behind}
 use Rattle.h5_query.specs.Selected.{hyper_rules}
