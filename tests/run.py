@@ -18,6 +18,7 @@ FOLDERS = ("end_to_end", "repository")
 LONGEST = tuple(f"end_to_end.test_{name}" for name in (
     "fuzz_minute", "hostile_images", "refused_memory", "misuse", "calls", "groups_in_place", "links_in_place", "chunks_in_place", "whole_groups",
     "slabs", "write_scripts", "view_scripts", "group_scripts", "array_scripts", "repack", "odd_layouts", "changed_layouts", "walk", "random_scripts", "changed_plain_images", "array_forms", "corpus",
+    "superblock_1", "message_versions",
     "attributes", "groups"))
 COUNTS = re.compile(r"(\d+) passed, (\d+) failed")
 # Stands before the name of the module that a process runs by itself.

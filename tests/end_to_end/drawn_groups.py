@@ -1,7 +1,8 @@
 """Root groups as any writer may lay them out, drawn at random, with edits of their links; and where such a group stands in an image."""
 
 from . import today
-from .drawn_images import linked_image
+from .drawn_images import linked_image, superblock
+from .support import end_field, end_of_file
 
 # pylint: disable=wrong-import-order
 from h5oracle.foreign import Foreign, write_foreign  # noqa: E402
@@ -103,7 +104,8 @@ class RootGroup:
 
 def with_end(image):
     """The image whose end of file field says its length, which is not the group's to write."""
-    return image[:40] + le(len(image), 8) + image[48:]
+    field = end_field(image)
+    return image[:field.start] + le(len(image), 8) + image[field.stop:]
 
 
 def link_name(rng):
@@ -142,16 +144,16 @@ def group_tree(rng, most):
 
 def group_image(rng, leaf, internal, most, wild):
     """An image of such a tree, in a layout drawn at random: a plain one where `wild` is 0."""
-    image = write_foreign(group_tree(rng, most), rng, Superblock(0, leaf, internal, 32, 0, 0), wild=wild, late=False)
+    image = write_foreign(group_tree(rng, most), rng, superblock(rng, leaf, internal), wild=wild)
     # Bytes behind the end of file are no part of the image.
-    return image[:number_at(image, 40, 8)]
+    return image[:end_of_file(image)]
 
 
 def drawn_group(rng):
     """An image of a root group with links of its own or among all kinds of objects; its keys name any text that they may."""
     if rng.random() < 0.2:
         image = linked_image(rng)
-        image = image[:number_at(image, 40, 8)]
+        image = image[:end_of_file(image)]
     else:
         image = group_image(rng, *rng.choice(KS), 40, rng.choice([0.2, 0.6, 1.0]))
     return loosened(image, rng, rng.choice([0, 0.3, 0.9]))
@@ -195,8 +197,8 @@ def sparse_group(rng):
     tree = Tree.root_alone()
     for _ in range(rng.randrange(2, 12)):
         tree.objects[0].links[link_name(rng)] = ("soft", link_text(rng))
-    image = SparseLeaves(tree, Superblock(0, 1, 1, 32, 0, 0), rng, wild=0.2, late=False).write()
-    return loosened(image[:number_at(image, 40, 8)], rng, 0.9)
+    image = SparseLeaves(tree, Superblock(0, 1, 1, 32, 0, 0), rng, wild=0.2).write()
+    return loosened(image[:end_of_file(image)], rng, 0.9)
 
 
 class FullWay(Foreign):
@@ -214,7 +216,7 @@ def full_way(rng):
     tree = Tree.root_alone()
     for letter in range(ord("a"), ord("a") + 18):
         tree.objects[0].links[bytes([letter])] = ("soft", b"of " + bytes([letter]))
-    return FullWay(tree, Superblock(0, 1, 1, 32, 0, 0), rng, wild=0, late=False).write()
+    return FullWay(tree, Superblock(0, 1, 1, 32, 0, 0), rng, wild=0).write()
 
 
 class Edits:

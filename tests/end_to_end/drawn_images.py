@@ -4,7 +4,7 @@ import argparse
 import functools
 import os
 from concurrent.futures import ThreadPoolExecutor
-from itertools import islice
+from dataclasses import replace
 
 from . import today
 from .drawn_arrays import any_array, values
@@ -13,7 +13,7 @@ from .support import InFolder, h5i
 # pylint: disable=wrong-import-order
 from h5oracle.foreign import write_foreign  # noqa: E402
 from h5oracle.model import Attr, Group, Tree  # noqa: E402
-from h5oracle.plain import le, write_plain  # noqa: E402
+from h5oracle.plain import dataspace_body, datatype_body, le, write_plain  # noqa: E402
 from h5oracle.reader import Superblock, open_image  # noqa: E402
 from h5oracle.values import TYPES  # noqa: E402
 import mutate  # noqa: E402
@@ -26,6 +26,23 @@ IMAGES = int(os.environ.get("IMAGES", "500"))
 MOST_CELLS = 4096
 # So many paths of one image are dumped.
 DUMPS = 6
+# K values of chunk trees. A node has room for twice as many chunks.
+CHUNK_KS = [1, 1, 2, 3, 32, 40]
+
+
+def superblock(rng, leaf, internal):
+    """A superblock of either version with these K values of groups. One of version 1 has a K of chunk trees, often a small one."""
+    version = rng.randrange(2)
+    return Superblock(version, leaf, internal, rng.choice(CHUNK_KS) if version else 32, 0, 0)
+
+
+def kept_body(attribute, rng):
+    """A body of version 2 or 3 of an attribute, as its message has it: padded, with bytes that are not looked at."""
+    version, name, space = rng.choice([2, 3]), attribute.name + b"\0", dataspace_body(attribute.dims)
+    parts = [name, datatype_body(attribute.fixed), space]
+    body = bytes([version, 0]) + b"".join(le(len(part), 2) for part in parts) + rng.randbytes(version - 2) + b"".join(parts)
+    body += b"".join(map(attribute.fixed.encode, attribute.values))
+    return body + rng.randbytes(-len(body) % 8)
 
 
 def add_messages(thing, rng):
@@ -36,7 +53,8 @@ def add_messages(thing, rng):
         count = 1
         for size in dims:
             count *= size
-        thing.attrs[name] = Attr(name, fixed, dims, values(rng, fixed, count))
+        made = Attr(name, fixed, dims, values(rng, fixed, count))
+        thing.attrs[name] = replace(made, raw=kept_body(made, rng)) if rng.random() < 0.3 else made
     for _ in range(rng.choice([0, 0, 1, 2])):
         thing.kept.append((rng.choice([0x0D, 0x0E, 0x12]), rng.randbytes(8 * rng.randrange(3))))
 
@@ -49,11 +67,10 @@ def small_image(rng):
         tree.objects[1], tree.counts[1] = any_array(rng), 1
         tree.objects[0].links[rng.choice([b"d", b"..", b"n" * 90, b"\xff"])] = ("object", 1)
         add_messages(tree.objects[1], rng)
-    leaf, internal = rng.choice([(4, 16), (4, 16), (1, 1), (2, 3)])
-    superblock = Superblock(0, leaf, internal, 32, 0, 0)
+    sup = superblock(rng, *rng.choice([(4, 16), (4, 16), (1, 1), (2, 3)]))
     if rng.random() < 0.5:
-        return write_plain(tree, superblock)
-    return write_foreign(tree, rng, superblock, wild=rng.random(), late=False)
+        return write_plain(tree, sup)
+    return write_foreign(tree, rng, sup, wild=rng.random())
 
 
 def link_name(rng):
@@ -90,21 +107,15 @@ def linked_tree(rng):
 
 def linked_image(rng):
     """An image of such a tree, in a layout drawn at random."""
-    leaf, internal = rng.choice([(4, 16), (4, 16), (1, 1), (1, 2), (2, 3)])
-    superblock = Superblock(0, leaf, internal, 32, 0, 0)
+    sup = superblock(rng, *rng.choice([(4, 16), (4, 16), (1, 1), (1, 2), (2, 3)]))
     if rng.random() < 0.2:
-        return write_plain(linked_tree(rng), superblock)
-    return write_foreign(linked_tree(rng), rng, superblock, wild=rng.random(), late=False)
+        return write_plain(linked_tree(rng), sup)
+    return write_foreign(linked_tree(rng), rng, sup, wild=rng.random())
 
 
 def images_of_mutate(foreign=False, valid=False):
-    """The first images that mutate.py makes by these words, each with its name.
-
-    Those with a later superblock, which all would be refused for it alone, are left out.
-    """
-    words = argparse.Namespace(seed=1, count=10 * IMAGES, base=None, foreign=foreign, valid=valid, crafted=False)
-    made = ((name, image) for name, image in mutate.images(words) if image[8:9] != b"\1")
-    return islice(made, IMAGES)
+    """The first images that mutate.py makes by these words, each with its name."""
+    return mutate.images(argparse.Namespace(seed=1, count=IMAGES, base=None, foreign=foreign, valid=valid, crafted=False))
 
 
 def paths_of(tree, number=0, path=b""):

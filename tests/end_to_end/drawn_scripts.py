@@ -7,12 +7,12 @@ from functools import partial
 
 from . import today
 from .drawn_groups import LETTERS, link_text
-from .drawn_images import linked_image
+from .drawn_images import CHUNK_KS, linked_image
 from .stored_cells import with_cells
-from .support import InFolder, empty_image, h5i
+from .support import InFolder, empty_image, empty_image_1, h5i
 
 # pylint: disable=wrong-import-order
-from h5oracle.model import Dataset, Tree, Write, new_boxes, object_at, refusal, same_tree  # noqa: E402
+from h5oracle.model import Dataset, Tree, Write, new_boxes, object_at, refusal  # noqa: E402
 from h5oracle.script import BadLine, edit_of, escape, path_text  # noqa: E402
 from h5oracle.values import TYPES, product  # noqa: E402
 from randscript import Maker  # noqa: E402
@@ -59,6 +59,11 @@ class Drawn:
     def stores(self):
         """How the cells of the arrays are stored, and of how many dimensions they are."""
         return {(thing.store, len(thing.dims)) for thing in self.tree.objects.values() if isinstance(thing, Dataset)}
+
+
+def new_image(rng):
+    """The image of an empty file: as it is made, or with a superblock of version 1."""
+    return empty_image() if rng.random() < 0.5 else empty_image_1(rng.choice(CHUNK_KS))
 
 
 class LineMaker(Maker):
@@ -158,11 +163,11 @@ class LineMaker(Maker):
 
 
 def drawn(seed, name, kinds, lines, others=False):
-    """A script of so many lines of these kinds. Every other image is the empty file, or none where `others` is true. The rest have a
+    """A script of so many lines of these kinds. Every other image is an empty file, or none where `others` is true. The rest have a
     layout drawn at random.
     """
     rng = random.Random(f"{name} {seed}")
-    return drawn_on(linked_image(rng) if seed % 2 or others else empty_image(), rng, kinds, lines)
+    return drawn_on(linked_image(rng) if seed % 2 or others else new_image(rng), rng, kinds, lines)
 
 
 def drawn_on(image, rng, kinds, lines):
@@ -185,7 +190,7 @@ class DrawnScripts(InFolder):
         self.assertTrue(one.after in (None, after))
         reading, refusal = today.opened(after)
         self.assertIsNone(refusal)
-        self.assertIsNone(same_tree(reading.tree, one.tree))
+        self.assertIsNone(today.same_tree(reading.tree, one.tree))
         self.assertEqual(h5i("ls", path), (0, today.listing(one.tree), b""))
 
     def assert_all_right(self, seeds, *words, **options):

@@ -39,7 +39,7 @@ def relaid(image, rng):
         return image
     if rng.random() < 0.3:
         return write_plain(reading.tree, reading.superblock)
-    return write_foreign(reading.tree, rng, random_superblock(rng, late=False), wild=rng.random(), late=False)
+    return write_foreign(reading.tree, rng, random_superblock(rng), wild=rng.random())
 
 
 def drawn_image(seed, rng, images):

@@ -9,9 +9,6 @@ from . import today
 from .libh5i import CAUSES, Library, given
 from .support import run_command
 
-# pylint: disable=wrong-import-order
-from h5oracle.model import same_tree  # noqa: E402
-
 SOURCE = os.path.join(os.path.dirname(os.path.abspath(__file__)), "refusing.c")
 FLAGS = ("-shared", "-fPIC", "-O2", "-Wall", "-Wextra", "-Werror")
 # The status of a call that is refused for memory; those of views' faults begin behind this one.
@@ -90,7 +87,7 @@ class Wanted:
     def unlike_without(self, left_out, image):
         """What is wrong with an image as the one behind these lines."""
         reading, refusal = today.opened(image)
-        return refusal or same_tree(reading.tree, self.without(left_out)[1].tree)
+        return refusal or today.same_tree(reading.tree, self.without(left_out)[1].tree)
 
 
 def numbers(session):

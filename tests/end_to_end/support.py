@@ -24,15 +24,52 @@ EMPTY_FIELDS = {
     680: "484541500000000058000000000000000800000000000000c802000000000000",
     720: "01000000000000005000000000000000",
 }
+# The same with a superblock of version 1, whose bytes 24 to 27 are the K of chunk trees and two that are reserved: all that follows stands 4
+# bytes further.
+EMPTY_FIELDS_1 = {
+    0: "894844460d0a1a0a01000000000808000400100000000000",
+    24: "20000000",
+    36: "ffffffffffffffff2403000000000000ffffffffffffffff",
+    68: "640000000000000001000000000000008c00000000000000ac02000000000000",
+    100: "0100010001000000180000000000000011001000000000008c00000000000000ac02000000000000",
+    140: "5452454500000000ffffffffffffffffffffffffffffffff",
+    684: "484541500000000058000000000000000800000000000000cc02000000000000",
+    724: "01000000000000005000000000000000",
+}
+
+
+def image_of_fields(length, fields):
+    """So many bytes, which are 0 but for these fields."""
+    image = bytearray(length)
+    for place, digits in fields.items():
+        field = bytes.fromhex(digits)
+        image[place:place + len(field)] = field
+    return bytes(image)
 
 
 def empty_image():
     """The 800 bytes of a file with an empty root group."""
-    image = bytearray(800)
-    for place, digits in EMPTY_FIELDS.items():
-        field = bytes.fromhex(digits)
-        image[place:place + len(field)] = field
-    return bytes(image)
+    return image_of_fields(800, EMPTY_FIELDS)
+
+
+def empty_image_1(chunk_k=32):
+    """The 804 bytes of such a file whose superblock is of version 1 and has this K of chunk trees."""
+    return patched(image_of_fields(804, EMPTY_FIELDS_1), 24, chunk_k.to_bytes(2, "little").hex())
+
+
+def superblock_length(image):
+    """How many bytes the superblock of an image has."""
+    return 100 if image[8] == 1 else 96
+
+
+def end_field(image):
+    """Where the end of file address of an image stands."""
+    return slice(44, 52) if image[8] == 1 else slice(40, 48)
+
+
+def end_of_file(image):
+    """The end of file address of an image."""
+    return int.from_bytes(image[end_field(image)], "little")
 
 
 def patched(image, place, digits):
@@ -52,9 +89,8 @@ def h5i(*words, **options):
     return run_command(PROGRAM, *words, **options)
 
 
-# The reference as the program is: all lines of scripts are taken, all edits are made in place, an unlink takes a whole group, views are
-# lent or patched, and the later forms are not read.
-STAGE = "10+11+14"
+# The reference as the program is: with all that it can do.
+STAGE = "15"
 
 
 def reference(*words, **options):

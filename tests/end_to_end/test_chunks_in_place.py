@@ -7,12 +7,12 @@ import random
 
 from . import today
 from .drawn_images import linked_image
-from .drawn_scripts import CHUNKS
+from .drawn_scripts import CHUNKS, new_image
 from .kept_session import Judge, image_behind, steps
 from .stored_cells import LAYOUT, messages
 from .support import InFolder, empty_image, h5i, library, patched
 from .test_array_forms import slots
-from .test_links_in_place import DEEPEST, IMAGE_FULL, LIMIT, TOO_DEEP, Judged, Sessions, new_image
+from .test_links_in_place import DEEPEST, IMAGE_FULL, LIMIT, TOO_DEEP, Judged, Sessions
 from .test_repack import EDIT
 from .test_scripts import unwritten
 from .transcripts import Transcripts

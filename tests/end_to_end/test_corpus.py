@@ -10,11 +10,11 @@ from .support import TOP, InFolder, h5i
 DATA = os.path.join(TOP, "tests", "data")
 # So many paths of one file are dumped; all arrays are.
 DUMPS = 40
-REFUSED = """array_type attribute_utf8 committed committed_used compound creation_order dense_attributes enum_bool external_file external_link
-    family_driver fletcher float_dataset group_cycle gzip k_chunk latest latest_later narrow_precision netcdf4 not_hdf5 null_space paged
+REFUSED = """array_type committed committed_used compound creation_order dense_attributes enum_bool external_file external_link
+    family_driver fletcher float_dataset group_cycle gzip latest latest_later narrow_precision netcdf4 not_hdf5 null_space paged
     reference_count references sizes4 string_attribute three_bytes too_many_cells unicode_name user_block virtual""".split()
 # So many dumps are of an array whose values the library tells, and so many of others, whose values that are not stored it does not tell.
-TOLD, UNTOLD = 385, 1
+TOLD, UNTOLD = 388, 1
 
 
 def described(name):
@@ -26,7 +26,7 @@ def described(name):
 def causes():
     """By file, `accepted` or the fault of the reader that was written from the tables alone."""
     with open(os.path.join(DATA, "causes.json"), encoding="ascii") as file:
-        return {name: verdicts["without_later_forms"] for name, verdicts in json.load(file).items()}
+        return {name: verdicts["with_later_forms"] for name, verdicts in json.load(file).items()}
 
 
 def type_text(of):

@@ -10,7 +10,7 @@ from concurrent.futures import ThreadPoolExecutor
 from itertools import combinations
 
 from . import today
-from .support import InFolder, empty_image, h5i, patched
+from .support import InFolder, empty_image, empty_image_1, h5i, patched
 
 # pylint: disable=wrong-import-order
 from h5oracle.model import Attr, Dataset, Flat, Group, Tree  # noqa: E402
@@ -70,6 +70,20 @@ def two_arrays():
     return image_of({"d": noted(array(), a=(0, 1), b=(1,), c=(1,)), "e": array()})
 
 
+def body_of_version(version, name):
+    """The body of an attribute of this version, 2 or 3, of one byte."""
+    body = bytes([version, 0]) + bytes.fromhex("02000c001000" + "00" * (version - 2)) + name + b"\0"
+    return (body + bytes.fromhex("100000000100000000000800" + "01010000000000000100000000000000" + "01")).ljust(40, b"\0")
+
+
+def versions():
+    """/d with a fill value of version 3, an attribute of version 2 and two of version 3."""
+    made = array()
+    for name, version in ((b"a", 2), (b"b", 3), (b"c", 3)):
+        made.attrs[name] = Attr(name, TYPES["u8"], (1,), (1,), body_of_version(version, name))
+    return patched(image_of({"d": made}), 1200, "032a08000000" + "00" * 10)
+
+
 def turned(image):
     """The image of two arrays whose first header has its messages the other way round."""
     places = (1144, 1168, 1192, 1216, 1248, 1312, 1376, 1440)
@@ -80,6 +94,8 @@ def turned(image):
 # By name an image, and its length, which shows that its blocks stand where the changes below expect them.
 IMAGES = {
     "empty": (empty_image, 800),
+    # With a superblock of version 1: root at 100, tree 140, heap 684, segment 716.
+    "empty 1": (empty_image_1, 804),
     # Root at 96, tree 136, heap 680, segment 712, symbol node 800. Header of /d at 1128: dataspace 1144, datatype 1168, fill 1192, layout 1216,
     # attributes 1248, 1312, 1376; data 1440. Header of /e at 1448, data 1568.
     "arrays": (two_arrays, 1576),
@@ -102,6 +118,9 @@ IMAGES = {
     # A group has 1032 bytes. The symbol node of the link with 65 names on its way stands at 66848, the group that it leads to at 67176.
     "deep": (lambda: groups_deep(65), 67880),
     "cut": (lambda: empty_image()[:95], 95),
+    "cut 1": (lambda: empty_image_1()[:99], 99),
+    # Header of /d at 1128: fill value of version 3 at 1192, layout 1216, attributes of version 2 at 1248 and of version 3 at 1296 and 1344; data 1392.
+    "versions": (versions, 1400),
     # The array's header stands at 3355600, behind the names.
     "65536 names": (lambda: linked(65536), 3355723),
 }
@@ -139,6 +158,38 @@ ALONG_THE_WALK = {
         "key": ("24 HeapName at 680", (160, "04")),
         "reference count": ("30 LinkCount at 96", (100, "02")),
     },
+    "empty 1": {
+        "signature": ("1 NotHdf5 at 0", (0, "88")),
+        "version of the superblock": ("3 SuperblockVersion at 8", (8, "02")),
+        "version of free space": ("3 SuperblockVersion at 9", (9, "01")),
+        "version of the root entry": ("3 SuperblockVersion at 10", (10, "01")),
+        "version of shared headers": ("3 SuperblockVersion at 12", (12, "01")),
+        "bytes of an offset": ("4 FieldSizes at 13", (13, "04")),
+        "bytes of a length": ("4 FieldSizes at 14", (14, "04")),
+        "base address": ("5 BaseAddress at 28", (28, "01")),
+        "driver": ("6 Driver at 52", (52, "00")),
+        "leaf K": ("7 KRange at 16", (16, "0000")),
+        "internal K": ("7 KRange at 18", (18, "0080")),
+        "chunk K": ("7 KRange at 24", (24, "0000")),
+        "end of file past the limit": ("34 TooLarge at 44", (50, "01")),
+        "end of file past the bytes": ("2 Truncated at 44", (44, "2503")),
+        "header's version": ("8 HeaderVersion at 100", (100, "02")),
+        "first block past the end": ("2 Truncated at 100", (108, "ffff")),
+        "message's size": ("9 MessageSize at 100", (118, "0f")),
+        "heap past the end": ("2 Truncated at 796", (132, "1c03")),
+        "heap's signature": ("23 HeapForm at 684", (684, "49")),
+        "root node past the end": ("2 Truncated at 788", (124, "1403")),
+        "node's signature": ("25 NodeForm at 140", (140, "00")),
+        "reference count": ("30 LinkCount at 100", (104, "02")),
+    },
+    "versions": {
+        "shared flag of the last message": ("11 SharedMessage at 1128", (1348, "02")),
+        "two attributes of one name": ("17 DuplicateMessage at 1128", (1361, "61")),
+        "datatype": ("19 DatatypeForm at 1128", (1176, "11")),
+        "fill": ("20 FillForm at 1128", (1201, "30")),
+        "layout": ("21 LayoutForm at 1128", (1224, "04")),
+        "flags of the second attribute": ("22 AttributeForm at 1128", (1305, "01")),
+    },
     "arrays": {
         "header's prefix past the end": ("2 Truncated at 1568", (816, "2006")),
         "header's version": ("8 HeaderVersion at 1128", (1128, "02")),
@@ -157,7 +208,7 @@ ALONG_THE_WALK = {
         "dataspace": ("18 DataspaceForm at 1128", (1152, "02")),
         "cells": ("34 TooLarge at 1128", (1160, MANY)),
         "datatype": ("19 DatatypeForm at 1128", (1176, "11")),
-        "fill": ("20 FillForm at 1128", (1200, "03")),
+        "fill": ("20 FillForm at 1128", (1200, "04")),
         "layout": ("21 LayoutForm at 1128", (1224, "04")),
         "second attribute": ("22 AttributeForm at 1128", (1320, "04")),
         "data past the end": ("2 Truncated at 1572", (1226, "2406")),
@@ -170,7 +221,7 @@ ALONG_THE_WALK = {
     "turned": {
         "dataspace": ("18 DataspaceForm at 1128", (1424, "02")),
         "datatype": ("19 DatatypeForm at 1128", (1400, "11")),
-        "fill": ("20 FillForm at 1128", (1376, "03")),
+        "fill": ("20 FillForm at 1128", (1376, "04")),
         "layout": ("21 LayoutForm at 1128", (1344, "04")),
         "attribute that stands first": ("22 AttributeForm at 1128", (1152, "04")),
         "cells of the attribute that stands last": ("34 TooLarge at 1128", (1328, MANY)),
@@ -279,6 +330,9 @@ ALONG_THE_WALK = {
 AT_ONE_PLACE = {
     "fewer bytes than a signature and a superblock": ("cut", "1 NotHdf5 at 0", (0, "88")),  # Truncated
     "fewer bytes than a superblock of another version": ("cut", "2 Truncated at 0", (8, "02")),  # SuperblockVersion
+    "fewer bytes than a superblock of version 1": ("cut 1", "2 Truncated at 0", (9, "01")),  # SuperblockVersion
+    "the same without a signature": ("cut 1", "1 NotHdf5 at 0", (0, "88")),  # Truncated
+    "attribute of version 3 with flags, which give it no name": ("versions", "22 AttributeForm at 1128", (1305, "01"), (1313, "61")),  # DuplicateMessage
     "header's prefix past the end, of another version": ("empty", "2 Truncated at 792", (64, "1803")),  # HeaderVersion
     "header on a symbol node, without messages": ("arrays", "32 Overlap at 804", (816, "2403")),  # MessageCount
     "a datatype for the dataspace": ("arrays", "16 MissingMessage at 1128", (1144, "03")),  # DuplicateMessage

@@ -7,7 +7,7 @@ import re
 
 from .drawn_groups import Edits, RootGroup, drawn_group, full_way, group_image, loosened, sparse_group, with_end
 from .drawn_images import IMAGES
-from .support import TOP
+from .support import TOP, end_field
 from .tried import Tried
 
 # pylint: disable=wrong-import-order
@@ -154,7 +154,7 @@ class Judge:
         self.test.assertTrue(self.changed or (int(length), runs) == (len(self.now.image), []), "a refusal changed the image")
         self.changed = False
         before, image = self.now, bytearray(self.now.image.ljust(int(length), b"\0"))
-        image[40:48] = self.first[40:48]
+        image[end_field(self.first)] = self.first[end_field(self.first)]
         for run in runs:
             at, digits = run.split(":")
             image[int(at):int(at) + len(digits) // 2] = bytes.fromhex(digits)

@@ -14,13 +14,16 @@ from . import today
 from .fuzzing import differ
 from .libh5i import Library
 from .packed import Packed
-from .support import InFolder, empty_image, h5i, patched
+from .support import InFolder, empty_image, empty_image_1, end_field, h5i, patched, superblock_length
 from .test_array_forms import edges_image
+from .test_first_fault import body_of_version, noted
 from .test_links_in_place import KS, Judged, loose_root
 
 # pylint: disable=wrong-import-order
-from h5oracle.plain import le  # noqa: E402
-from mutate import groups_deep  # noqa: E402
+from h5oracle.model import Attr  # noqa: E402
+from h5oracle.plain import le, write_plain  # noqa: E402
+from h5oracle.values import TYPES  # noqa: E402
+from mutate import chunked, groups_deep  # noqa: E402
 
 # So many processes, each of which ends where what is wanted of one place takes longer.
 AT_ONCE, SECONDS = 2, 120
@@ -28,6 +31,8 @@ AT_ONCE, SECONDS = 2, 120
 SEED = f"hostile {date.today()}"
 NOT_HDF5, TRUNCATED = 1, 2
 ARRAY = b"dataset /d i32le 3 contiguous\nwrite /d 0 1 3 1 1,-1,2147483647\n"
+# Where the header of /d of `image_1` stands, the size in it, its fill value, its first node, and its first chunk.
+HEADER_1, SIZE_1, FILL_1, NODES_1, CHUNKS_1 = 1132, 1164, 1212, 1420, 1756
 # The lines that make each image, its length, and of each change to it, places and bytes, the rule that is broken and where.
 NAMED = {
     "empty": (b"", 800, {
@@ -52,6 +57,18 @@ NAMED = {
     "two names of an array": (ARRAY + b"link /d /e\n", 1260, {((1132, "01"),): "30 LinkCount at 1128"}),
     "two groups": (b"group /g\ngroup /h\n", 2536, {((856, "6804"),): "31 GroupLinkedTwice at 1128"}),
 }
+
+
+@functools.cache
+def image_1():
+    """An image with a superblock of version 1 and two chunks to a node: `/d` of three chunks, with a fill value of version 3 and an attribute of
+    each version.
+    """
+    reading, _ = today.opened(chunked(3, chunk_k=1, version=1))
+    for name, version in ((b"a", 2), (b"b", 3)):
+        reading.tree.objects[1].attrs[name] = Attr(name, TYPES["u8"], (1,), (1,), body_of_version(version, name))
+    noted(reading.tree.objects[1], c=(1,))
+    return patched(write_plain(reading.tree, reading.superblock), FILL_1, "032a010000000900".ljust(32, "0"))
 
 
 def told(session, more=b""):
@@ -127,7 +144,7 @@ def with_each_value(path, image, place):
 
 def cut_along(path, image, length):
     """What is wrong with the image cut at a length, where its end of file address says so too; and whether it opens."""
-    cut = patched(image[:length], 40, le(length, 8).hex())[:length]
+    cut = patched(image[:length], end_field(image).start, le(length, 8).hex())[:length]
     found, unlike = opener(path).judged(cut)
     unlike = unlike or differ("opened", found, by_the_reference(cut))
     return {length: unlike} if unlike else {}, Counter(["opened" if isinstance(found, bytes) else "refused"])
@@ -174,17 +191,29 @@ class Hostile(Packed):
         """An image that is cut is no file: what there is of it ends before its end of file address."""
         library = Library(self.library)
         for length in range(len(image)):
-            cause, place = (NOT_HDF5, 0) if length < 8 else (TRUNCATED, 0 if length < 96 else 40)
+            cause, place = (NOT_HDF5, 0) if length < 8 else (TRUNCATED, 0 if length < superblock_length(image) else end_field(image).start)
             self.assertEqual(library.opened(image[:length]), (None, (cause, place)), length)
 
     def test_each_cut(self):
-        self.assert_cuts(empty_image())
-        self.assert_cuts(edges_image())
+        for image in (empty_image(), edges_image(), empty_image_1(), image_1()):
+            self.assert_cuts(image)
 
     def test_each_cut_with_the_end_of_file_address(self):
-        counts = self.all_of(cut_along, edges_image(), range(len(edges_image()) + 1))
-        # The whole file alone opens: its last chunk ends where it ends.
-        self.assertEqual(counts, {"opened": 1, "refused": len(edges_image())})
+        for image in (edges_image(), image_1()):
+            counts = self.all_of(cut_along, image, range(len(image) + 1))
+            # The whole file alone opens: its last chunk ends where it ends.
+            self.assertEqual(counts, {"opened": 1, "refused": len(image)})
+
+    def test_each_byte_where_versions_differ(self):
+        """Of a superblock of version 1, of the header of an array, and of nodes with two chunks."""
+        image = image_1()
+        self.assertEqual((len(image), image[SIZE_1:SIZE_1 + 8], image[FILL_1 - 8:FILL_1].hex()), (CHUNKS_1 + 3, le(3, 8), "0500100000000000"))
+        self.assertEqual(image[NODES_1:NODES_1 + 6], b"TREE\1\1")
+        # A size of 65536 and more may be one of an array, and each of its cells would be dumped.
+        places = [*range(superblock_length(image)), *range(HEADER_1, SIZE_1 + 2), *range(SIZE_1 + 8, CHUNKS_1)]
+        counts = self.all_of(with_each_value, image, places)
+        self.assertEqual(counts.total(), 255 * len(places))
+        self.assertGreater(min(counts.values()), 255 * len(places) // 20)
 
 
 class Named(InFolder):

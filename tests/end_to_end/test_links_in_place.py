@@ -13,9 +13,9 @@ from functools import partial
 from . import today
 from .drawn_groups import RootGroup, drawn_group, loosened
 from .drawn_images import IMAGES, linked_image
-from .drawn_scripts import LINKS, LineMaker
+from .drawn_scripts import LINKS, LineMaker, new_image
 from .kept_session import Judge, image_behind, steps
-from .support import InFolder, empty_image, h5i, library, patched, reference
+from .support import InFolder, empty_image, end_of_file, h5i, library, patched, reference
 from .test_group_scripts import CHANGE, LIST, links_of
 from .test_scripts import unwritten
 
@@ -54,12 +54,7 @@ def loose_root(leaf, internal):
     """An image of such a group with soft links a and z."""
     tree = Tree.root_alone()
     tree.objects[0].links = {b"a": ("soft", b"/1"), b"z": ("soft", b"/2")}
-    return LooseRoot(tree, Superblock(0, leaf, internal, 32, 0, 0), random.Random(1), wild=0, late=False).write()
-
-
-def new_image(_):
-    """The image of a new file."""
-    return empty_image()
+    return LooseRoot(tree, Superblock(0, leaf, internal, 32, 0, 0), random.Random(1), wild=0).write()
 
 
 def image_of_others(rng):
@@ -67,7 +62,7 @@ def image_of_others(rng):
     if rng.random() < 0.5:
         return drawn_group(rng)
     image = linked_image(rng)
-    return loosened(image[:number_at(image, 40, 8)], rng, rng.choice([0, 0.3, 0.9]))
+    return loosened(image[:end_of_file(image)], rng, rng.choice([0, 0.3, 0.9]))
 
 
 def drawn_lines(rng, image, kinds, to_the_end):

@@ -14,7 +14,6 @@ from .test_scripts import limited
 
 # pylint: disable=wrong-import-order
 from h5oracle.foreign import write_foreign  # noqa: E402
-from h5oracle.model import same_tree  # noqa: E402
 from h5oracle.plain import le, write_plain  # noqa: E402
 from h5oracle.reader import Superblock, open_image  # noqa: E402
 
@@ -65,7 +64,7 @@ class Repacked(InFolder):
         self.assertTrue(after == write_plain(reading.tree, reading.superblock))
         again, refusal = today.opened(after)
         self.assertIsNone(refusal)
-        self.assertIsNone(same_tree(again.tree, reading.tree))
+        self.assertIsNone(today.same_tree(again.tree, reading.tree))
         return path, again
 
     def assert_shown(self, path, tree):
@@ -85,7 +84,7 @@ class Worked(Repacked):
         self.assertEqual(reference("run", other, script=NINE_LINKS), (0, b"ok 0\n" * 9, b""))
         tree = open_image(self.read(other)).tree
         for seed in range(20):
-            image = write_foreign(tree, random.Random(f"nine links {seed}"), Superblock(0, 4, 16, 32, 0, 0), wild=0.8, late=False)
+            image = write_foreign(tree, random.Random(f"nine links {seed}"), Superblock(0, 4, 16, 32, 0, 0), wild=0.8)
             with self.subTest(seed=seed):
                 path, reading = self.repacked("nine.h5", image)
                 self.assertEqual(len(self.read(path)), 1580)

@@ -7,22 +7,19 @@ import os
 import random
 
 from . import today
-from .drawn_scripts import WHOLE
+from .drawn_scripts import WHOLE, new_image
 from .kept_session import image_behind
-from .support import InFolder, empty_image, h5i, library, reference
+from .support import InFolder, empty_image, end_of_file, h5i, library, reference
 from .test_corpus import DATA
 from .test_creates_in_place import FORMS
 from .test_group_scripts import CHANGE, LIST, links_of
-from .test_links_in_place import SEEDS, Judged, Sessions, image_of_others, link_count, new_image
+from .test_links_in_place import SEEDS, Judged, Sessions, image_of_others, link_count
 from .transcripts import Transcripts
 
 # pylint: disable=wrong-import-order
-from h5oracle.model import Tree, object_at, same_tree  # noqa: E402
-from h5oracle.reader import number_at  # noqa: E402
+from h5oracle.model import Tree, object_at  # noqa: E402
 from h5oracle.script import path_text  # noqa: E402
 
-# The place of the end of file field.
-END_OF_FILE = 40
 ROUNDS = 100
 # Of a heap eight bytes alone would stay unused, so names of the root that come and go have at least eight letters.
 GROUP, ARRAY = "/the_group", "/the_array"
@@ -275,7 +272,7 @@ class Again(Judged):
             lengths.append(len(image))
         self.assertEqual(lengths[1:], lengths[1:2] * (rounds - 1))
         self.assertGreater(lengths[0], least)
-        self.assertIsNone(same_tree(today.opened(image)[0].tree, Tree.root_alone()))
+        self.assertIsNone(today.same_tree(today.opened(image)[0].tree, Tree.root_alone()))
 
     def test_all_kinds_of_things(self):
         for seed in TREES:
@@ -317,7 +314,7 @@ class Again(Judged):
         for rounds in (1, 2):
             output, image = image_behind(self.path("e.h5"), empty_image(), today.printed(script * rounds))
             self.assertTrue(output == b"ok 0\n" * len(script) * rounds)
-            self.assertIsNone(same_tree(today.opened(image)[0].tree, Tree.root_alone()))
+            self.assertIsNone(today.same_tree(today.opened(image)[0].tree, Tree.root_alone()))
             lengths.append(len(image))
         self.assertEqual(lengths[0], lengths[1])
         self.assertGreater(lengths[0], 100 * WIDEST)
@@ -351,7 +348,7 @@ class Others(Judged):
             for path in group_paths(image)[:MOST_GROUPS]:
                 with self.subTest(name=name, path=path):
                     after = self.assert_in_place(image, [f"unlink {path}"])
-                    self.assertEqual(len(after), number_at(image, END_OF_FILE, 8))
+                    self.assertEqual(len(after), end_of_file(image))
                 judged += 1
         self.assertGreater(judged, 30)
 
@@ -379,7 +376,7 @@ class Library(InFolder):
         for path, other, text, wanted in zip(paths, others[::2], self.library_texts(paths), self.library_texts(others[::2]), strict=True):
             with self.subTest(path=path):
                 self.assertEqual(text, wanted)
-                self.assertIsNone(same_tree(today.opened(self.read(path))[0].tree, today.opened(self.read(other))[0].tree))
+                self.assertIsNone(today.same_tree(today.opened(self.read(path))[0].tree, today.opened(self.read(other))[0].tree))
 
     def test_it_edits_what_is_left(self):
         paths = []

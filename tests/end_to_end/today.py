@@ -1,7 +1,6 @@
-"""The reference implementation, held to what the program carries today.
+"""The reference implementation, held to what the program carries today, which is all of it.
 
-Which images are opened, what is listed and dumped of them, and what is answered to scripts is the reference's own answer, at the
-stage at which all edits are made in place, an unlink takes a whole group, views are lent or patched, and the later forms are not read.
+Which images are opened, what is listed and dumped of them, and what is answered to scripts is the reference's own answer.
 """
 
 import os
@@ -12,9 +11,8 @@ from . import support
 sys.path.insert(0, os.path.dirname(support.REFERENCE))
 
 # pylint: disable=wrong-import-position
-from h5oracle import judge, reader  # noqa: E402
-from h5oracle.script import attr_line, dump_lines, ls_lines, run_script, tree_text, unescape  # noqa: E402, F401
-from h5oracle.model import same_tree  # noqa: E402
+from h5oracle import judge, model, reader  # noqa: E402
+from h5oracle.script import attr_line, dump_lines, ls_lines, path_text, run_script, tree_text, unescape  # noqa: E402, F401
 from h5oracle.session import Session  # noqa: E402
 from h5oracle.values import OpenFault, Stage  # noqa: E402
 
@@ -34,6 +32,22 @@ def opened(data):
 def wrong_with(before, after, line):
     """What is wrong with an edit in place by a line of a script: nothing where its list is empty."""
     return judge.step(before, after, line, STAGE)
+
+
+def kept_bodies(thing):
+    """The bodies of an object's attributes of versions 2 and 3, which are kept as they stand, by name."""
+    return {name: attribute.raw for name, attribute in thing.attrs.items() if attribute.raw is not None}
+
+
+def same_tree(one, other):
+    """What differs between two trees, numbers aside, or `None`. The bodies that are kept differ in no byte."""
+    unlike = model.same_tree(one, other)
+    if unlike:
+        return unlike
+    for (names, (kind, ours)), (_, (_, theirs)) in zip(one.walk(), other.walk()):
+        if kind == "object" and kept_bodies(one.objects[ours]) != kept_bodies(other.objects[theirs]):
+            return f"the body of an attribute of {path_text(names)}"
+    return None
 
 
 def printed(lines):
