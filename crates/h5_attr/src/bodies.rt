@@ -11,7 +11,6 @@ use crate::message::fault;
 use h5_header::Messages;
 use h5_model::{Cause, OpenFault};
 use h5_space::Image;
-use std::alloc::Global;
 
 /// Checks that each attribute of a header can be read. Names are not compared; `check_names` does that. Takes no
 /// memory.
@@ -25,7 +24,7 @@ use std::alloc::Global;
 ///
 /// - `AttributeForm`: it has another form than an attribute has.
 /// - `TooLarge`: the product of its sizes, with sizes of 0 left out, is above 2^40.
-pub fn check_bodies(alloc: Global, image: &Image, messages: &Messages) -> Result<(), OpenFault>
+pub fn check_bodies(image: &Image, messages: &Messages) -> Result<(), OpenFault>
     requires { IsWithin (length image.now.bytes) messages.now.list }
     ensures first { let ms = messages_in image.now.bytes messages.now.list in
         MatchOption (first_fault_in ms) (IsOk result) (λ cause.
@@ -37,7 +36,7 @@ pub fn check_bodies(alloc: Global, image: &Image, messages: &Messages) -> Result
     ensures only { let ms = messages_in image.now.bytes messages.now.list in
         (attributes : Attributes) → HasAttributes ms attributes → IsOk result }
 {
-    match first_fault(alloc, image, messages) {
+    match first_fault(image, messages) {
         Some(cause) => Err(OpenFault {
             cause,
             address: messages.header(),
@@ -47,13 +46,13 @@ pub fn check_bodies(alloc: Global, image: &Image, messages: &Messages) -> Result
 }
 
 /// Why the first attribute message is refused that cannot be read.
-fn first_fault(alloc: Global, image: &Image, messages: &Messages) -> Option<Cause>
+fn first_fault(image: &Image, messages: &Messages) -> Option<Cause>
     requires { IsWithin (length image.now.bytes) messages.now.list }
     ensures { result ≡ first_fault_in (messages_in image.now.bytes messages.now.list) }
 {
     let bytes = image.bytes();
     for message in messages.list() {
-        if let Some(cause) = fault(alloc, bytes, *message) {
+        if let Some(cause) = fault(bytes, *message) {
             return Some(cause);
         }
     }

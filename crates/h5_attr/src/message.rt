@@ -9,7 +9,6 @@ use h5_header::Message;
 use h5_model::Cause;
 use h5_model::message_type::ATTRIBUTE;
 use h5_msg::{AttributeBody, read_attribute};
-use std::alloc::Global;
 
 /// The attribute of a message, where it is an attribute's and has the form.
 pub(crate) fn attribute(image: &[u8], message: Message) -> Option<AttributeBody<'_>>
@@ -23,7 +22,7 @@ pub(crate) fn attribute(image: &[u8], message: Message) -> Option<AttributeBody<
 }
 
 /// Why a message is refused, where it is an attribute's.
-pub(crate) fn fault(alloc: Global, image: &[u8], message: Message) -> Option<Cause>
+pub(crate) fn fault(image: &[u8], message: Message) -> Option<Cause>
     requires { message.at + message.size ≤ length image.now }
     ensures { result ≡ fault_in (message_in image.now message) }
 {
@@ -33,7 +32,7 @@ pub(crate) fn fault(alloc: Global, image: &[u8], message: Message) -> Option<Cau
     let Ok(attribute) = read_attribute(body(image, message)) else {
         return Some(Cause::AttributeForm);
     };
-    if attribute.dims(alloc).is_small() {
+    if attribute.dims().is_small() {
         None
     } else {
         Some(Cause::TooLarge)

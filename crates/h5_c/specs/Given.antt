@@ -9,7 +9,6 @@ use Rattle.h5_model.specs.declared.dataset.Store.TheVariants as stored
 use Rattle.h5_model.specs.declared.edits.Edit.{Edit}
 use Rattle.h5_model.specs.declared.edits.Edit.TheVariants.{CreateDataset, SetAttr, Write}
 use Rattle.h5_model.specs.declared.hyperslab.Hyper.{Hyper}
-use Rattle.h5_c.specs.declared.given.Lists.{Lists}
 use Rattle.h5_c.specs.declared.given.Unmade.{Unmade}
 use Rattle.h5_c.specs.declared.given.Unmade.TheVariants as unmade
 
@@ -21,9 +20,6 @@ number_of unmade.NoSuchType = 102
 -- the selection of four lists
 abbrev pub selecting : List ℕ → List ℕ → List ℕ → List ℕ → Hyper
 selecting start stride count block = record { start = start; stride = stride; count = count; block = block }
-
-abbrev pub hyper_of : Lists → Hyper
-hyper_of lists = selecting lists.start.now lists.stride.now lists.count.now lists.block.now
 
 -- the bytes are a whole number of values of the type, or just one
 abbrev pub is_whole : List ℕ → Fixed → Bool

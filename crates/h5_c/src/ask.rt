@@ -182,13 +182,13 @@ impl Held {
         }
     }
 
-    fn tell_attribute(&self, alloc: Global, path: &[u8], name: &[u8], about: &mut About) -> u32
+    fn tell_attribute(&self, path: &[u8], name: &[u8], about: &mut About) -> u32
         ensures { HasToldAttribute self.now.session.file.tree path.now name.now about.old about.new result }
     {
         match self.session.file().get_attr(path, name) {
             Ok(attribute) => {
                 tell_type(&attribute.fixed(), &mut about.of);
-                about.rank = tell_sizes(&attribute.dims(alloc), &mut about.dims);
+                about.rank = tell_sizes(&attribute.dims(), &mut about.dims);
                 DONE
             }
             Err(fault) => fault.number(),
@@ -339,7 +339,7 @@ pub extern "C" fn h5i_attribute(
         return WRONG_STATE;
     }
     let held = slot.take(alloc);
-    let status = held.tell_attribute(alloc, path, name, about);
+    let status = held.tell_attribute(path, name, about);
     slot.put(held);
     status
 }

@@ -3,10 +3,10 @@
 ghost use Rattle.std.specs.Prelude.{◌≡◌, IfOk, Ok, Err, map};
 ghost use Rattle.h5_model.specs.Format.Fixed.{fixed_from};
 ghost use Rattle.h5_model.specs.Scripts.Answers.{stored_values};
-ghost use Rattle.h5_c.specs.Given.{IsArrayMadeWith, IsMadeOf, IsMadeWith, IsStoreMade, given_array, given_attribute, hyper_of, is_whole, maximum_of, number_of, store_of_number};
+ghost use Rattle.h5_c.specs.Given.{IsArrayMadeWith, IsMadeOf, IsMadeWith, IsStoreMade, given_array, given_attribute, is_whole, maximum_of, number_of, store_of_number};
 
 use crate::status::{NO_MEMORY, NO_SUCH_TYPE, WRONG_ROOM};
-use h5_file::{AttrSpec, Buffer, Fixed, Hyper, Items, Spec, Store};
+use h5_file::{AttrSpec, Buffer, Fixed, Items, Spec, Store};
 use h5_types::decode;
 use std::alloc::{AllocError, Global};
 
@@ -50,24 +50,6 @@ impl From<AllocError> for Unmade {
 
     fn from(_error: AllocError) -> Unmade {
         Unmade::NoMemory
-    }
-}
-
-/// The four lists of a selection.
-#[derive(Clone, Copy)]
-pub(crate) struct Lists<'a> {
-    pub(crate) start: &'a [u64],
-    pub(crate) stride: &'a [u64],
-    pub(crate) count: &'a [u64],
-    pub(crate) block: &'a [u64],
-}
-
-impl Lists<'_> {
-    /// The selection of these lists.
-    pub(crate) fn hyper(&self, alloc: Global) -> Result<Hyper, AllocError>
-        ensures { IfOk result (λ hyper. hyper ≡ hyper_of self.now) }
-    {
-        Hyper::new(alloc, self.start, self.stride, self.count, self.block)
     }
 }
 

@@ -4,14 +4,13 @@ ghost use Rattle.std.specs.Prelude.{◌≡◌, Some, MatchResult, true, false, l
 ghost use Rattle.h5_model.specs.Edits.Refusal.{first_holding};
 ghost use Rattle.h5_model.specs.Scripts.Reading.{selection_rules};
 ghost use Rattle.h5_file.specs.Selected.{IsSlabOf};
-ghost use Rattle.h5_c.specs.Given.{hyper_of, selecting};
+ghost use Rattle.h5_c.specs.Given.{selecting};
 ghost use Rattle.h5_c.specs.Read.{HasRead, HasSelected, IsCopiedFrom};
 
-use crate::given::Lists;
 use crate::held::Held;
 use crate::slot::Slot;
-use crate::status::{DONE, NO_MEMORY, WRONG_ROOM, WRONG_STATE};
-use h5_file::{EditFault, File, Hyper, Slab, StoredArray, gather};
+use crate::status::{DONE, WRONG_ROOM, WRONG_STATE};
+use h5_file::{EditFault, File, HyperRef, Slab, StoredArray, gather};
 use h5_query::slab_within;
 use std::alloc::Global;
 
@@ -23,7 +22,7 @@ use std::alloc::Global;
 fn selected<'a>(
     file: &'a File,
     path: &[u8],
-    hyper: &Hyper,
+    hyper: &HyperRef<'_>,
 ) -> Result<(StoredArray<'a>, Slab), EditFault>
     ensures { MatchResult result (HasSelected file.now.tree path.now hyper.now)
         (λ e. first_holding (selection_rules file.now.tree path.now hyper.now) ≡ Some e) }
@@ -47,14 +46,11 @@ fn copy_selected(array: &StoredArray<'_>, slab: &Slab, room: &mut [u8]) -> u32
 }
 
 impl Held {
-    fn read(&self, alloc: Global, path: &[u8], lists: &Lists<'_>, room: &mut [u8]) -> u32
-        ensures { HasRead self.now.session.file.tree path.now (hyper_of lists.now)
+    fn read(&self, path: &[u8], hyper: &HyperRef<'_>, room: &mut [u8]) -> u32
+        ensures { HasRead self.now.session.file.tree path.now hyper.now
             room.old room.new result }
     {
-        let Ok(hyper) = lists.hyper(alloc) else {
-            return NO_MEMORY;
-        };
-        match selected(self.session.file(), path, &hyper) {
+        match selected(self.session.file(), path, hyper) {
             Ok((array, slab)) => copy_selected(&array, &slab, room),
             Err(fault) => fault.number(),
         }
@@ -90,14 +86,9 @@ pub extern "C" fn h5i_read(
     if !slot.is_open() {
         return WRONG_STATE;
     }
-    let lists = Lists {
-        start,
-        stride,
-        count,
-        block,
-    };
+    let hyper = HyperRef::new(start, stride, count, block);
     let held = slot.take(alloc);
-    let status = held.read(alloc, path, &lists, room);
+    let status = held.read(path, &hyper, room);
     slot.put(held);
     status
 }

@@ -2,25 +2,21 @@
 
 ghost use Rattle.std.specs.Prelude.{◌≡◌, true, false};
 ghost use Rattle.h5_c.specs.Calls.{IsKeptOpen};
-ghost use Rattle.h5_c.specs.Given.{hyper_of, selecting};
+ghost use Rattle.h5_c.specs.Given.{selecting};
 ghost use Rattle.h5_c.specs.Viewed.{HasShown, HasShownLength, HasViewClosed, HasViewOpened, shown_in};
 
-use crate::given::Lists;
 use crate::held::Held;
 use crate::room::copy;
 use crate::slot::Slot;
-use crate::status::{DONE, NO_MEMORY, WRONG_STATE, view_status};
-use h5_file::ViewNo;
+use crate::status::{DONE, WRONG_STATE, view_status};
+use h5_file::{HyperRef, ViewNo};
 use std::alloc::Global;
 
 impl Held {
-    fn open_view(&mut self, alloc: Global, path: &[u8], lists: &Lists<'_>, number: &mut u32) -> u32
-        ensures { HasViewOpened self.old path.now (hyper_of lists.now) self.new number.old number.new result }
+    fn open_view(&mut self, path: &[u8], hyper: &HyperRef<'_>, number: &mut u32) -> u32
+        ensures { HasViewOpened self.old path.now hyper.now self.new number.old number.new result }
     {
-        let Ok(hyper) = lists.hyper(alloc) else {
-            return NO_MEMORY;
-        };
-        match self.session.open_view(path, &hyper) {
+        match self.session.open_view(path, hyper) {
             Ok(view) => {
                 *number = view.0;
                 DONE
@@ -86,14 +82,9 @@ pub extern "C" fn h5i_open_view(
     if !slot.is_open() {
         return WRONG_STATE;
     }
-    let lists = Lists {
-        start,
-        stride,
-        count,
-        block,
-    };
+    let hyper = HyperRef::new(start, stride, count, block);
     let mut held = slot.take(alloc);
-    let status = held.open_view(alloc, path, &lists, number);
+    let status = held.open_view(path, &hyper, number);
     slot.put(held);
     status
 }

@@ -5,24 +5,21 @@ ghost use Rattle.std.specs.Prelude.{◌≡◌, true};
 ghost use Rattle.h5_model.specs.declared.edits.Edit.TheVariants.{Write};
 ghost use Rattle.h5_model.specs.Format.Fixed.{fixed_from};
 ghost use Rattle.h5_c.specs.Calls.{HasEdited, IsKeptOpen, IsRefusedEarly};
-ghost use Rattle.h5_c.specs.Given.{IsMadeWith, hyper_of, is_whole, number_of, selecting, writing};
+ghost use Rattle.h5_c.specs.Given.{IsMadeWith, is_whole, number_of, selecting, writing};
 
-use crate::given::{CType, Lists, buffer_of};
+use crate::given::{CType, buffer_of};
 use crate::held::Held;
 use crate::slot::Slot;
-use crate::status::{NO_MEMORY, WRONG_STATE, edit_status};
-use h5_file::Buffer;
+use crate::status::{WRONG_STATE, edit_status};
+use h5_file::{Buffer, HyperRef};
 use std::alloc::Global;
 
 impl Held {
     /// Writes values into selected cells.
-    fn write(&mut self, alloc: Global, path: &[u8], lists: &Lists<'_>, values: &Buffer<'_>) -> u32
-        ensures { HasEdited self.old (Write path.now (hyper_of lists.now) values.now) self.new result }
+    fn write(&mut self, path: &[u8], hyper: &HyperRef<'_>, values: &Buffer<'_>) -> u32
+        ensures { HasEdited self.old (Write path.now hyper.now values.now) self.new result }
     {
-        let Ok(hyper) = lists.hyper(alloc) else {
-            return NO_MEMORY;
-        };
-        edit_status(self.session.write_from(path, &hyper, values))
+        edit_status(self.session.write_from(path, hyper, values))
     }
 }
 
@@ -59,14 +56,9 @@ pub extern "C" fn h5i_write(
         Ok(buffer) => buffer,
         Err(reason) => return reason.status(),
     };
-    let lists = Lists {
-        start,
-        stride,
-        count,
-        block,
-    };
+    let hyper = HyperRef::new(start, stride, count, block);
     let mut held = slot.take(alloc);
-    let status = held.write(alloc, path, &lists, &buffer);
+    let status = held.write(path, &hyper, &buffer);
     slot.put(held);
     status
 }

@@ -115,7 +115,7 @@ fn dump_at<O: Write, E: Write>(
     ensures { IsDumpTold file.now.tree path.now (O.contents output.old) (O.contents output.new) result }
 {
     let mut text = Vec::new(alloc);
-    match write_dump(alloc, &mut text, file, path, output) {
+    match write_dump(&mut text, file, path, output) {
         Ok(()) => Status::Done,
         Err(DumpFault::Refused(EditFault::NoMemory)) => no_memory(errors),
         Err(DumpFault::Refused(fault)) => print_refusal(alloc, fault, output, errors),

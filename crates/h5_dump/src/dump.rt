@@ -20,7 +20,7 @@ use h5_text::{
     PathText, push_attribute_head, push_dump_line, push_group_line, push_soft_line,
     push_spaced_value, push_text, write_text,
 };
-use std::alloc::{AllocError, Global};
+use std::alloc::AllocError;
 use std::io::Write;
 
 /// Writes the dump of what stands at the path. A soft link is not followed.
@@ -35,7 +35,6 @@ use std::io::Write;
 ///   the first write. Nothing was written.
 /// - `Cut`: the writer failed, or memory was refused, behind a beginning of the dump that was written.
 pub fn write_dump<W: Write>(
-    alloc: Global,
     text: &mut Vec<u8>,
     file: &File,
     path: &[u8],
@@ -47,12 +46,11 @@ pub fn write_dump<W: Write>(
 {
     let found = file.find(path)?;
     text.clear();
-    write_found(alloc, text, path, &found, output)
+    write_found(text, path, &found, output)
 }
 
 /// Writes what is dumped of what was found at the path.
 fn write_found<W: Write>(
-    alloc: Global,
     text: &mut Vec<u8>,
     path: &[u8],
     found: &Found<'_>,
@@ -64,19 +62,18 @@ fn write_found<W: Write>(
         (dumped tree path.now (located tree path.now)) }
 {
     match found {
-        Found::Group { attributes, .. } => write_group(alloc, text, path, attributes, output),
+        Found::Group { attributes, .. } => write_group(text, path, attributes, output),
         Found::Array {
             attributes,
             array,
             ..
-        } => write_array(alloc, text, path, array, attributes, output),
+        } => write_array(text, path, array, attributes, output),
         Found::Soft(target) => write_soft_link(text, path, target, output),
     }
 }
 
 /// Writes what is dumped of a group that has these attributes.
 fn write_group<W: Write>(
-    alloc: Global,
     text: &mut Vec<u8>,
     path: &[u8],
     attributes: &[AttrRef<'_>],
@@ -88,7 +85,7 @@ fn write_group<W: Write>(
         → Dumps result (W.contents output.old) (W.contents output.new) (dump_text (escaped path.now) group) }
 {
     push_group_line(text, PathText::Plain(path))?;
-    push_attributes(alloc, text, attributes)?;
+    push_attributes(text, attributes)?;
     write_text(output, text)?;
     Ok(())
 }
@@ -111,7 +108,6 @@ fn write_soft_link<W: Write>(
 
 /// Writes what is dumped of the array, which has these attributes.
 fn write_array<W: Write>(
-    alloc: Global,
     text: &mut Vec<u8>,
     path: &[u8],
     array: &StoredArray<'_>,
@@ -122,8 +118,8 @@ fn write_array<W: Write>(
     ensures { (o : Object) → o.content ≡ Array array.now → attributes.now ≡ entries o.attributes
         → Dumps result (W.contents output.old) (W.contents output.new) (dump_text (escaped path.now) o) }
 {
-    push_array_head(alloc, text, path, array)?;
-    push_attributes(alloc, text, attributes)?;
+    push_array_head(text, path, array)?;
+    push_attributes(text, attributes)?;
     // Memory for cells is taken before anything is written, since only then their want is a refusal.
     text.reserve(CELLS_ROOM)?;
     write_cells(text, array, output)?;
@@ -132,14 +128,13 @@ fn write_array<W: Write>(
 
 /// Appends the first line of what is dumped of the array.
 fn push_array_head(
-    alloc: Global,
     text: &mut Vec<u8>,
     path: &[u8],
     array: &StoredArray<'_>,
 ) -> Result<(), AllocError>
     ensures { Appends result text.old.items text.new.items (dump_line (escaped path.now) array.now) }
 {
-    let store = store_of(alloc, array);
+    let store = store_of(array);
     let mut maxima = [None; MAX_RANK];
     let told = array_text(array.array(), shown_layout(&store), &mut maxima);
     push_dump_line(text, PathText::Plain(path), &told)
@@ -147,27 +142,25 @@ fn push_array_head(
 
 /// Appends a line for each attribute.
 fn push_attributes(
-    alloc: Global,
     text: &mut Vec<u8>,
     attributes: &[AttrRef<'_>],
 ) -> Result<(), AllocError>
     ensures { Appends result text.old.items text.new.items (flat_map attribute_line attributes.now) }
 {
     for attribute in attributes {
-        push_attribute(alloc, text, attribute)?;
+        push_attribute(text, attribute)?;
     }
     Ok(())
 }
 
 /// Appends the line of an attribute.
 fn push_attribute(
-    alloc: Global,
     text: &mut Vec<u8>,
     attribute: &AttrRef<'_>,
 ) -> Result<(), AllocError>
     ensures { Appends result text.old.items text.new.items (attribute_line attribute.now) }
 {
-    let dims = attribute.dims(alloc);
+    let dims = attribute.dims();
     push_attribute_head(text, attribute.name(), &attribute.fixed(), dims.sizes())?;
     for k in 0..attribute.cells() {
         push_spaced_value(text, attribute.value(k))?;

@@ -9,5 +9,5 @@ mod list;
 
 pub use dump::write_dump;
 pub use fault::DumpFault;
-pub use h5_file::{Cause, File, MAXIMUM_IMAGE, OpenFault, Session};
+pub use h5_file::{Cause, File, HyperRef, MAXIMUM_IMAGE, OpenFault, Session};
 pub use list::push_list;

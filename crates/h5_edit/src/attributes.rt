@@ -32,7 +32,7 @@ pub fn set_attr(
     ensures { MatchResult result (IsEdited opened.old (SetAttr path.now attr.now) opened.new) (λ e.
         IsRefused opened.old (SetAttr path.now attr.now) e × (opened.new ≡ opened.old)) }
 {
-    let number = check_set_attr(alloc, opened, path, attr)?;
+    let number = check_set_attr(opened, path, attr)?;
     let body = new_body(alloc, attr)?;
     match opened.set_attribute(number, &body) {
         Ok(()) => Ok(Edited {

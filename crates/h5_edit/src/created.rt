@@ -85,10 +85,10 @@ pub fn create_dataset(
         IsRefused opened.old (CreateDataset path.now spec.now) e × (opened.new ≡ opened.old)) }
 {
     let number = opened.next();
-    let place = check_create_dataset(alloc, opened, path, spec)?;
+    let place = check_create_dataset(opened, path, spec)?;
     // The call's contract says that the type is a sound one.
     let _size = spec.fixed.size();
-    let array = array_from(alloc, spec);
+    let array = array_from(spec);
     let others = Others::new(alloc);
     let header = array_header_length(&array, &others);
     let chunk = chunk_k(opened.image().bytes());

@@ -46,7 +46,7 @@ pub fn resize(
     ensures { MatchResult result (IsEdited opened.old (Resize path.now dims.now) opened.new) (λ e.
         IsRefused opened.old (Resize path.now dims.now) e × (opened.new ≡ opened.old)) }
 {
-    let number = check_resize(alloc, opened, path, dims)?;
+    let number = check_resize(opened, path, dims)?;
     match opened.resize(alloc, number, dims) {
         Ok(()) => Ok(Edited {
             object: Some(ObjectNo(number)),

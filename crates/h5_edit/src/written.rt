@@ -14,9 +14,9 @@ ghost use Rattle.h5_edit.specs.Stored.{AreRunsStored, AreValuesWritten, HasStora
 use crate::links::insertion_fault;
 use crate::rules::check_write;
 use h5_layout::{Buffer, Missing, missing_of};
-use h5_model::{EditFault, Edited, Hyper, ObjectNo};
+use h5_model::{EditFault, Edited, ObjectNo};
 use h5_query::{Opened, described_of, slab_within};
-use h5_shape::CellRuns;
+use h5_shape::{CellRuns, HyperRef};
 use std::alloc::{AllocError, Global};
 
 /// Writes values into the selected cells of the array at the path: one value for each cell, in row-major order.
@@ -50,13 +50,13 @@ pub fn write(
     alloc: Global,
     opened: &mut Opened,
     path: &[u8],
-    hyper: &Hyper,
+    hyper: &HyperRef<'_>,
     values: &Buffer<'_>,
 ) -> Result<Edited, EditFault>
     ensures { MatchResult result (IsEdited opened.old (Write path.now hyper.now values.now) opened.new) (λ e.
         IsRefused opened.old (Write path.now hyper.now values.now) e × (opened.new ≡ opened.old)) }
 {
-    let target = check_write(alloc, opened, path, hyper, values)?;
+    let target = check_write(opened, path, hyper, values)?;
     let number = target.number;
     match target.standing {
         Some(cells) => opened.write_standing(number, &cells, values),
@@ -76,7 +76,7 @@ fn write_selected(
     alloc: Global,
     opened: &mut Opened,
     number: u32,
-    hyper: &Hyper,
+    hyper: &HyperRef<'_>,
     values: &Buffer<'_>,
 ) -> Result<(), EditFault>
     requires { (path : List ℕ) × IsWriteAt opened.old path hyper.now values.now number }
@@ -86,7 +86,7 @@ fn write_selected(
 {
     let WritePlan { runs, missing } = plan_write(alloc, opened, number, hyper)?;
     make_missing(alloc, opened, number, missing)?;
-    write_runs(alloc, opened, number, runs, values);
+    write_runs(opened, number, runs, values);
     Ok(())
 }
 
@@ -128,14 +128,14 @@ fn plan_write(
     alloc: Global,
     opened: &Opened,
     number: u32,
-    hyper: &Hyper,
+    hyper: &HyperRef<'_>,
 ) -> Result<WritePlan, AllocError>
     requires { (path : List ℕ) × (values : List ℤ) × IsWriteAt opened.now path hyper.now values number }
     ensures planned { (path : List ℕ) (values : List ℤ) → IsWriteAt opened.now path hyper.now values number
         → IfOk result (IsPlanned opened.now path hyper.now values number) }
     ensures sound { IsSound opened.now }
 {
-    let array = described_of(alloc, opened, number);
+    let array = described_of(opened, number);
     let Ok(slab) = slab_within(array.dims(), hyper) else {
         unreachable!()
     };
@@ -147,14 +147,14 @@ fn plan_write(
 }
 
 /// Writes values into the cells of these runs, all of which are stored.
-fn write_runs(alloc: Global, opened: &mut Opened, number: u32, runs: CellRuns, values: &Buffer<'_>)
+fn write_runs(opened: &mut Opened, number: u32, runs: CellRuns, values: &Buffer<'_>)
     requires { (d : Dataset) × AreRunsStored opened.old number runs values.now d }
     ensures { AreValuesWritten opened.old number (places_in runs) values.now opened.new }
 {
     let mut left = values.lend();
     for run in runs {
         let (first, others) = left.split_at(run.length as usize);
-        opened.write_cells(alloc, number, run.place, &first);
+        opened.write_cells(number, run.place, &first);
         left = others;
     }
 }

@@ -12,10 +12,10 @@ ghost use Rattle.h5_file.specs.Anew.{IsRepacked};
 
 use crate::file::File;
 use h5_edit::{
-    Buffer, create_dataset, create_group, hard_link, open_made, remove_attr, repack, resize,
+    HyperRef, Buffer, create_dataset, create_group, hard_link, open_made, remove_attr, repack, resize,
     set_attr, soft_link, unlink, write,
 };
-use h5_model::{AttrSpec, Edit, EditFault, Edited, Hyper, Spec};
+use h5_model::{AttrSpec, Edit, EditFault, Edited, Spec};
 use std::alloc::AllocError;
 
 impl File {
@@ -42,7 +42,7 @@ impl File {
                 path,
                 hyper,
                 values,
-            } => self.write(path.as_slice(), hyper, values.as_slice()),
+            } => self.write(path.as_slice(), &HyperRef::of(hyper), values.as_slice()),
         }
     }
 
@@ -311,7 +311,7 @@ impl File {
     pub fn write(
         &mut self,
         path: &[u8],
-        hyper: &Hyper,
+        hyper: &HyperRef<'_>,
         values: &[i128],
     ) -> Result<Edited, EditFault>
         ensures edited { MatchResult result (IsEdited self.old (Write path.now hyper.now values.now) self.new)
@@ -329,7 +329,7 @@ impl File {
     pub fn write_from(
         &mut self,
         path: &[u8],
-        hyper: &Hyper,
+        hyper: &HyperRef<'_>,
         values: &Buffer<'_>,
     ) -> Result<Edited, EditFault>
         ensures edited { MatchResult result (IsEdited self.old (Write path.now hyper.now values.now) self.new)

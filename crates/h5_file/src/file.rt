@@ -22,11 +22,11 @@ ghost use Rattle.h5_file.specs.Opening.{IsReadable, Refused};
 
 use crate::open_error::OpenError;
 use h5_edit::{
-    AttrRef, Found, Kind, Opened, Runs, StoredArray, array_at, array_of, attributes_at,
+    HyperRef, AttrRef, Found, Kind, Opened, Runs, StoredArray, array_at, array_of, attributes_at,
     empty_image, found_at, kind_at, links_of, names_at, names_of_attributes, number_at,
     one_attribute, one_cell, open_written, runs_at,
 };
-use h5_model::{Cause, EditFault, Hyper, Link, ObjectNo, OpenFault};
+use h5_model::{Cause, EditFault, Link, ObjectNo, OpenFault};
 use h5_space::{Image, end_of_file, superblock_fault};
 use std::alloc::{AllocError, Global};
 use std::marker::Model;
@@ -144,7 +144,7 @@ impl File {
         ensures { MatchResult result (HasKind self.now.tree path.now) (λ e.
             first_holding (path_rules self.now.tree path.now) ≡ Some e) }
     {
-        kind_at(self.alloc, &self.opened, path)
+        kind_at(&self.opened, path)
     }
 
     /// What stands at the path, with all that it holds. A soft link is not followed. Takes memory for a reference to
@@ -226,7 +226,7 @@ impl File {
         ensures { MatchResult result (HasCell self.now.tree path.now index.now) (λ e.
             first_holding (cell_rules self.now.tree path.now index.now) ≡ Some e) }
     {
-        one_cell(self.alloc, &self.opened, path, index)
+        one_cell(&self.opened, path, index)
     }
 
     /// The selected cells of the array at the path, in pieces, in row-major order, as they stand in the image. The
@@ -241,11 +241,11 @@ impl File {
     /// - `StrideZero`: a stride is 0.
     /// - `BlocksOverlap`: a stride is below its block, and there is more than one block.
     /// - `OutOfExtent`: a selected cell is outside the sizes.
-    pub fn runs(&self, path: &[u8], hyper: &Hyper) -> Result<Runs<'_>, EditFault>
+    pub fn runs(&self, path: &[u8], hyper: &HyperRef<'_>) -> Result<Runs<'_>, EditFault>
         ensures { MatchResult result (HasRuns self.now.tree path.now hyper.now) (λ e.
             first_holding (selection_rules self.now.tree path.now hyper.now) ≡ Some e) }
     {
-        runs_at(self.alloc, &self.opened, path, hyper)
+        runs_at(&self.opened, path, hyper)
     }
 
     /// The array at the path. Takes no memory.
@@ -257,7 +257,7 @@ impl File {
         ensures { MatchResult result (IsDatasetAt self.now.tree path.now) (λ e.
             first_holding (dataset_rules self.now.tree path.now) ≡ Some e) }
     {
-        let (_number, array) = array_at(self.alloc, &self.opened, path)?;
+        let (_number, array) = array_at(&self.opened, path)?;
         Ok(array)
     }
 
@@ -295,7 +295,7 @@ impl File {
         ensures { MatchOption result (IsNoDataset self.now.tree number.0) (λ array.
             dataset_of self.now.tree number.0 ≡ Some array) }
     {
-        array_of(self.alloc, &self.opened, number)
+        array_of(&self.opened, number)
     }
 }
 

@@ -1,14 +1,14 @@
 //! Files of integer arrays in memory: an image of bytes, and the objects that stand in it.
 //!
 //! ```
-//! use h5_file::{Fixed, Hyper, Session, Spec};
+//! use h5_file::{Fixed, HyperRef, Session, Spec};
 //!
 //! /// The image of a file with the array `/d`, of which the odd cells were written, and the last of them.
 //! fn odd_cells(alloc: Global) -> anyhow::Result<(Vec<u8>, i128)> {
 //!     let mut session = Session::create(alloc)?;
 //!     let spec = Spec::contiguous(alloc, Fixed::I32_LE, &[4], -7)?;
 //!     session.create_dataset(b"/d", &spec)?;
-//!     let odd = Hyper::new(alloc, &[1], &[2], &[2], &[1])?;
+//!     let odd = HyperRef::new(&[1], &[2], &[2], &[1]);
 //!     session.write(b"/d", &odd, &[1, 3])?;
 //!     let view = session.open_view(b"/d", &odd)?;
 //!     session.write(b"/d", &odd, &[5, 6])?;
@@ -49,7 +49,7 @@ mod views;
 
 pub use file::File;
 pub use h5_edit::{
-    ArrayRef, AttrRef, Buffer, Dims, Found, Kind, MAX_DEPTH, MAX_RANK, Piece, Runs, Slab,
+    ArrayRef, AttrRef, Buffer, Dims, Found, HyperRef, Kind, MAX_DEPTH, MAX_RANK, Piece, Runs, Slab,
     SlabFault, StoreKind, StoredArray, Values, store_of,
 };
 pub use h5_model::{

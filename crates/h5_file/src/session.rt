@@ -15,8 +15,8 @@ mod edits;
 use crate::file::File;
 use crate::open_views::OpenViews;
 use crate::views::{KeptView, place_of};
-use h5_edit::Values;
-use h5_model::{EditFault, Fixed, Hyper, ViewFault, ViewNo};
+use h5_edit::{HyperRef, Values};
+use h5_model::{EditFault, Fixed, ViewFault, ViewNo};
 use std::alloc::{AllocError, Global};
 use std::marker::Model;
 
@@ -125,7 +125,7 @@ impl Session {
     /// - `Path`: the path or the selection is refused, as by [`File::runs`].
     /// - `TooManyViews`: 1024 views are open, or no number of a view is left.
     /// - `NoMemory`: memory is refused.
-    pub fn open_view(&mut self, path: &[u8], hyper: &Hyper) -> Result<ViewNo, ViewFault>
+    pub fn open_view(&mut self, path: &[u8], hyper: &HyperRef<'_>) -> Result<ViewNo, ViewFault>
         ensures { MatchResult result (λ number.
             IsViewOpened self.old path.now hyper.now number.0 self.new) (λ e.
             IsViewRefused self.old path.now hyper.now e × (self.new ≡ self.old)) }

@@ -8,10 +8,9 @@ ghost use Rattle.h5_file.specs.Touched.{HasGrid, IsGridOf, met_with};
 
 use crate::file::File;
 use crate::open_views::OpenViews;
-use h5_edit::{Dims, Slab, array_at};
-use h5_model::{Edit, Hyper};
+use h5_edit::{Dims, HyperRef, Slab, array_at};
+use h5_model::Edit;
 use h5_shape::{MetBoxes, lie_apart, lost_boxes, written_boxes};
-use std::alloc::Global;
 
 /// The cells of an array that an edit touches.
 #[derive(Drop)]
@@ -29,7 +28,7 @@ impl Touched {
         ensures { IsTouchedBy file.now views.now edit.now result }
     {
         match edit {
-            Edit::Write { hyper, .. } => Touched::written(file, views, hyper),
+            Edit::Write { hyper, .. } => Touched::written(file, views, &HyperRef::of(hyper)),
             Edit::Resize { path, dims } => {
                 Touched::lost(file, views, path.as_slice(), dims.as_slice())
             }
@@ -44,7 +43,7 @@ impl Touched {
     }
 
     /// The cells that a write selects, or `None` where the lists are no selection or no view is open.
-    pub(crate) fn written(file: &File, views: &OpenViews, hyper: &Hyper) -> Option<Touched>
+    pub(crate) fn written(file: &File, views: &OpenViews, hyper: &HyperRef<'_>) -> Option<Touched>
         ensures { (path : List ℕ) (values : List ℤ)
             → IsTouchedBy file.now views.now (Write path hyper.now values) result }
     {
@@ -67,9 +66,9 @@ impl Touched {
         }
         // Its arrays are sound.
         let _image = file.image();
-        let (_number, array) = array_at(file.alloc, &file.opened, path).ok()?;
-        let before = Dims::new(file.alloc, array.dims().sizes())?;
-        let kept = Dims::new(file.alloc, dims)?;
+        let (_number, array) = array_at(&file.opened, path).ok()?;
+        let before = Dims::new(array.dims().sizes())?;
+        let kept = Dims::new(dims)?;
         Some(Touched::Lost { before, kept })
     }
 
@@ -90,7 +89,6 @@ impl Touched {
     /// none. It takes no memory.
     pub(crate) fn boxes<'a>(
         &'a self,
-        alloc: Global,
         grid: &'a Dims,
         slab: &'a Slab,
     ) -> Option<MetBoxes<'a>>
@@ -100,8 +98,8 @@ impl Touched {
             MatchOption result (met ≡ []) (λ boxes. boxes ≡ met) }
     {
         match self {
-            Touched::Written(written) => written_boxes(alloc, grid, written, slab),
-            Touched::Lost { before, kept } => lost_boxes(alloc, before, kept, grid, slab),
+            Touched::Written(written) => written_boxes(grid, written, slab),
+            Touched::Lost { before, kept } => lost_boxes(before, kept, grid, slab),
         }
     }
 }

@@ -22,8 +22,8 @@ use crate::file::File;
 use crate::kept::Kept;
 use crate::session::Shown;
 use crate::touched::Touched;
-use h5_edit::{Dims, Slab, StoredArray, selected_at};
-use h5_model::{Hyper, ObjectNo, ViewFault};
+use h5_edit::{Dims, HyperRef, Slab, StoredArray, selected_at};
+use h5_model::{ObjectNo, ViewFault};
 use std::alloc::{AllocError, Global};
 
 /// An open view.
@@ -46,7 +46,7 @@ impl KeptView {
     pub(crate) fn open(
         file: &File,
         path: &[u8],
-        hyper: &Hyper,
+        hyper: &HyperRef<'_>,
         number: u32,
         is_full: bool,
     ) -> Result<KeptView, ViewFault>
@@ -58,7 +58,7 @@ impl KeptView {
             patches_in v.kept ≡ patches_at_first file.now.tree (view_of v)) }
         ensures refused { IfErr result (IsViewRefusedBy file.now.tree path.now hyper.now is_full) }
     {
-        let (object, array, slab) = match selected_at(file.alloc, &file.opened, path, hyper) {
+        let (object, array, slab) = match selected_at(&file.opened, path, hyper) {
             Ok(selected) => selected,
             Err(fault) => return Err(ViewFault::Path(fault)),
         };
@@ -199,7 +199,6 @@ fn patch_met(
 /// The same, where each box that one of the two meets is looked at.
 fn patch_each(
     kept: &mut Kept,
-    alloc: Global,
     array: &StoredArray<'_>,
     slab: &Slab,
     grid: &Dims,
@@ -212,7 +211,7 @@ fn patch_each(
     ensures met { IsMetPatched array.now touched.now slab.now kept.old result kept.new }
     ensures few { result ≤ 2 ^ 40 }
 {
-    let Some(boxes) = touched.boxes(alloc, grid, slab) else {
+    let Some(boxes) = touched.boxes(grid, slab) else {
         return 0;
     };
     kept.patch_boxes(array, slab, grid, boxes)
@@ -266,7 +265,7 @@ pub(crate) fn follow_all(
     let Some(array) = file.array(number) else {
         return 0;
     };
-    let chunk = array.chunk(file.alloc);
+    let chunk = array.chunk();
     let grid = box_sizes(&array, &chunk);
     follow_each(views, by_array, number, file.alloc, &array, grid, touched)
 }

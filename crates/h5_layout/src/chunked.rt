@@ -20,7 +20,6 @@ use h5_model::Fixed;
 use h5_msg::Layout;
 use h5_shape::MAX_RANK;
 use h5_space::Image;
-use std::alloc::Global;
 use std::marker::Model;
 
 /// An array in chunks: the type of its cells, their fill, the sizes of a chunk, and the root of the tree. It borrows
@@ -61,13 +60,13 @@ impl Model for ChunkedArray {
 
 impl ChunkedArray {
     /// The array of these messages, which is in chunks.
-    pub(crate) fn new(alloc: Global, image: &Image, messages: &Messages) -> ChunkedArray
+    pub(crate) fn new(image: &Image, messages: &Messages) -> ChunkedArray
         requires array { IsArrayApart image.now messages.now }
         requires chunked { IsChunked (described_in image.now.bytes messages.now).layout }
         ensures chunks { IsInChunksOf (described_in image.now.bytes messages.now) result }
         ensures sound { AreSoundChunks result }
     {
-        let array = known_array(alloc, image, messages);
+        let array = known_array(image, messages);
         ChunkedArray::of(&array)
     }
 

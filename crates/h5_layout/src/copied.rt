@@ -9,7 +9,6 @@ use crate::read::known_array;
 use h5_header::Messages;
 use h5_model::Fixed;
 use h5_space::Image;
-use std::alloc::Global;
 
 /// So many cells, each of which is to be the fill.
 #[derive(Clone, Copy, Drop)]
@@ -20,7 +19,7 @@ pub(crate) struct CellsToFill {
 }
 
 /// All cells of an array.
-pub(crate) fn copied_cells(alloc: Global, image: &Image, messages: &Messages) -> CellsToFill
+pub(crate) fn copied_cells(image: &Image, messages: &Messages) -> CellsToFill
     requires array { IsArrayApart image.now messages.now }
     ensures fixed { result.fixed ≡ (described_in image.now.bytes messages.now).fixed }
     ensures fill { result.fill ≡ (described_in image.now.bytes messages.now).fill }
@@ -28,7 +27,7 @@ pub(crate) fn copied_cells(alloc: Global, image: &Image, messages: &Messages) ->
         (described_in image.now.bytes messages.now).fill ≡ true }
     ensures count { result.count ≡ cells_of (described_in image.now.bytes messages.now).sizes }
 {
-    let array = known_array(alloc, image, messages);
+    let array = known_array(image, messages);
     CellsToFill {
         fixed: array.fixed(),
         fill: array.fill(),

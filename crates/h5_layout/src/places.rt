@@ -20,7 +20,6 @@ use h5_header::Messages;
 use h5_model::Fixed;
 use h5_msg::Layout;
 use h5_space::Image;
-use std::alloc::Global;
 use std::marker::Model;
 
 /// Where the cells of an array stand.
@@ -57,7 +56,7 @@ impl CellPlaces {
     /// The places of the cells of the array of these messages. Takes no memory.
     ///
     /// That the array was read, with its data, is the caller's condition.
-    pub fn new(alloc: Global, image: &Image, messages: &Messages) -> CellPlaces
+    pub fn new(image: &Image, messages: &Messages) -> CellPlaces
         requires within { IsWithin (length image.now.bytes) messages.now.list }
         requires dataset { IsOfDataset (messages_in image.now.bytes messages.now.list) }
         requires array { HasArray (messages_in image.now.bytes messages.now.list)
@@ -68,7 +67,7 @@ impl CellPlaces {
         ensures { ArePlacesOf image.now.bytes messages.now.list
             (array_told (messages_in image.now.bytes messages.now.list)) result }
     {
-        let array = known_array(alloc, image, messages);
+        let array = known_array(image, messages);
         CellPlaces {
             fixed: array.fixed(),
             stand: stand_of(image, messages, &array),

@@ -16,7 +16,6 @@ use h5_header::{Messages, find_body};
 use h5_model::message_type::{DATA_LAYOUT, DATASPACE, DATATYPE, FILL_VALUE, OLD_FILL_VALUE};
 use h5_model::{Cause, Fixed, OpenFault};
 use h5_space::Image;
-use std::alloc::Global;
 
 /// The array that the messages of a dataset describe. Takes no memory.
 ///
@@ -33,7 +32,6 @@ use std::alloc::Global;
 /// - `LayoutForm`: the Data Layout message has another form.
 /// - `TooLarge`: a chunk has more than 2^30 bytes.
 pub fn read_array<'a>(
-    alloc: Global,
     image: &'a Image,
     messages: &Messages,
 ) -> Result<ArrayRef<'a>, OpenFault>
@@ -49,7 +47,7 @@ pub fn read_array<'a>(
         ListBreach image.now.bytes messages.now.header (messages_in image.now.bytes messages.now.list)
         fault.cause) }
 {
-    match judge(alloc, image, messages) {
+    match judge(image, messages) {
         Ok(array) => Ok(array),
         Err(cause) => Err(OpenFault {
             cause,
@@ -61,20 +59,20 @@ pub fn read_array<'a>(
 /// The array of messages that are known to describe one. Takes no memory.
 ///
 /// That they do, and lie in the image, are the caller's conditions.
-pub fn known_array<'a>(alloc: Global, image: &'a Image, messages: &Messages) -> ArrayRef<'a>
+pub fn known_array<'a>(image: &'a Image, messages: &Messages) -> ArrayRef<'a>
     requires within { IsWithin (length image.now.bytes) messages.now.list }
     requires dataset { IsOfDataset (messages_in image.now.bytes messages.now.list) }
     requires array { (a : Described) × HasArray (messages_in image.now.bytes messages.now.list) a }
     ensures { result ≡ array_told (messages_in image.now.bytes messages.now.list) }
 {
-    match judge(alloc, image, messages) {
+    match judge(image, messages) {
         Ok(array) => array,
         Err(_) => unreachable!(),
     }
 }
 
 /// The array, or the first rule that these messages break.
-fn judge<'a>(alloc: Global, image: &'a Image, messages: &Messages) -> Result<ArrayRef<'a>, Cause>
+fn judge<'a>(image: &'a Image, messages: &Messages) -> Result<ArrayRef<'a>, Cause>
     requires within { IsWithin (length image.now.bytes) messages.now.list }
     requires dataset { IsOfDataset (messages_in image.now.bytes messages.now.list) }
     ensures read { IfOk result (λ array. HasArray (messages_in image.now.bytes messages.now.list) array) }
@@ -84,7 +82,7 @@ fn judge<'a>(alloc: Global, image: &'a Image, messages: &Messages) -> Result<Arr
     let extent = judge_sizes(one_body(image, messages, DATASPACE))?;
     let fixed = judge_datatype(one_body(image, messages, DATATYPE))?;
     let fill = judge_fills(image, messages, &fixed)?;
-    let dims = extent.dims(alloc);
+    let dims = extent.dims();
     let layout = judge_layout(&dims, &fixed, one_body(image, messages, DATA_LAYOUT))?;
     Ok(ArrayRef {
         fixed,

@@ -16,7 +16,6 @@ use crate::trimmed::{Outside, trim};
 use h5_header::Messages;
 use h5_shape::MAX_RANK;
 use h5_space::Image;
-use std::alloc::Global;
 
 /// Gives an array in chunks other sizes, where it stands. A cell inside the old and the new sizes keeps its value, and
 /// each other cell is the fill, also once the array is made larger again: nothing is stored outside its sizes any more.
@@ -27,7 +26,6 @@ use std::alloc::Global;
 /// smaller of the old and the new size in each dimension, or `None` where nothing is stored outside of these; there is
 /// room for what `set_sizes` may need, and for 16 calls of `give` for each chunk that goes.
 pub fn resize_array(
-    alloc: Global,
     image: &mut Image,
     messages: &mut Messages,
     sizes: &[u64],
@@ -45,7 +43,7 @@ pub fn resize_array(
         (calls_outside (option_copied outside.entry) + 1) }
 {
     if let Some(outside) = outside {
-        trim_to_smaller(alloc, image, messages, sizes, outside);
+        trim_to_smaller(image, messages, sizes, outside);
     }
     set_sizes(image, messages, sizes);
 }
@@ -54,7 +52,6 @@ pub fn resize_array(
 ///
 /// These are the caller's conditions: those of `trim` for the smaller sizes.
 fn trim_to_smaller(
-    alloc: Global,
     image: &mut Image,
     messages: &Messages,
     sizes: &[u64],
@@ -72,7 +69,7 @@ fn trim_to_smaller(
     let mut room = [0; MAX_RANK];
     let smaller = &mut room[..sizes.len()];
     write_smaller(image, messages, sizes, smaller);
-    trim(alloc, image, messages, smaller, outside);
+    trim(image, messages, smaller, outside);
 }
 
 /// Writes the smaller of the size that an array has and the one here in each dimension.

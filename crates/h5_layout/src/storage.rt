@@ -37,14 +37,12 @@ use h5_chunks::{
 use h5_header::Messages;
 use h5_msg::Layout;
 use h5_space::{Image, MAXIMUM_IMAGE, SpaceFault};
-use std::alloc::Global;
 
 /// Whether `make_storage` is refused before any change, if it is refused: one chunk at most is missing, or the root of the
 /// tree, or one that is to be made, is so low that the tree never gets too deep. Takes no memory.
 ///
 /// That the array was read, with its data, is the caller's condition.
 pub fn is_refused_first(
-    alloc: Global,
     image: &Image,
     messages: &Messages,
     missing: &Missing,
@@ -54,18 +52,18 @@ pub fn is_refused_first(
 {
     match missing {
         Missing::Block => true,
-        Missing::Chunks(new) => new.len() <= 1 || has_low_root(alloc, image, messages),
+        Missing::Chunks(new) => new.len() <= 1 || has_low_root(image, messages),
     }
 }
 
 /// Whether the root of the tree of chunks, or one that is made where there is none, is so low that the tree never gets too
 /// deep.
-fn has_low_root(alloc: Global, image: &Image, messages: &Messages) -> bool
+fn has_low_root(image: &Image, messages: &Messages) -> bool
     requires array { IsArrayApart image.now messages.now }
     ensures { result ≡ is_low_root image.now.bytes (described_in image.now.bytes messages.now)
         (described_in image.now.bytes messages.now).layout }
 {
-    let array = known_array(alloc, image, messages);
+    let array = known_array(image, messages);
     match array.layout() {
         Layout::Compact(_) => true,
         Layout::Contiguous(_) => true,
@@ -90,7 +88,6 @@ fn has_low_root(alloc: Global, image: &Image, messages: &Messages) -> bool
 /// `TreeTooDeep` exactly where the first of the missing chunks finds the root at level 15 and each node on its way full; else
 /// `ImageFull` exactly where the image has more than 2147483648 bytes with those that the storage may take.
 pub fn check_storage(
-    alloc: Global,
     image: &Image,
     messages: &Messages,
     missing: &Missing,
@@ -108,11 +105,11 @@ pub fn check_storage(
 {
     match missing {
         Missing::Block => {
-            let cells = copied_cells(alloc, image, messages);
+            let cells = copied_cells(image, messages);
             check_room(image, cells.count * cells.fixed.size() as u64)
         }
         Missing::Chunks(new) => {
-            let chunks = ChunkedArray::new(alloc, image, messages);
+            let chunks = ChunkedArray::new(image, messages);
             let shape = chunks.shape();
             if let Some(root) = chunks.root() {
                 if is_first_full(image, &shape, root, new) {
@@ -155,7 +152,6 @@ fn check_room(image: &Image, bytes: u64) -> Result<(), InsertFault>
 ///
 /// Where `is_refused_first` holds, a refusal changes nothing. Else what became of the image is left open.
 pub fn make_storage(
-    alloc: Global,
     image: &mut Image,
     messages: &Messages,
     missing: &Missing,
@@ -183,11 +179,11 @@ pub fn make_storage(
 {
     match missing {
         Missing::Block => {
-            let cells = copied_cells(alloc, image, messages);
+            let cells = copied_cells(image, messages);
             make_block(image, messages, &cells)
         }
         Missing::Chunks(new) => {
-            let chunks = ChunkedArray::new(alloc, image, messages);
+            let chunks = ChunkedArray::new(image, messages);
             make_chunks(image, messages, &chunks, new)
         }
     }

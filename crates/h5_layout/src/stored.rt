@@ -20,7 +20,6 @@ use h5_model::Fixed;
 use h5_msg::{Layout, value_at};
 use h5_shape::{CellRun, Dims, Slab};
 use h5_space::Image;
-use std::alloc::Global;
 use std::marker::Model;
 
 /// An array with the image in which its cells stand, in any layout.
@@ -81,14 +80,14 @@ impl<'a> StoredArray<'a> {
     }
 
     /// The sizes of its chunks, or `None` where it is not in chunks. It takes no memory.
-    pub fn chunk(&self, alloc: Global) -> Option<Dims>
+    pub fn chunk(&self) -> Option<Dims>
         ensures { MatchOption result (is_chunked self.now.storage ≡ false) (λ sizes.
             self.now.storage ≡ Chunked sizes) }
     {
         match self.array.layout() {
             Layout::Compact(_) => None,
             Layout::Contiguous(_) => None,
-            Layout::Chunked { sizes, .. } => Some(sizes.dims(alloc)),
+            Layout::Chunked { sizes, .. } => Some(sizes.dims()),
         }
     }
 

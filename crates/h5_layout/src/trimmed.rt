@@ -61,7 +61,7 @@ pub fn outside_of(
     ensures edge { IfOk result (λ outside.
         AreEdges image.now.bytes (described_in image.now.bytes messages.now) sizes.now outside.edge) }
 {
-    let array = ChunkedArray::new(alloc, image, messages);
+    let array = ChunkedArray::new(image, messages);
     let shape = array.shape();
     match array.root() {
         Some(root) => {
@@ -145,7 +145,7 @@ fn reaches_beyond(chunk: &[u64], sizes: &[u64], key: &[u8]) -> bool
 /// These are the caller's conditions: the array was read, with its data, on blocks that share no byte with each other,
 /// with the superblock or with a free block; it is in chunks, and there is a size for each of its own; `outside` is what
 /// `outside_of` gives for these sizes; and there is room for 16 calls of `give` for each chunk that goes.
-pub fn trim(alloc: Global, image: &mut Image, messages: &Messages, sizes: &[u64], outside: &Outside)
+pub fn trim(image: &mut Image, messages: &Messages, sizes: &[u64], outside: &Outside)
     requires array { IsArrayApart image.old messages.now }
     requires chunked { is_chunked (storage_of (described_in image.old.bytes messages.now).sizes
         (described_in image.old.bytes messages.now).layout) ≡ true }
@@ -158,7 +158,7 @@ pub fn trim(alloc: Global, image: &mut Image, messages: &Messages, sizes: &[u64]
     ensures trimmed { IsTrimmedTo image.old image.new messages.now sizes.now }
     ensures spends { Spends image.old image.new 0 (16 * length outside.now.lost.offsets) }
 {
-    let array = ChunkedArray::new(alloc, image, messages);
+    let array = ChunkedArray::new(image, messages);
     let Some(root) = array.root() else {
         return;
     };

@@ -20,7 +20,6 @@ use byteorder::{ByteOrder, LittleEndian};
 use h5_bytes::{before_zero, u16_at};
 use h5_model::Fixed;
 use h5_shape::Dims;
-use std::alloc::Global;
 use std::marker::Model;
 
 /// Where the name begins in versions 1 and 2. In version 3 the name's character set stands there.
@@ -65,10 +64,10 @@ impl<'a> AttributeBody<'a> {
     }
 
     /// The sizes. It takes no memory.
-    pub fn dims(&self, alloc: Global) -> Dims
+    pub fn dims(&self) -> Dims
         ensures { result ≡ self.now.1.sizes }
     {
-        self.extent.dims(alloc)
+        self.extent.dims()
     }
 
     /// How many values there are.

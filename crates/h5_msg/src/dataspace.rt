@@ -14,7 +14,6 @@ use crate::fault::FormFault;
 use byteorder::{ByteOrder, LittleEndian};
 use h5_bytes::{UNDEF, u64_at};
 use h5_shape::{Dims, MAX_RANK};
-use std::alloc::Global;
 use std::marker::Model;
 
 /// Where the sizes begin.
@@ -81,13 +80,13 @@ impl<'a> Dataspace<'a> {
     }
 
     /// The sizes. It takes no memory.
-    pub fn dims(&self, alloc: Global) -> Dims
+    pub fn dims(&self) -> Dims
         ensures { result ≡ self.now.sizes }
     {
         let rank = usize::from(self.body[1]);
         let mut sizes = [0; MAX_RANK];
         read_sizes(self.body, rank, &mut sizes[..rank]);
-        Dims::new(alloc, &sizes[..rank]).unwrap()
+        Dims::new(&sizes[..rank]).unwrap()
     }
 
     /// How many cells there are, or `u64::MAX` where there are more.

@@ -17,7 +17,6 @@ use byteorder::{ByteOrder, LittleEndian};
 use h5_bytes::{Block, UNDEF, u16_at, u32_at, u64_at};
 use h5_model::Fixed;
 use h5_shape::{Dims, MAX_RANK};
-use std::alloc::Global;
 use std::marker::Model;
 
 /// Where the chunk sizes begin.
@@ -105,7 +104,7 @@ impl<'a> ChunkSizes<'a> {
     }
 
     /// The chunk sizes, none of which is 0. It takes no memory.
-    pub fn dims(&self, alloc: Global) -> Dims
+    pub fn dims(&self) -> Dims
         ensures sizes { result ≡ self.now }
         ensures few { length self.now ≤ 32 }
         ensures some { list_any (λ n. n == 0) self.now ≡ false }
@@ -113,7 +112,7 @@ impl<'a> ChunkSizes<'a> {
         let mut sizes = [0; MAX_RANK];
         let rank = self.rank();
         read_sizes(self.place, &mut sizes[..rank]);
-        Dims::new(alloc, &sizes[..rank]).unwrap()
+        Dims::new(&sizes[..rank]).unwrap()
     }
 }
 

@@ -76,7 +76,7 @@ pub(crate) fn judge_group(
         fault.cause) }
 {
     check_names(alloc, image, messages)?;
-    check_bodies(alloc, image, messages)?;
+    check_bodies(image, messages)?;
     let body = find_body(image, messages, SYMBOL_TABLE).unwrap();
     let Ok(table) = read_symbol_table(body) else {
         return Err(fault(Cause::HeapForm, messages.header()));
@@ -107,7 +107,7 @@ pub(crate) fn judge_array<'a>(
         fault.cause) }
 {
     check_names(alloc, image, messages)?;
-    let array = read_array(alloc, image, messages)?;
-    check_bodies(alloc, image, messages)?;
+    let array = read_array(image, messages)?;
+    check_bodies(image, messages)?;
     Ok(array)
 }

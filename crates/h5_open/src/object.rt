@@ -182,7 +182,7 @@ fn claim_data(
             sizes,
             tree: Some(root),
         } => {
-            let chunk = sizes.dims(alloc);
+            let chunk = sizes.dims();
             claim_chunks(alloc, image, claims, array.fixed(), &chunk, *root)
         }
     }
@@ -233,7 +233,7 @@ pub(crate) fn claim_object(
     match &object.content {
         OpenedContent::Group(table) => read_group(alloc, image, claims, *table),
         OpenedContent::Array => {
-            let array = known_array(alloc, image, &object.messages);
+            let array = known_array(image, &object.messages);
             claim_data(alloc, image, claims, &array)
         }
     }

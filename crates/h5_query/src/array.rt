@@ -19,7 +19,6 @@ use h5_open::{
     ArrayExtent, ArrayRef, Opened, OpenedContent, StoredArray, known_array, known_extent,
 };
 use h5_space::Image;
-use std::alloc::Global;
 
 /// The array at the path, with its number. Takes no memory.
 ///
@@ -28,7 +27,6 @@ use std::alloc::Global;
 /// Those of [`crate::look`]; then `NotADataset` if no array stands at the path. Where several hold, the one with the
 /// lowest number.
 pub fn array_at<'a>(
-    alloc: Global,
     opened: &'a Opened,
     path: &[u8],
 ) -> Result<(u32, StoredArray<'a>), EditFault>
@@ -39,7 +37,7 @@ pub fn array_at<'a>(
 {
     let image = opened.image();
     let number = array_number(opened, path)?;
-    let array = described_of(alloc, opened, number);
+    let array = described_of(opened, number);
     Ok((number, StoredArray::new(image, array)))
 }
 
@@ -83,12 +81,12 @@ pub fn extent_at<'a>(opened: &'a Opened, path: &[u8]) -> Result<(u32, ArrayExten
 /// The array with this number, as its header describes it. Its data stand in the image. Takes no memory.
 ///
 /// That an array has the number is the caller's condition.
-pub fn described_of<'a>(alloc: Global, opened: &'a Opened, number: u32) -> ArrayRef<'a>
+pub fn described_of<'a>(opened: &'a Opened, number: u32) -> ArrayRef<'a>
     requires { (d : Dataset) × dataset_of opened.now.tree number ≡ Some d }
     ensures there { IsArrayThere opened.now number result }
     ensures stored { AreDataRead opened.now.image result.fixed result.layout }
 {
-    known_array(alloc, opened.image(), array_messages(opened, number))
+    known_array(opened.image(), array_messages(opened, number))
 }
 
 /// The messages of the array with this number.
@@ -105,20 +103,19 @@ fn array_messages(opened: &Opened, number: u32) -> &Messages
 }
 
 /// The array with this number, or `None` where no array has it. Takes no memory.
-pub fn array_of<'a>(alloc: Global, opened: &'a Opened, number: ObjectNo) -> Option<StoredArray<'a>>
+pub fn array_of<'a>(opened: &'a Opened, number: ObjectNo) -> Option<StoredArray<'a>>
     ensures { let tree = opened.now.tree in
         MatchOption result (IsNoDataset tree number.0) (λ array. dataset_of tree number.0 ≡ Some array) }
 {
     let object = opened.object(number.0)?;
     match &object.content {
-        OpenedContent::Array => Some(stored_array(alloc, opened.image(), &object.messages)),
+        OpenedContent::Array => Some(stored_array(opened.image(), &object.messages)),
         OpenedContent::Group(_) => None,
     }
 }
 
 /// The array that the messages of a header describe.
 pub(crate) fn stored_array<'a>(
-    alloc: Global,
     image: &'a Image,
     messages: &Messages,
 ) -> StoredArray<'a>
@@ -126,5 +123,5 @@ pub(crate) fn stored_array<'a>(
     ensures { let ms = messages_in image.now.bytes messages.now.list in
         result ≡ array_dataset image.now.bytes ms }
 {
-    StoredArray::new(image, known_array(alloc, image, messages))
+    StoredArray::new(image, known_array(image, messages))
 }

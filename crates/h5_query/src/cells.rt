@@ -8,7 +8,6 @@ ghost use Rattle.h5_query.specs.Look.{HasCell};
 use crate::array::array_at;
 use h5_model::EditFault;
 use h5_open::Opened;
-use std::alloc::Global;
 
 /// The value of one cell of the array at the path. The index has one number for each dimension, counted in cells.
 /// Takes no memory.
@@ -18,7 +17,6 @@ use std::alloc::Global;
 /// Those of [`crate::array_at`]; then `RankMismatch` if the index has not one number for each dimension; then
 /// `OutOfExtent` if a number is not below the size of its dimension.
 pub fn one_cell(
-    alloc: Global,
     opened: &Opened,
     path: &[u8],
     index: &[u64],
@@ -27,7 +25,7 @@ pub fn one_cell(
         MatchResult result (HasCell tree path.now index.now) (λ e.
         first_holding (cell_rules tree path.now index.now) ≡ Some e) }
 {
-    let (_, array) = array_at(alloc, opened, path)?;
+    let (_, array) = array_at(opened, path)?;
     let dims = array.array().dims();
     if index.len() != dims.sizes().len() {
         return Err(EditFault::RankMismatch);

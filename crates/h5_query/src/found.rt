@@ -46,7 +46,7 @@ pub fn found_at<'a>(alloc: Global, opened: &'a Opened, path: &[u8]) -> Result<Fo
         OpenedContent::Array => Ok(Found::Array {
             number,
             attributes,
-            array: stored_array(alloc, opened.image(), &object.messages),
+            array: stored_array(opened.image(), &object.messages),
         }),
     }
 }

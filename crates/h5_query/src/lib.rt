@@ -25,7 +25,7 @@ pub use h5_open::{
     OpenedContent, OpenedObject, Piece, Runs, StandingCells, StoredArray, SymbolTable, Values,
     entries, get, known_array, new_body, sorted,
 };
-pub use h5_shape::{Slab, SlabFault};
+pub use h5_shape::{HyperRef, Slab, SlabFault};
 pub use kind::{Kind, StoreKind};
 pub use links::{kind_at, names_at, store_of};
 pub use path::MAX_DEPTH;

@@ -27,7 +27,7 @@ const UNLIMITED: u64 = u64::MAX;
 /// # Errors
 ///
 /// Those of [`crate::look`].
-pub fn kind_at<'a>(alloc: Global, opened: &'a Opened, path: &[u8]) -> Result<Kind<'a>, EditFault>
+pub fn kind_at<'a>(opened: &'a Opened, path: &[u8]) -> Result<Kind<'a>, EditFault>
     ensures { let tree = opened.now.tree in
         MatchResult result (HasKind tree path.now) (λ e. first_holding (path_rules tree path.now) ≡ Some e) }
 {
@@ -35,8 +35,8 @@ pub fn kind_at<'a>(alloc: Global, opened: &'a Opened, path: &[u8]) -> Result<Kin
         Place::Object { object, .. } => match &object.content {
             OpenedContent::Group(_) => Ok(Kind::Group),
             OpenedContent::Array => {
-                let array = stored_array(alloc, opened.image(), &object.messages);
-                Ok(array_kind(alloc, &array))
+                let array = stored_array(opened.image(), &object.messages);
+                Ok(array_kind(&array))
             }
         },
         Place::Soft(text) => Ok(Kind::Soft(text)),
@@ -44,27 +44,27 @@ pub fn kind_at<'a>(alloc: Global, opened: &'a Opened, path: &[u8]) -> Result<Kin
 }
 
 /// An array as it is shown.
-fn array_kind<'a>(alloc: Global, array: &StoredArray<'_>) -> Kind<'a>
+fn array_kind<'a>(array: &StoredArray<'_>) -> Kind<'a>
     ensures { IsArrayKind array.now result }
 {
     let array = array.array();
     Kind::Dataset {
         fixed: array.fixed(),
-        dims: Dims::new(alloc, array.dims().sizes()).unwrap(),
-        maxima: show_maxima(alloc, array),
-        store: store_kind(alloc, array.layout()),
+        dims: Dims::new(array.dims().sizes()).unwrap(),
+        maxima: show_maxima(array),
+        store: store_kind(array.layout()),
         fill: array.fill(),
     }
 }
 
 /// The maxima of an array as they are shown.
-fn show_maxima(alloc: Global, array: &ArrayRef<'_>) -> Dims
+fn show_maxima(array: &ArrayRef<'_>) -> Dims
     ensures { result ≡ map shown_maximum array.now.maxima }
 {
     let rank = array.dims().sizes().len();
     let mut maxima = [0; MAX_RANK];
     write_maxima(array, &mut maxima[..rank]);
-    Dims::new(alloc, &maxima[..rank]).unwrap()
+    Dims::new(&maxima[..rank]).unwrap()
 }
 
 /// Writes the maxima of an array, 2^64 - 1 for one that is unlimited.
@@ -78,20 +78,20 @@ fn write_maxima(array: &ArrayRef<'_>, shown: &mut [u64])
 }
 
 /// How the cells of an array are stored. Chunks come with their sizes, in cells. Takes no memory.
-pub fn store_of(alloc: Global, array: &StoredArray<'_>) -> StoreKind
+pub fn store_of(array: &StoredArray<'_>) -> StoreKind
     ensures { IsStored array.now.storage result }
 {
-    store_kind(alloc, array.array().layout())
+    store_kind(array.array().layout())
 }
 
 /// How the cells of a layout are stored.
-fn store_kind(alloc: Global, layout: &Layout<'_>) -> StoreKind
+fn store_kind(layout: &Layout<'_>) -> StoreKind
     ensures { (sizes : List ℕ) → IsStored (storage_of sizes (layout_in layout.now)) result }
 {
     match layout {
         Layout::Compact(_) => StoreKind::Compact,
         Layout::Contiguous(_) => StoreKind::Contiguous,
-        Layout::Chunked { sizes, .. } => StoreKind::Chunked(sizes.dims(alloc)),
+        Layout::Chunked { sizes, .. } => StoreKind::Chunked(sizes.dims()),
     }
 }
 

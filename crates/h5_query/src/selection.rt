@@ -7,10 +7,9 @@ ghost use Rattle.h5_model.specs.Views.Selection.{axes_of};
 ghost use Rattle.h5_query.specs.Selected.{HasRuns, IsSelectedAt, IsSlabOf, fault_of_slab, hyper_rules};
 
 use crate::array::array_at;
-use h5_model::{EditFault, Hyper};
+use h5_model::EditFault;
 use h5_open::{Dims, Opened, Runs, StoredArray};
-use h5_shape::{Slab, SlabFault};
-use std::alloc::Global;
+use h5_shape::{HyperRef, Slab, SlabFault};
 
 /// The selected cells of the array at the path, as runs: pieces of consecutive cells, lent as they stand in the
 /// image. Neither the call nor a step of the runs takes memory.
@@ -19,16 +18,15 @@ use std::alloc::Global;
 ///
 /// Those of [`crate::array_at`], then those of [`slab_within`].
 pub fn runs_at<'a>(
-    alloc: Global,
     opened: &'a Opened,
     path: &[u8],
-    hyper: &Hyper,
+    hyper: &HyperRef<'_>,
 ) -> Result<Runs<'a>, EditFault>
     ensures { let tree = opened.now.tree in
         MatchResult result (HasRuns tree path.now hyper.now) (λ e.
         first_holding (selection_rules tree path.now hyper.now) ≡ Some e) }
 {
-    let (_, array, slab) = selected_at(alloc, opened, path, hyper)?;
+    let (_, array, slab) = selected_at(opened, path, hyper)?;
     Ok(array.runs(&slab))
 }
 
@@ -39,16 +37,15 @@ pub fn runs_at<'a>(
 ///
 /// Those of [`crate::array_at`], then those of [`slab_within`].
 pub fn selected_at<'a>(
-    alloc: Global,
     opened: &'a Opened,
     path: &[u8],
-    hyper: &Hyper,
+    hyper: &HyperRef<'_>,
 ) -> Result<(u32, StoredArray<'a>, Slab), EditFault>
     ensures { let tree = opened.now.tree in
         MatchResult result (IsSelectedAt tree path.now hyper.now) (λ e.
         first_holding (selection_rules tree path.now hyper.now) ≡ Some e) }
 {
-    let (number, array) = array_at(alloc, opened, path)?;
+    let (number, array) = array_at(opened, path)?;
     let slab = slab_within(array.array().dims(), hyper)?;
     Ok((number, array, slab))
 }
@@ -63,13 +60,13 @@ pub fn selected_at<'a>(
 /// - `StrideZero`: a stride is 0.
 /// - `BlocksOverlap`: a stride is below its block, and there is more than one block.
 /// - `OutOfExtent`: a selected cell is outside the sizes.
-pub fn slab_within(dims: &Dims, hyper: &Hyper) -> Result<Slab, EditFault>
+pub fn slab_within(dims: &Dims, hyper: &HyperRef<'_>) -> Result<Slab, EditFault>
     ensures rules { let rules = hyper_rules dims.now hyper.now in
         MatchResult result (λ slab. (first_holding rules ≡ None) × (slab ≡ axes_of hyper.now)) (λ e.
         first_holding rules ≡ Some e) }
     ensures inside { IfOk result (IsSlabOf dims.now) }
 {
-    if hyper.start.as_slice().len() != dims.sizes().len() {
+    if hyper.start().len() != dims.sizes().len() {
         return Err(EditFault::RankMismatch);
     }
     let slab = match Slab::new(hyper) {

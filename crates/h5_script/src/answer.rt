@@ -13,7 +13,7 @@ ghost use Rattle.h5_script.specs.Runs.{Tells};
 use crate::fault::RunFault;
 use crate::ran::Outcome;
 use h5_command::Command;
-use h5_dump::{DumpFault, Session, push_list, write_dump};
+use h5_dump::{DumpFault, HyperRef, Session, push_list, write_dump};
 use h5_model::{Edit, EditFault, Hyper, ViewFault, ViewNo};
 use h5_text::{
     push_accepted, push_opened, push_refused, push_text, push_view_fault, write_shown, write_text,
@@ -46,7 +46,7 @@ pub(crate) fn answer<W: Write>(
         Command::Show(number) => show(session, *number, text, output),
         Command::Close(number) => tell(close_view(session, *number, text), text, output),
         Command::ListAll => tell(list(alloc, session, text), text, output),
-        Command::Dump { path } => dump(alloc, session, path.as_slice(), text, output),
+        Command::Dump { path } => dump(session, path.as_slice(), text, output),
         Command::Repack => tell(repack(session, text), text, output),
         Command::Unread => tell(bad_line(text), text, output),
     }
@@ -121,7 +121,7 @@ fn open_view(
         MatchResult result (IsAnswered session.old asked session.new text.new.items)
         (λ _. IsUntold session.old asked session.new) }
 {
-    match session.open_view(path, hyper) {
+    match session.open_view(path, &HyperRef::of(hyper)) {
         Ok(view) => {
             push_opened(text, view.0)?;
             Ok(Outcome::Told)
@@ -194,7 +194,6 @@ fn list(alloc: Global, session: &Session, text: &mut Vec<u8>) -> Result<Outcome,
 
 /// Dumps what stands at the path.
 fn dump<W: Write>(
-    alloc: Global,
     session: &Session,
     path: &[u8],
     text: &mut Vec<u8>,
@@ -203,7 +202,7 @@ fn dump<W: Write>(
     ensures { Tells result session.now (lines.Dump path.now) session.now (W.contents output.old)
         (W.contents output.new) }
 {
-    match write_dump(alloc, text, session.file(), path, output) {
+    match write_dump(text, session.file(), path, output) {
         Ok(()) => Ok(Outcome::Told),
         Err(DumpFault::Refused(fault)) => tell(refused_instead(text, fault), text, output),
         Err(DumpFault::Cut(reason)) => Err(RunFault::from(reason)),

@@ -2,8 +2,6 @@
 ghost use Rattle.std.specs.Prelude.{◌≡◌, ◌-◌, ◌^◌, ◌<◌, ◌≤◌, ◌↔◌, IsTrue, IsSome, IfSome, length, min, nat_le};
 ghost use Rattle.h5_model.specs.Tree.Places.{cells as cells_of, extent_cells, place_of, IsInside, is_inside as inside};
 
-use smallvec::SmallVec;
-use std::alloc::Global;
 use std::marker::Model;
 
 /// The largest number of dimensions.
@@ -16,30 +14,33 @@ pub const MAX_CELLS: u64 = 1 << 40;
 /// No size makes a scalar, with one cell.
 #[derive(Debug, Drop)]
 pub struct Dims {
-    sizes: SmallVec<u64, 32>,
+    sizes: [u64; 32],
+    rank: usize,
 }
 
 impl Model for Dims {
-    ghost use Rattle.std.specs.Prelude.{List, ℕ, ◌≤◌, length};
+    ghost use Rattle.std.specs.Prelude.{List, ℕ, ◌≤◌, take};
 
     ghost Value = { List ℕ };
 
-    ghost view = { λ d. d.sizes.items };
+    ghost view = { λ d. take d.rank d.sizes };
 
-    ghost invariant = { λ d. length d.sizes.items ≤ 32 };
+    ghost invariant = { λ d. d.rank ≤ 32 };
 }
 
 impl Dims {
     /// These sizes, or `None` where there are more than 32. It takes no memory.
-    pub fn new(alloc: Global, sizes: &[u64]) -> Option<Dims>
+    pub fn new(sizes: &[u64]) -> Option<Dims>
         ensures exact { IsSome result ↔ (length sizes.now ≤ 32) }
         ensures numbers { IfSome result (λ dims. dims ≡ sizes.now) }
     {
-        if sizes.len() > MAX_RANK {
+        let rank = sizes.len();
+        if rank > MAX_RANK {
             return None;
         }
-        let sizes = SmallVec::from_slice(alloc, sizes).ok()?;
-        Some(Dims { sizes })
+        let mut room = [0; MAX_RANK];
+        room[..rank].copy_from_slice(sizes);
+        Some(Dims { sizes: room, rank })
     }
 
     /// The sizes, in cells, with the dimension that runs slowest first.
@@ -47,7 +48,7 @@ impl Dims {
         ensures numbers { result.now ≡ self.now }
         ensures rank { length self.now ≤ 32 }
     {
-        self.sizes.as_slice()
+        &self.sizes[..self.rank]
     }
 
     /// How many cells there are, or `u64::MAX` where there are more.

@@ -2,6 +2,7 @@
 #![tactic(auto)]
 
 mod dims;
+mod hyper;
 mod loops;
 mod met;
 mod parts;
@@ -11,6 +12,7 @@ mod slab;
 mod spans;
 
 pub use dims::{Dims, MAX_CELLS, MAX_RANK};
+pub use hyper::HyperRef;
 pub use met::{MetBoxes, lie_apart, lost_boxes, written_boxes};
 pub use parts::{ChunkParts, Span};
 pub use runs::{CellRun, CellRuns};

@@ -12,7 +12,6 @@ use crate::parts::{ChunkParts, Span};
 use crate::slab::Slab;
 use crate::spans::numbers_below;
 use h5_model::Axis;
-use std::alloc::Global;
 use std::marker::Model;
 
 /// What a box is to hold besides.
@@ -28,7 +27,6 @@ enum MetTest<'a> {
 /// order. It takes no memory.
 #[derive(Drop)]
 pub struct MetBoxes<'a> {
-    alloc: Global,
     parts: ChunkParts<'a>,
     grid: &'a [u64],
     test: MetTest<'a>,
@@ -65,7 +63,6 @@ pub fn lie_apart(grid: &Dims, written: &Slab, view: &Slab) -> bool
 /// Each box that the write meets is looked at once, in time by the number of dimensions. That there are as many
 /// dimensions of each, and that no selected index of the write passes `u64::MAX`, are the caller's conditions.
 pub fn written_boxes<'a>(
-    alloc: Global,
     grid: &'a Dims,
     written: &'a Slab,
     view: &'a Slab,
@@ -82,7 +79,7 @@ pub fn written_boxes<'a>(
         return None;
     }
     let test = MetTest::Selects(view.axes());
-    Some(tested_boxes(alloc, written, grid, test))
+    Some(tested_boxes(written, grid, test))
 }
 
 /// The boxes of the grid of chunks that hold a cell of a view and a cell that the array loses when it gets the sizes
@@ -91,7 +88,6 @@ pub fn written_boxes<'a>(
 /// Each box that the view meets is looked at once, in time by the number of dimensions. That there are as many
 /// dimensions of each, and that no selected index of the view passes `u64::MAX`, are the caller's conditions.
 pub fn lost_boxes<'a>(
-    alloc: Global,
     sizes: &'a Dims,
     kept: &'a Dims,
     grid: &'a Dims,
@@ -115,16 +111,11 @@ pub fn lost_boxes<'a>(
         sizes: sizes.sizes(),
         kept: kept.sizes(),
     };
-    Some(tested_boxes(alloc, view, grid, test))
+    Some(tested_boxes(view, grid, test))
 }
 
 /// The boxes of these sizes, none of them 0, that hold a selected index and pass a test.
-fn tested_boxes<'a>(
-    alloc: Global,
-    slab: &'a Slab,
-    grid: &'a [u64],
-    test: MetTest<'a>,
-) -> MetBoxes<'a>
+fn tested_boxes<'a>(slab: &'a Slab, grid: &'a [u64], test: MetTest<'a>) -> MetBoxes<'a>
     requires few { length grid.now ≤ 32 }
     requires sized { list_any (λ d. d == 0) grid.now ≡ false }
     requires rank { length grid.now ≡ length slab.now }
@@ -133,7 +124,6 @@ fn tested_boxes<'a>(
     ensures { AreTestedOf slab.now grid.now test.entry result }
 {
     MetBoxes {
-        alloc,
         parts: slab.chunk_parts(grid),
         grid,
         test,
@@ -153,7 +143,7 @@ impl<'a> Iterator for MetBoxes<'a> {
         if !next_met(&mut self.parts, self.grid, self.test, &mut first[..rank]) {
             return None;
         }
-        Dims::new(self.alloc, &first[..rank])
+        Dims::new(&first[..rank])
     }
 }
 

@@ -6,9 +6,10 @@ ghost use Rattle.h5_shape.specs.OneRun.{IsOneRun};
 ghost use Rattle.h5_shape.specs.InnerRuns.{HasNoInnerRun, IsInnerRun, follow_on, selects_along as selects_some};
 
 use crate::dims::Dims;
+use crate::hyper::HyperRef;
 use crate::runs::CellRun;
 use crate::slab::fits_size;
-use h5_model::{Axis, Hyper};
+use h5_model::Axis;
 
 /// The selected cells of the inner dimensions, where they are a run.
 #[derive(Clone, Copy)]
@@ -25,7 +26,7 @@ struct InnerRun {
 ///
 /// `None` where the lists are no selection within the sizes, where they select no cell, or where the selected cells
 /// are more than one run. Takes no memory. That there are at most 2^40 cells is the caller's condition.
-pub fn one_run(dims: &Dims, hyper: &Hyper) -> Option<CellRun>
+pub fn one_run(dims: &Dims, hyper: &HyperRef<'_>) -> Option<CellRun>
     requires small { cells_of dims.now ≤ 2 ^ 40 }
     ensures run { IfSome result (IsOneRun dims.now hyper.now) }
     ensures exact { (run : CellRun) → IsOneRun dims.now hyper.now run → IsSome result }
@@ -39,17 +40,17 @@ pub fn one_run(dims: &Dims, hyper: &Hyper) -> Option<CellRun>
 }
 
 /// Whether each of the lists has a number for each of so many dimensions.
-fn has_rank(rank: usize, hyper: &Hyper) -> bool
+fn has_rank(rank: usize, hyper: &HyperRef<'_>) -> bool
     ensures { result ≡ is_of_rank rank hyper.now }
 {
-    hyper.start.as_slice().len() == rank
-        && hyper.stride.as_slice().len() == rank
-        && hyper.count.as_slice().len() == rank
-        && hyper.block.as_slice().len() == rank
+    hyper.start().len() == rank
+        && hyper.stride().len() == rank
+        && hyper.count().len() == rank
+        && hyper.block().len() == rank
 }
 
 /// The axis of dimension k.
-fn axis_at(hyper: &Hyper, k: usize) -> Axis
+fn axis_at(hyper: &HyperRef<'_>, k: usize) -> Axis
     requires start { k < length hyper.now.start }
     requires stride { k < length hyper.now.stride }
     requires count { k < length hyper.now.count }
@@ -57,15 +58,15 @@ fn axis_at(hyper: &Hyper, k: usize) -> Axis
     ensures { drop k (axes_of hyper.now) ≡ result ∷ drop (k + 1) (axes_of hyper.now) }
 {
     Axis {
-        start: hyper.start.as_slice()[k],
-        stride: hyper.stride.as_slice()[k],
-        count: hyper.count.as_slice()[k],
-        block: hyper.block.as_slice()[k],
+        start: hyper.start()[k],
+        stride: hyper.stride()[k],
+        count: hyper.count()[k],
+        block: hyper.block()[k],
     }
 }
 
 /// The run of the selected cells of the dimensions from k on.
-fn run_from(sizes: &[u64], hyper: &Hyper, k: usize) -> Option<InnerRun>
+fn run_from(sizes: &[u64], hyper: &HyperRef<'_>, k: usize) -> Option<InnerRun>
     requires rank { is_of_rank (length sizes.now) hyper.now ≡ true }
     requires small { cells_of (drop k sizes.now) ≤ 2 ^ 40 }
     ensures { MatchOption result (HasNoInnerRun (drop k sizes.now) (drop k (axes_of hyper.now)))

@@ -8,10 +8,11 @@ ghost use Rattle.h5_shape.specs.PartCells.{AreParted};
 ghost use Rattle.h5_shape.specs.Runs.{AreMaximal, places_in, cell_runs};
 
 use crate::dims::{Dims, MAX_RANK};
+use crate::hyper::HyperRef;
 use crate::loops::LoopNest;
 use crate::parts::ChunkParts;
 use crate::runs::CellRuns;
-use h5_model::{Axis, Hyper};
+use h5_model::Axis;
 use std::marker::Model;
 use thiserror::Error;
 
@@ -61,13 +62,13 @@ impl Slab {
     /// - `RankMismatch`: the lists have different lengths, or more than 32 numbers.
     /// - `StrideZero`: a stride is 0.
     /// - `BlocksOverlap`: a stride is below its block, and there is more than one block.
-    pub fn new(hyper: &Hyper) -> Result<Slab, SlabFault>
+    pub fn new(hyper: &HyperRef<'_>) -> Result<Slab, SlabFault>
         ensures { result ≡ slab_of hyper.now }
     {
-        let start = hyper.start.as_slice();
-        let stride = hyper.stride.as_slice();
-        let count = hyper.count.as_slice();
-        let block = hyper.block.as_slice();
+        let start = hyper.start();
+        let stride = hyper.stride();
+        let count = hyper.count();
+        let block = hyper.block();
         let rank = start.len();
         if rank > MAX_RANK || stride.len() != rank || count.len() != rank || block.len() != rank {
             return Err(SlabFault::RankMismatch);

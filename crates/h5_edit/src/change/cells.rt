@@ -31,7 +31,7 @@ pub(crate) fn kept_array<'a>(
     ensures chunks { let ms = messages_in image.now.bytes messages.now.list in
         IfOk result (AreChunksKept image.now.bytes ms (array_dataset image.now.bytes ms)) }
 {
-    let array = known_array(alloc, image, messages);
+    let array = known_array(image, messages);
     let cells = kept_cells(alloc, image, &array)?;
     Ok(NewContent::Array { array, cells })
 }

@@ -11,18 +11,17 @@ ghost use Rattle.h5_edit.specs.Changed.Cells.{HasChunkSizes, IsNewLayout, new_co
 use h5_layout::ChunkSizes;
 use h5_model::{Spec, Store};
 use h5_query::{ArrayRef, Dims, Layout};
-use std::alloc::Global;
 
 /// As many bytes as the cells of a compact array may have. The layout of one names bytes of its cells, and a new array has none that it
 /// could name: each cell is the fill, and the writer makes their bytes itself.
 static ROOM: [u8; 65524] = [0; 65524];
 
 /// A new array, whose cells are to be written as the fill.
-pub(crate) fn array_from<'a>(alloc: Global, spec: &'a Spec) -> ArrayRef<'a>
+pub(crate) fn array_from<'a>(spec: &'a Spec) -> ArrayRef<'a>
     requires { (others : ℕ) × IsPlainArray (new_dataset spec.now) others }
     ensures { IsNewArray result Filled (new_dataset spec.now) }
 {
-    let dims = Dims::new(alloc, spec.dims.as_slice()).unwrap();
+    let dims = Dims::new(spec.dims.as_slice()).unwrap();
     let maxima = spec.maxima.as_slice();
     let layout = layout_from(&spec.store);
     ArrayRef::new(spec.fixed, dims, maxima, spec.fill, layout)

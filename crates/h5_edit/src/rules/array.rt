@@ -13,7 +13,6 @@ use crate::rules::store::{are_maxima, is_chunk_large, is_compact_large, is_store
 use h5_layout::fits;
 use h5_model::{EditFault, Spec};
 use h5_query::{Dims, Opened};
-use std::alloc::Global;
 
 /// Where a new array is to stand.
 ///
@@ -37,7 +36,6 @@ use std::alloc::Global;
 /// - `ValueRange`: the fill is not a value of the type.
 /// - `TooManyObjects`: no object number is left.
 pub fn check_create_dataset<'a>(
-    alloc: Global,
     opened: &Opened,
     path: &'a [u8],
     spec: &Spec,
@@ -49,7 +47,7 @@ pub fn check_create_dataset<'a>(
     ensures typed { IfOk result (λ _. AllZip IsBound (spec.now).dims (spec.now).maxima) }
 {
     let place = new_place(opened, path)?;
-    check_spec(alloc, spec)?;
+    check_spec(spec)?;
     if is_full(opened) {
         return Err(EditFault::TooManyObjects);
     }
@@ -57,19 +55,19 @@ pub fn check_create_dataset<'a>(
 }
 
 /// Why the array is refused wherever it is to stand, by the lowest number that holds.
-fn check_spec(alloc: Global, spec: &Spec) -> Result<(), EditFault>
+fn check_spec(spec: &Spec) -> Result<(), EditFault>
     ensures rules { let rules = spec_rules spec.now in
         MatchResult result (λ _. first_holding rules ≡ None) (λ e. first_holding rules ≡ Some e) }
     ensures typed { IfOk result (λ _. AllZip IsBound (spec.now).dims (spec.now).maxima) }
 {
     let maxima = spec.maxima.as_slice();
-    let Some(dims) = Dims::new(alloc, spec.dims.as_slice()) else {
+    let Some(dims) = Dims::new(spec.dims.as_slice()) else {
         return Err(EditFault::BadSpec);
     };
     if !are_maxima(dims.sizes(), maxima) || !is_store(&spec.store, dims.sizes(), maxima) {
         return Err(EditFault::BadSpec);
     }
-    if is_chunk_large(alloc, &spec.store, spec.fixed.size()) {
+    if is_chunk_large(&spec.store, spec.fixed.size()) {
         return Err(EditFault::ChunkTooLarge);
     }
     if is_compact_large(&spec.store, &dims, spec.fixed.size()) {

@@ -16,7 +16,6 @@ use crate::rules::text::is_no_text;
 use crate::rules::values::are_of_type;
 use h5_model::{AttrSpec, EditFault};
 use h5_query::{Dims, Opened, get};
-use std::alloc::Global;
 
 /// The number of the object whose attribute is to be set. Takes no memory.
 ///
@@ -36,7 +35,6 @@ use std::alloc::Global;
 /// - `ValueRange`: a value is not one of the type.
 /// - `AttributeTooLarge`: the body of the message would have more than 65528 bytes.
 pub fn check_set_attr(
-    alloc: Global,
     opened: &Opened,
     path: &[u8],
     attr: &AttrSpec,
@@ -49,7 +47,7 @@ pub fn check_set_attr(
     ensures sound { IsSound opened.now }
 {
     let object = object_at(opened, path)?;
-    check_own(alloc, attr)?;
+    check_own(attr)?;
     Ok(object.number)
 }
 
@@ -84,7 +82,7 @@ pub fn check_remove_attr(opened: &Opened, path: &[u8], name: &[u8]) -> Result<u3
 }
 
 /// Why the attribute is refused wherever it is to stand, by the lowest number that holds.
-fn check_own(alloc: Global, attr: &AttrSpec) -> Result<(), EditFault>
+fn check_own(attr: &AttrSpec) -> Result<(), EditFault>
     ensures rules { let rules = own_rules attr.now in
         MatchResult result (λ _. first_holding rules ≡ None) (λ e. first_holding rules ≡ Some e) }
     ensures typed { IfOk result (λ _. IsFixed (attr.now).fixed) }
@@ -94,7 +92,7 @@ fn check_own(alloc: Global, attr: &AttrSpec) -> Result<(), EditFault>
     if name.len() > MAX_NAME {
         return Err(EditFault::NameTooLong);
     }
-    let Some(dims) = Dims::new(alloc, attr.dims.as_slice()) else {
+    let Some(dims) = Dims::new(attr.dims.as_slice()) else {
         return Err(EditFault::BadSpec);
     };
     if is_no_text(name) {

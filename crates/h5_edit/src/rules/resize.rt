@@ -9,7 +9,6 @@ ghost use Rattle.h5_edit.specs.Refusals.Allowed.{IsResizeAt, IsRuledOut};
 
 use h5_model::EditFault;
 use h5_query::{ArrayExtent, Dims, Opened, extent_at};
-use std::alloc::Global;
 
 /// The number of the array that is to have these sizes.
 ///
@@ -17,7 +16,6 @@ use std::alloc::Global;
 /// soft link stands there, `RankMismatch`, `NotChunked` where the cells are not in chunks, whatever the sizes, `AboveMaximum` where a size
 /// is above its maximum, `TooManyCells` where the product of the sizes other than 0 is above 2^40. It takes no memory.
 pub(crate) fn check_resize(
-    alloc: Global,
     opened: &Opened,
     path: &[u8],
     dims: &[u64],
@@ -38,7 +36,7 @@ pub(crate) fn check_resize(
     if is_above(&extent, 0, dims) {
         return Err(EditFault::AboveMaximum);
     }
-    if !Dims::new(alloc, dims).unwrap().is_small() {
+    if !Dims::new(dims).unwrap().is_small() {
         return Err(EditFault::TooManyCells);
     }
     Ok(number)

@@ -13,7 +13,6 @@ use h5_bytes::UNDEF;
 use h5_layout::ChunkSizes;
 use h5_model::Store;
 use h5_query::Dims;
-use std::alloc::Global;
 
 /// Whether there is a maximum for each size, none below it, and none the mark of an unlimited one.
 pub(crate) fn are_maxima(sizes: &[u64], maxima: &[Option<u64>]) -> bool
@@ -87,13 +86,13 @@ fn is_chunk_size(size: u32, maximum: Option<u64>) -> bool
 }
 
 /// Whether a chunk of cells of so many bytes would have more than 2^30 bytes.
-pub(crate) fn is_chunk_large(alloc: Global, store: &Store, size: usize) -> bool
+pub(crate) fn is_chunk_large(store: &Store, size: usize) -> bool
     requires { HasChunkSizes store.now }
     ensures { result ≡ rule.chunk_is_large store.now size }
 {
     match store {
         Store::Chunked(chunk) => {
-            let dims = ChunkSizes::new(chunk.as_slice()).dims(alloc);
+            let dims = ChunkSizes::new(chunk.as_slice()).dims();
             dims.cells().saturating_mul(size as u64) > MAX_CHUNK
         }
         Store::Compact | Store::Contiguous => false,

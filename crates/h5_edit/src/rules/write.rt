@@ -10,11 +10,10 @@ ghost use Rattle.h5_edit.specs.Refusals.Allowed.{AreSelectedStanding, IsOneStore
 ghost use Rattle.h5_edit.specs.Refusals.Rules.{value_rules};
 
 use h5_layout::{Buffer, stored_from};
-use h5_model::{EditFault, Hyper};
+use h5_model::EditFault;
 use h5_query::{ArrayRef, Opened, StandingCells, array_number, described_of, slab_within};
-use h5_shape::one_run;
+use h5_shape::{HyperRef, one_run};
 use h5_space::Image;
-use std::alloc::Global;
 
 /// An array of which cells are to be written: its number, and where these cells stand one behind another; `None` where they do not, or
 /// were not found to.
@@ -30,10 +29,9 @@ pub(crate) struct WriteTarget {
 /// soft link stands there, `RankMismatch`, `StrideZero`, `BlocksOverlap`, `OutOfExtent`, `ValueCount` where there is not one value for each
 /// selected cell, `ValueRange`. It takes no memory.
 pub(crate) fn check_write(
-    alloc: Global,
     opened: &Opened,
     path: &[u8],
-    hyper: &Hyper,
+    hyper: &HyperRef<'_>,
     values: &Buffer<'_>,
 ) -> Result<WriteTarget, EditFault>
     ensures at { let f = opened.now in
@@ -43,7 +41,7 @@ pub(crate) fn check_write(
 {
     let image = opened.image();
     let number = array_number(opened, path)?;
-    let array = described_of(alloc, opened, number);
+    let array = described_of(opened, number);
     let standing = standing_cells(image, &array, hyper, values);
     if standing.is_none() {
         check_cells(&array, hyper, values)?;
@@ -58,7 +56,7 @@ pub(crate) fn check_write(
 fn standing_cells(
     image: &Image,
     array: &ArrayRef<'_>,
-    hyper: &Hyper,
+    hyper: &HyperRef<'_>,
     values: &Buffer<'_>,
 ) -> Option<StandingCells>
     requires { AreDataRead image.now.bytes array.now.fixed array.now.layout }
@@ -82,7 +80,7 @@ fn standing_cells(
 }
 
 /// Whether the lists select cells of the array, and the values are some for these cells, or by the lowest number why not.
-fn check_cells(array: &ArrayRef<'_>, hyper: &Hyper, values: &Buffer<'_>) -> Result<(), EditFault>
+fn check_cells(array: &ArrayRef<'_>, hyper: &HyperRef<'_>, values: &Buffer<'_>) -> Result<(), EditFault>
     ensures { let rules = hyper_rules array.now.sizes hyper.now
         ++ value_rules array.now.fixed hyper.now values.now in
         MatchResult result (λ _. first_holding rules ≡ None) (λ e. first_holding rules ≡ Some e) }

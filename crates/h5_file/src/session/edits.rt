@@ -12,8 +12,8 @@ use crate::file::File;
 use crate::open_views::OpenViews;
 use crate::session::Session;
 use crate::touched::Touched;
-use h5_edit::Buffer;
-use h5_model::{AttrSpec, Edit, EditFault, Edited, Hyper, Spec};
+use h5_edit::{Buffer, HyperRef};
+use h5_model::{AttrSpec, Edit, EditFault, Edited, Spec};
 
 impl Session {
     /// Carries an edit out. The open views of the array that it writes or resizes follow: in each view that keeps bytes,
@@ -144,7 +144,7 @@ impl Session {
     pub fn write(
         &mut self,
         path: &[u8],
-        hyper: &Hyper,
+        hyper: &HyperRef<'_>,
         values: &[i128],
     ) -> Result<Edited, EditFault>
         ensures edited { MatchResult result
@@ -163,7 +163,7 @@ impl Session {
     pub fn write_from(
         &mut self,
         path: &[u8],
-        hyper: &Hyper,
+        hyper: &HyperRef<'_>,
         values: &Buffer<'_>,
     ) -> Result<Edited, EditFault>
         ensures edited { MatchResult result

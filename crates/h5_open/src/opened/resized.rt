@@ -114,7 +114,7 @@ fn resize_object(
     let Ok(()) = make_room(image, &mut object.messages, bytes, outside.as_ref()) else {
         return Err(AddFault::NoMemory);
     };
-    resize_array(alloc, image, &mut object.messages, sizes, outside.as_ref());
+    resize_array(image, &mut object.messages, sizes, outside.as_ref());
     object.trimmed = true;
     Ok(())
 }

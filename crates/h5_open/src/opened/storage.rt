@@ -104,14 +104,14 @@ fn make_all_or_none(
         + storage_bytes image.old.bytes (described_in image.old.bytes messages.now) missing.now)) }
     ensures refused { OnErr result (image.new ≡ image.old) }
 {
-    if is_refused_first(alloc, image, messages, missing) {
-        return make_storage(alloc, image, messages, missing);
+    if is_refused_first(image, messages, missing) {
+        return make_storage(image, messages, missing);
     }
-    check_storage(alloc, image, messages, missing)?;
+    check_storage(image, messages, missing)?;
     let Ok(mut copy) = image.copy_of(alloc) else {
         return Err(InsertFault::Space(SpaceFault::NoMemory));
     };
-    make_storage(alloc, &mut copy, messages, missing)?;
+    make_storage(&mut copy, messages, missing)?;
     *image = copy;
     Ok(())
 }

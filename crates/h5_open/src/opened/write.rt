@@ -17,7 +17,6 @@ use crate::index::Index;
 use h5_layout::{Buffer, CellPlaces, write_stored};
 use h5_model::Fixed;
 use h5_space::Image;
-use std::alloc::Global;
 
 /// Cells of an array that stand one behind another in an image.
 #[derive(Clone, Copy)]
@@ -37,7 +36,7 @@ impl Opened {
     ///
     /// These are the caller's conditions: the object with the number is an array, it has these cells, they are
     /// stored, and the values are of its type.
-    pub fn write_cells(&mut self, alloc: Global, number: u32, place: u64, values: &Buffer<'_>)
+    pub fn write_cells(&mut self, number: u32, place: u64, values: &Buffer<'_>)
         requires run { (d : Dataset) × IsStoredRun self.old number place values.now d }
         ensures changed { self.new ≡ record self.old {
           image = self.new.image;
@@ -53,7 +52,7 @@ impl Opened {
         ensures local { (a : Described) (there : IsArrayThere self.old number a)
             → IsKeptOutside self.old.image self.new.image (cell_blocks self.old.image a there.blocks) }
     {
-        write_runs(alloc, &mut self.image, &self.index, number, place, values);
+        write_runs(&mut self.image, &self.index, number, place, values);
     }
 
     /// Writes values into cells of an array that are known to stand one behind another. No byte changes outside the
@@ -89,7 +88,6 @@ impl Opened {
 ///
 /// These are the caller's conditions: the index is the image's, and those of `Opened::write_cells`.
 fn write_runs(
-    alloc: Global,
     image: &mut Image,
     index: &Index,
     number: u32,
@@ -104,7 +102,7 @@ fn write_runs(
         (opened_state image.new index.now.objects.items) }
 {
     let object = index.objects[number as usize].as_ref().unwrap();
-    let mut places = CellPlaces::new(alloc, image, &object.messages);
+    let mut places = CellPlaces::new(image, &object.messages);
     let mut done = 0;
     while done < values.len() {
         let (_written, left) = values.split_at(done);

@@ -9,7 +9,7 @@ use crate::blocks::header::{push_message, push_message_room};
 use h5_model::AttrSpec;
 use h5_model::message_type::ATTRIBUTE;
 use h5_msg::{AttributeBody, attribute_length, write_attribute, write_stored_attribute};
-use std::alloc::{AllocError, Global};
+use std::alloc::AllocError;
 
 /// The message of an attribute to be set, of version 1.
 pub(crate) fn push_new_attribute(out: &mut Vec<u8>, attr: &AttrSpec) -> Result<(), AllocError>
@@ -29,7 +29,6 @@ pub(crate) fn push_new_attribute(out: &mut Vec<u8>, attr: &AttrSpec) -> Result<(
 
 /// The message of an attribute as another header has it: with the body that it has there in version 2 or 3, or of version 1.
 pub(crate) fn push_stored_attribute(
-    alloc: Global,
     out: &mut Vec<u8>,
     attr: &AttributeBody<'_>,
 ) -> Result<(), AllocError>
@@ -41,7 +40,7 @@ pub(crate) fn push_stored_attribute(
     }
     let name = attr.name();
     let fixed = attr.fixed();
-    let dims = attr.dims(alloc);
+    let dims = attr.dims();
     let sizes = dims.sizes();
     let size = attribute_length(name.len(), sizes.len(), attr.cells() as usize, &fixed);
     let at = push_message_room(out, ATTRIBUTE, size)?;

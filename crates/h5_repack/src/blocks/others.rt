@@ -113,7 +113,7 @@ impl Others {
     {
         let before = self.bytes.len();
         let alloc = *self.bytes.allocator();
-        let Ok(()) = push_stored_attribute(alloc, &mut self.bytes, attr) else {
+        let Ok(()) = push_stored_attribute(&mut self.bytes, attr) else {
             self.bytes.truncate(before);
             return Err(AllocError);
         };

@@ -3,5 +3,5 @@ use Rattle.h5_shape.proofs.single_run.axis_at.Goals as goal
 
 pub returns : goal.returns
 returns c =
-    rw (c.as_slice.ensures, c.as_slice-2.ensures, c.as_slice-3.ensures, c.as_slice-4.ensures)
+    rw (c.start.ensures, c.stride.ensures, c.count.ensures, c.block.ensures)
     (axis_first c.args.k c.args.hyper.now.start c.args.hyper.now.stride c.args.hyper.now.count c.args.hyper.now.block c.requires.start c.requires.stride c.requires.count c.requires.block)
