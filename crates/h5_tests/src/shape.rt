@@ -1,8 +1,7 @@
 //! Sizes and selections at the limits, which the program does not reach yet; places are those of NumPy's `ravel_multi_index`.
 
-use h5_model::{Hyper, Items};
-use h5_shape::{Dims, Slab, SlabFault, one_run};
-use std::alloc::{AllocError, Global};
+use h5_shape::{Dims, HyperRef, Slab, SlabFault, one_run};
+use std::alloc::AllocError;
 use std::test::Fail;
 
 const LARGE: u64 = 1 << 32;
@@ -19,8 +18,8 @@ static CELLS: [(&[u64], u64, bool); 7] = [
 ];
 
 /// Whether the sizes are kept, have so many cells, and these are few enough or not.
-fn counts(alloc: Global, sizes: &[u64], cells: u64, small: bool) -> bool {
-    match Dims::new(alloc, sizes) {
+fn counts(sizes: &[u64], cells: u64, small: bool) -> bool {
+    match Dims::new(sizes) {
         Some(dims) => { dims.sizes() == sizes && dims.cells() == cells && dims.is_small() == small }
         None => false,
     }
@@ -30,10 +29,10 @@ fn counts(alloc: Global, sizes: &[u64], cells: u64, small: bool) -> bool {
 fn counts_cells(rt: HostRuntime) {
     for k in 0..CELLS.len() {
         let (sizes, cells, small) = CELLS[k];
-        assert!(rt; counts(rt.alloc(), sizes, cells, small), "row {k}");
+        assert!(rt; counts(sizes, cells, small), "row {k}");
     }
-    assert!(rt; counts(rt.alloc(), &[1; 32], 1, true));
-    assert!(rt; Dims::new(rt.alloc(), &[1; 33]).is_none());
+    assert!(rt; counts(&[1; 32], 1, true));
+    assert!(rt; Dims::new(&[1; 33]).is_none());
 }
 
 /// Sizes, an index, and its place, where it is inside.
@@ -46,8 +45,8 @@ static PLACES: [(&[u64], &[u64], Option<u64>); 5] = [
 ];
 
 /// The place of an index inside sizes of a few cells.
-fn place_in(alloc: Global, sizes: &[u64], index: &[u64]) -> Option<u64> {
-    let dims = Dims::new(alloc, sizes)?;
+fn place_in(sizes: &[u64], index: &[u64]) -> Option<u64> {
+    let dims = Dims::new(sizes)?;
     if dims.is_small() && dims.is_inside(index) {
         return Some(dims.place(index));
     }
@@ -58,23 +57,13 @@ fn place_in(alloc: Global, sizes: &[u64], index: &[u64]) -> Option<u64> {
 fn places_cells(rt: HostRuntime) {
     for k in 0..PLACES.len() {
         let (sizes, index, place) = PLACES[k];
-        assert!(rt; place_in(rt.alloc(), sizes, index) == place, "row {k}");
+        assert!(rt; place_in(sizes, index) == place, "row {k}");
     }
 }
 
-/// A list of two numbers.
-fn two(alloc: Global, numbers: [u64; 2]) -> Result<Items<u64>, AllocError> {
-    Ok(Items::new(numbers.to_vec(alloc)?))
-}
-
 /// The selection of the first and the third row, and in them of cells 1, 2, 4 and 5.
-fn rows(alloc: Global) -> Result<Hyper, AllocError> {
-    Ok(Hyper {
-        start: two(alloc, [0, 1])?,
-        stride: two(alloc, [2, 3])?,
-        count: two(alloc, [2, 2])?,
-        block: two(alloc, [1, 2])?,
-    })
+fn rows() -> HyperRef<'static> {
+    HyperRef::new(&[0, 1], &[2, 3], &[2, 2], &[1, 2])
 }
 
 /// Whether the selection is within the sizes, which are as many as its axes.
@@ -84,26 +73,21 @@ fn is_within(slab: &Slab, dims: &Dims) -> bool {
 
 #[test]
 fn bounds_and_counts_a_selection(rt: HostRuntime) -> Result<(), Fail> {
-    let slab = Slab::new(&rows(rt.alloc())?)?;
-    let dims = Dims::new(rt.alloc(), &[3, 6]).ok_or(AllocError)?;
+    let slab = Slab::new(&rows())?;
+    let dims = Dims::new(&[3, 6]).ok_or(AllocError)?;
     assert!(rt; slab.cells() == 8 && is_within(&slab, &dims));
-    let dims = Dims::new(rt.alloc(), &[2, 6]).ok_or(AllocError)?;
+    let dims = Dims::new(&[2, 6]).ok_or(AllocError)?;
     assert!(rt; !is_within(&slab, &dims));
     Ok(())
 }
 
 /// The last two rows of three.
-fn last_rows(alloc: Global) -> Result<Hyper, AllocError> {
-    Ok(Hyper {
-        start: two(alloc, [1, 0])?,
-        stride: two(alloc, [1, 1])?,
-        count: two(alloc, [2, 1])?,
-        block: two(alloc, [1, 6])?,
-    })
+fn last_rows() -> HyperRef<'static> {
+    HyperRef::new(&[1, 0], &[1, 1], &[2, 1], &[1, 6])
 }
 
 /// Whether the hyperslab is this one run, as place and length, or none.
-fn is_run(dims: &Dims, hyper: &Hyper, wanted: Option<(u64, u64)>) -> bool {
+fn is_run(dims: &Dims, hyper: &HyperRef<'_>, wanted: Option<(u64, u64)>) -> bool {
     if !dims.is_small() {
         return false;
     }
@@ -114,7 +98,7 @@ fn is_run(dims: &Dims, hyper: &Hyper, wanted: Option<(u64, u64)>) -> bool {
 }
 
 /// Whether the selection in the sizes has these runs, as places and lengths, and is one run where there is one, and this.
-fn has_runs(hyper: &Hyper, dims: &Dims, wanted: &[(u64, u64)]) -> Result<bool, SlabFault> {
+fn has_runs(hyper: &HyperRef<'_>, dims: &Dims, wanted: &[(u64, u64)]) -> Result<bool, SlabFault> {
     let slab = Slab::new(hyper)?;
     if slab.axes().len() != dims.sizes().len() || !slab.within(dims) || !dims.is_small() {
         return Ok(false);
@@ -136,11 +120,9 @@ fn has_runs(hyper: &Hyper, dims: &Dims, wanted: &[(u64, u64)]) -> Result<bool, S
 
 #[test]
 fn goes_over_runs(rt: HostRuntime) -> Result<(), Fail> {
-    let dims = Dims::new(rt.alloc(), &[3, 6]).ok_or(AllocError)?;
-    let hyper = rows(rt.alloc())?;
-    assert!(rt; has_runs(&hyper, &dims, &[(1, 2), (4, 2), (13, 2), (16, 2)])?);
-    let hyper = last_rows(rt.alloc())?;
-    assert!(rt; has_runs(&hyper, &dims, &[(6, 12)])?);
+    let dims = Dims::new(&[3, 6]).ok_or(AllocError)?;
+    assert!(rt; has_runs(&rows(), &dims, &[(1, 2), (4, 2), (13, 2), (16, 2)])?);
+    assert!(rt; has_runs(&last_rows(), &dims, &[(6, 12)])?);
     Ok(())
 }
 
@@ -180,8 +162,8 @@ static ONE_RUN: [(&[u64], [&[u64]; 4], Option<(u64, u64)>); 17] = [
 fn finds_one_run(rt: HostRuntime) -> Result<(), Fail> {
     for k in 0..ONE_RUN.len() {
         let (sizes, [start, stride, count, block], wanted) = ONE_RUN[k];
-        let dims = Dims::new(rt.alloc(), sizes).ok_or(AllocError)?;
-        let hyper = Hyper::new(rt.alloc(), start, stride, count, block)?;
+        let dims = Dims::new(sizes).ok_or(AllocError)?;
+        let hyper = HyperRef::new(start, stride, count, block);
         assert!(rt; is_run(&dims, &hyper, wanted), "row {k}");
     }
     Ok(())
