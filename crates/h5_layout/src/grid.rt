@@ -202,6 +202,8 @@ impl<'a, 'g> GridRef<'a, 'g> {
 
     /// The cells from this place on that stand one behind the other in a row of a chunk. The cursor of the tree is then
     /// where the chunk was sought, and `corner` has the chunk's first index.
+    // Inlined: a grid that was made for this row alone, and read back from memory, would wait for all writes of cells before it.
+    #[inline(always)]
     pub(crate) fn row_at(
         &self,
         cursor: &mut ChunkCursor,
