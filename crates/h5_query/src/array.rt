@@ -26,10 +26,7 @@ use h5_space::Image;
 ///
 /// Those of [`crate::look`]; then `NotADataset` if no array stands at the path. Where several hold, the one with the
 /// lowest number.
-pub fn array_at<'a>(
-    opened: &'a Opened,
-    path: &[u8],
-) -> Result<(u32, StoredArray<'a>), EditFault>
+pub fn array_at<'a>(opened: &'a Opened, path: &[u8]) -> Result<(u32, StoredArray<'a>), EditFault>
     ensures there { let tree = opened.now.tree in
         MatchResult result (IsArrayAt tree path.now) (λ e.
         first_holding (dataset_rules tree path.now) ≡ Some e) }
@@ -115,10 +112,7 @@ pub fn array_of<'a>(opened: &'a Opened, number: ObjectNo) -> Option<StoredArray<
 }
 
 /// The array that the messages of a header describe.
-pub(crate) fn stored_array<'a>(
-    image: &'a Image,
-    messages: &Messages,
-) -> StoredArray<'a>
+pub(crate) fn stored_array<'a>(image: &'a Image, messages: &Messages) -> StoredArray<'a>
     requires { IsArrayKept image.now.bytes messages.now }
     ensures { let ms = messages_in image.now.bytes messages.now.list in
         result ≡ array_dataset image.now.bytes ms }

@@ -16,11 +16,7 @@ use h5_open::Opened;
 ///
 /// Those of [`crate::array_at`]; then `RankMismatch` if the index has not one number for each dimension; then
 /// `OutOfExtent` if a number is not below the size of its dimension.
-pub fn one_cell(
-    opened: &Opened,
-    path: &[u8],
-    index: &[u64],
-) -> Result<i128, EditFault>
+pub fn one_cell(opened: &Opened, path: &[u8], index: &[u64]) -> Result<i128, EditFault>
     ensures { let tree = opened.now.tree in
         MatchResult result (HasCell tree path.now index.now) (λ e.
         first_holding (cell_rules tree path.now index.now) ≡ Some e) }
