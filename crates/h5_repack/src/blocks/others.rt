@@ -112,7 +112,6 @@ impl Others {
             → AreOthers (ms ++ attribute_message attr.now ∷ []) self.new) }
     {
         let before = self.bytes.len();
-        let alloc = *self.bytes.allocator();
         let Ok(()) = push_stored_attribute(&mut self.bytes, attr) else {
             self.bytes.truncate(before);
             return Err(AllocError);
