@@ -10,6 +10,7 @@ pub mod InsertLaws
 pub mod GrowLaws
 pub mod NeededLaws
 pub mod TakenLaws
+pub mod UnitLaws
 pub mod NameLaws
 pub mod InsertedNames
 pub mod ReleasedNames

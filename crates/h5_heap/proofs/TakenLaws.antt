@@ -1,12 +1,7 @@
 -- What was taken of a segment, after one text more.
-use Rattle.std.proofs.Common.{◌≡◌, ℕ, zero, suc, ◌+◌, ◌⊎◌, ◌↔◌, inl, inr, List, [], ◌∷◌, ◌++◌, map, refl, sym, ◌∙◌, ap, subst, arith, append_assoc, append-nil, Result, Ok, Err}
-use Rattle.std.specs.BTreeSet.{insert_key}
+use Rattle.std.proofs.Common.{◌≡◌, ℕ, zero, suc, ◌+◌, ◌⊎◌, ◌↔◌, inl, inr, List, [], ◌∷◌, ◌++◌, map, refl, sym, ap, subst, arith, append_assoc, append-nil, Result, Ok, Err}
 use Rattle.std.specs.List.{AllByRecursion, Contains}
-use Rattle.std.specs.Ordering.{nat_cmp, match_ordering}
 use Rattle.std.specs.Result.{OnOk}
-use Rattle.std.specs.declared.cmp.Ordering.{Ordering}
-use Rattle.std.specs.declared.cmp.Ordering.TheVariants.{Less, Equal, Greater}
-use Rattle.std.proofs.lemmas.Bool.Decides.{nat_tests}
 use Rattle.std.proofs.lemmas.List.Elements.{Contains-append_left, Contains-append_right, Contains-append_cases, Contains-push_cases}
 use Rattle.h5_bytes.specs.Blocks.{holds, cover}
 use Rattle.h5_bytes.specs.declared.Block.{Block}
@@ -46,45 +41,6 @@ contains_between xs ys offset x = (
   ],
 )
 
--- a key that was put into a set
-pub contains-insert_key : (ks : List ℕ) (k x : ℕ) → Contains (insert_key nat_cmp ks k) x ↔ ((x ≡ k) ⊎ Contains ks x)
-contains-insert_key [] k x = (
-  contains_cases k [] x,
-  λ either. elim either [
-    | inl same ↦ subst (λ (y : ℕ). Contains (k ∷ []) y) (sym same) (contains_head k [])
-    | inr there ↦ contains_tail k [] x there
-  ],
-)
-contains-insert_key (y ∷ ys) k x = by (nat_cmp k y) refl (contains-insert_key ys k x)
-  where
-    by : (r : Ordering) → nat_cmp k y ≡ r → Contains (insert_key nat_cmp ys k) x ↔ ((x ≡ k) ⊎ Contains ys x)
-        → Contains (match_ordering r (k ∷ y ∷ ys) (y ∷ ys) (y ∷ insert_key nat_cmp ys k)) x ↔ ((x ≡ k) ⊎ Contains (y ∷ ys) x)
-    by Less lt later = contains_between [] (y ∷ ys) k x
-    by Equal eq later =
-        let same : k ≡ y = grind (arith, nat_tests, eq) in (
-          λ there. inr there,
-          λ either. elim either [
-            | inl e ↦ subst (λ (z : ℕ). Contains (y ∷ ys) z) (sym (e ∙ same)) (contains_head y ys)
-            | inr there ↦ there
-          ],
-        )
-    by Greater gt later = (
-      λ there. elim (contains_cases y (insert_key nat_cmp ys k) x there) [
-        | inl e ↦ inr (subst (λ (z : ℕ). Contains (y ∷ ys) z) (sym e) (contains_head y ys))
-        | inr deep ↦ elim (later.0 deep) [
-          | inl e ↦ inl e
-          | inr deeper ↦ inr (contains_tail y ys x deeper)
-        ]
-      ],
-      λ either. elim either [
-        | inl e ↦ contains_tail y (insert_key nat_cmp ys k) x (later.1 (inl e))
-        | inr there ↦ elim (contains_cases y ys x there) [
-          | inl e ↦ subst (λ (z : ℕ). Contains (y ∷ insert_key nat_cmp ys k) z) (sym e) (contains_head y (insert_key nat_cmp ys k))
-          | inr deep ↦ contains_tail y (insert_key nat_cmp ys k) x (later.1 (inr deep))
-        ]
-      ],
-    )
-
 -- ---- spans
 
 pub cover_between : (segment : List ℕ) (p : ℕ) (xs ys : List ℕ) (offset : ℕ) → cover p (map (span_of segment) (xs ++ offset ∷ ys))
@@ -102,7 +58,6 @@ module _ (segment : List ℕ) (old new : HeapState) (offset : ℕ) (span : IsSpa
   one_more : (linked' loose' xs ys : List ℕ) → linked ++ loose ≡ xs ++ ys → linked' ++ loose' ≡ xs ++ offset ∷ ys → HasTaken segment new linked' loose'
   one_more linked' loose' xs ys before after =
       let free : new.free ≡ old.free = ap (λ (h : HeapState). h.free) takes.noted in
-      let known : new.taken ≡ insert_key nat_cmp old.taken offset = ap (λ (h : HeapState). h.taken) takes.noted in
       let spans : AllByRecursion (IsSpan segment) (xs ++ ys) = subst (AllByRecursion (IsSpan segment)) before taken.spans in
       record {
         empty = taken.empty;
@@ -117,14 +72,14 @@ module _ (segment : List ℕ) (old new : HeapState) (offset : ℕ) (span : IsSpa
           cover-all segment p (xs ++ offset ∷ ys) old.free,
           cover_between segment p xs ys offset,
         ));
-        noted = λ x. rw (known, after) (
-          (λ there. elim ((contains-insert_key old.taken offset x).0 there) [
+        noted = λ x. rw after (
+          (λ there. elim ((takes.begun x).0 there) [
             | inl same ↦ (contains_between xs ys offset x).1 (inl same)
             | inr earlier ↦ (contains_between xs ys offset x).1 (inr (subst (λ (zs : List ℕ). Contains zs x) before ((taken.noted x).0 earlier)))
           ]),
           (λ there. elim ((contains_between xs ys offset x).0 there) [
-            | inl same ↦ (contains-insert_key old.taken offset x).1 (inl same)
-            | inr earlier ↦ (contains-insert_key old.taken offset x).1 (inr ((taken.noted x).1 (subst (λ (zs : List ℕ). Contains zs x) (sym before) earlier)))
+            | inl same ↦ (takes.begun x).1 (inl same)
+            | inr earlier ↦ (takes.begun x).1 (inr ((taken.noted x).1 (subst (λ (zs : List ℕ). Contains zs x) (sym before) earlier)))
           ]),
         );
         separate = takes.separate;

@@ -1,5 +1,6 @@
 pub mod Refused
 pub mod FreeList
+pub mod Units
 pub mod Kept
 pub mod Spans
 pub mod Writing

@@ -1,15 +1,13 @@
 -- Texts of a heap's segment, each with its zero and its padding, and which of them are taken (File Format
 -- Specification 3.0, section III.D).
 use Rattle.std.specs.Prelude.{◌≡◌, ◌≢◌, ℕ, ◌+◌, ◌%◌, ◌≤◌, ◌⊎◌, ◌↔◌, List, ◌∷◌, ◌++◌, map, length}
-use Rattle.std.specs.BTreeSet.{insert_key}
 use Rattle.std.specs.List.{AllByRecursion, Contains}
-use Rattle.std.specs.Ordering.{nat_cmp}
 use Rattle.h5_bytes.specs.Bytes.{byte_at}
 use Rattle.h5_bytes.specs.Blocks.{block, holds, cover, Separate}
 use Rattle.h5_bytes.specs.declared.Block.{Block}
 use Rattle.h5_model.specs.Format.Heap.{span_of, KeyNames}
 use Rattle.h5_model.specs.declared.open_fault.Cause.{Cause}
-use Rattle.h5_model.specs.declared.open_fault.Cause.TheVariants.{HeapName, NoMemory}
+use Rattle.h5_model.specs.declared.open_fault.Cause.TheVariants.{HeapName}
 use Rattle.h5_space.specs.Claimed.{Shares}
 use Rattle.h5_heap.specs.Kept.{HeapState}
 
@@ -20,7 +18,8 @@ pub record IsSpan (segment : List ℕ) (offset : ℕ) : Type 0 where
 
 -- the text's span is held, and its offset is noted
 pub record Takes (segment : List ℕ) (old new : HeapState) (offset : ℕ) : Type 0 where
-  pub noted : new ≡ record old { held = new.held; taken = insert_key nat_cmp old.taken offset }
+  pub noted : new ≡ record old { held = new.held; taken = new.taken }
+  pub begun : (x : ℕ) → Contains new.taken x ↔ ((x ≡ offset) ⊎ Contains old.taken x)
   pub covered : (p : ℕ) → cover p new.held ≡ cover p old.held + holds p offset (span_of segment offset).len
   pub separate : Separate new.held
 
@@ -31,29 +30,20 @@ TakesOnce segment old new offset = (((offset ≡ 0) ⊎ Contains old.taken offse
 
 -- ---- refusals
 
--- why bytes of the segment cannot be claimed
-abbrev pub IsHeld : List Block → ℕ → ℕ → Cause → Type 0
-IsHeld held at len HeapName = Shares held at len
-IsHeld held at len NoMemory = Unit {0}
-IsHeld held at len _ = ⊥
-
 -- why the empty name is not taken
 abbrev pub IsNotEmpty : List ℕ → List Block → Cause → Type 0
 IsNotEmpty segment held HeapName = byte_at segment 0 ≡ 0 → Shares held 0 8
-IsNotEmpty segment held NoMemory = Unit {0}
 IsNotEmpty segment held _ = ⊥
 
 -- why a text is not taken: it does not lie in the segment, or shares a byte with what is held
 abbrev pub IsUntaken : List ℕ → List Block → ℕ → Cause → Type 0
 IsUntaken segment held offset HeapName = IsSpan segment offset → Shares held offset (span_of segment offset).len
-IsUntaken segment held offset NoMemory = Unit {0}
 IsUntaken segment held offset _ = ⊥
 
 -- why a key names nothing
 abbrev pub IsUnnamed : List ℕ → HeapState → ℕ → Cause → Type 0
 IsUnnamed segment heap offset HeapName = IsSpan segment offset
     → (offset ≢ 0) × (Contains heap.taken offset → ⊥) × Shares heap.held offset (span_of segment offset).len
-IsUnnamed segment heap offset NoMemory = Unit {0}
 IsUnnamed segment heap offset _ = ⊥
 
 -- ---- all that was taken

@@ -18,20 +18,11 @@ pub(crate) const END: u64 = 1;
 /// The least bytes of a free block: the next one's offset, and its own size.
 pub(crate) const LEAST_FREE: u64 = 16;
 
-/// The free blocks of a segment, in the order of the list, and their bytes as claims below its end.
-#[derive(Drop)]
-pub struct FreeList {
-    pub blocks: Vec<Block>,
-    pub spans: Claims,
-}
-
-/// Reads the list from the offset `head` on.
+/// Reads the list from the offset `head` on: the free blocks of a segment, in the order of the list.
 ///
 /// `HeapForm` where there is no such list, else `NoMemory`.
-pub(crate) fn read_free(alloc: Global, segment: &[u8], head: u64) -> Result<FreeList, Cause>
-    ensures list { IfOk result (λ f. IsFreeList segment.now head f.blocks.items) }
-    ensures held { IfOk result (λ f. (p : ℕ) → cover p f.spans.held ≡ cover p f.blocks.items) }
-    ensures end { IfOk result (λ f. f.spans.end ≡ length segment.now) }
+pub(crate) fn read_free(alloc: Global, segment: &[u8], head: u64) -> Result<Vec<Block>, Cause>
+    ensures list { IfOk result (λ blocks. IsFreeList segment.now head blocks.items) }
     ensures refused { IfErr result (λ cause. (cause ≡ Cause.NoMemory)
         ⊎ ((cause ≡ Cause.HeapForm) × ((free : List Block) → IsFreeList segment.now head free → ⊥))) }
 {
@@ -45,7 +36,7 @@ pub(crate) fn read_free(alloc: Global, segment: &[u8], head: u64) -> Result<Free
         }
         next = u64_at(segment, next as usize);
     }
-    Ok(FreeList { blocks, spans })
+    Ok(blocks)
 }
 
 /// Claims the free block at `offset`.

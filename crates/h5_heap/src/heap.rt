@@ -6,13 +6,13 @@ ghost use Rattle.h5_model.specs.Format.Heap.{heap_header, heap_blocks, segment_b
 ghost use Rattle.h5_space.specs.Claimed.{HasClaimed};
 ghost use Rattle.h5_heap.specs.Refused.{IsHeapRefused, IsHeapReadable};
 
-use crate::free_list::{FreeList, read_free};
+use crate::free_list::read_free;
 use crate::header::claim_heap;
+use crate::units::Units;
 use h5_bytes::Block;
 use h5_model::{Cause, OpenFault};
 use h5_space::{Claims, Image, fault};
 use std::alloc::Global;
-use std::collections::BTreeSet;
 use std::marker::Model;
 
 /// A local heap: where its segment lies, its free blocks, and which texts of it are taken.
@@ -23,21 +23,20 @@ pub struct Heap {
     pub(crate) at: u64,
     pub(crate) segment: Block,
     free: Vec<Block>,
-    // The bytes of the free blocks and of what was taken, by their offsets.
-    pub(crate) spans: Claims,
-    // The offsets of the texts that were taken.
-    pub(crate) taken: BTreeSet<u64>,
+    // Which bytes the free blocks have, and what was taken.
+    pub(crate) units: Units,
 }
 
 impl Model for Heap {
-    ghost use Rattle.std.specs.Prelude.{◌≡◌, ◌≤◌};
+    ghost use Rattle.std.specs.Prelude.{◌≤◌, ◌++◌};
     ghost use Rattle.h5_heap.specs.Kept.{HeapState};
+    ghost use Rattle.h5_heap.specs.Units.{text_blocks, text_begins, AreUnits};
 
     ghost Value = { HeapState };
 
-    ghost view = { λ s. record { at = s.at; segment = s.segment; free = s.free.items; held = s.spans.held; taken = s.taken.keys } };
+    ghost view = { λ s. record { at = s.at; segment = s.segment; free = s.free.items; held = s.free.items ++ text_blocks 0 s.units.states.items; taken = text_begins 0 s.units.states.items } };
 
-    ghost invariant = { λ s. (s.spans.end ≡ s.segment.len) × (8 ≤ s.segment.len) };
+    ghost invariant = { λ s. (8 ≤ s.segment.len) × AreUnits s.segment.len s.free.items s.units.states.items };
 }
 
 /// Reads the local heap at `at`, and claims its header and its segment.
@@ -81,14 +80,17 @@ pub fn read_heap(
     let header = claim_heap(image, claims, at)?;
     let segment = header.segment;
     let bytes = image.part(segment.at, segment.len).unwrap();
-    match read_free(alloc, bytes, header.free_head) {
-        Ok(FreeList { blocks, spans }) => Ok(Heap {
+    let free = match read_free(alloc, bytes, header.free_head) {
+        Ok(free) => free,
+        Err(cause) => return Err(fault(cause, at)),
+    };
+    match Units::new(alloc, bytes.len(), free.as_slice()) {
+        Ok(units) => Ok(Heap {
             at,
             segment,
-            free: blocks,
-            spans,
-            taken: BTreeSet::new(alloc),
+            free,
+            units,
         }),
-        Err(cause) => Err(fault(cause, at)),
+        Err(_) => Err(fault(Cause::NoMemory, at)),
     }
 }

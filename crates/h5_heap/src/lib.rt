@@ -13,6 +13,7 @@ mod heap;
 mod names;
 mod put;
 mod text;
+mod units;
 mod write;
 
 pub use edit::free;

@@ -1,17 +1,19 @@
 //! The texts of a heap (File Format Specification 3.0, section III.D).
 
-ghost use Rattle.std.specs.Prelude.{◌≡◌, ℕ, ◌+◌, ◌≤◌, ◌⊎◌, ◌↔◌, IsTrue, List, [], ◌∷◌, ◌++◌, length, IfOk, IfErr, OnOk, OnErr};
+ghost use Rattle.std.specs.Prelude.{◌≡◌, ℕ, ◌+◌, ◌%◌, ◌<◌, ◌≤◌, ◌⊎◌, ◌↔◌, IsTrue, List, [], ◌∷◌, ◌++◌, length, IfOk, IfErr, OnOk, OnErr};
 ghost use Rattle.std.specs.List.{Contains};
 ghost use Rattle.h5_bytes.specs.Bytes.{byte_at};
 ghost use Rattle.h5_bytes.specs.Blocks.{holds, cover, Separate};
 ghost use Rattle.h5_bytes.specs.Texts.{text_at};
+ghost use Rattle.h5_space.specs.Claimed.{Shares};
 ghost use Rattle.h5_heap.specs.Kept.{segment_in};
-ghost use Rattle.h5_heap.specs.Spans.{IsSpan, Takes, TakesOnce, IsHeld, IsNotEmpty, IsUntaken, IsUnnamed, HasTaken, HasNamed};
+ghost use Rattle.h5_heap.specs.Spans.{IsSpan, Takes, TakesOnce, IsNotEmpty, IsUntaken, IsUnnamed, HasTaken, HasNamed};
 
 use crate::heap::Heap;
 use crate::text::{span_len, text_in};
+use crate::units::{UNIT, UnitState};
 use h5_model::{Cause, OpenFault};
-use h5_space::{ClaimFault, Image, fault};
+use h5_space::{Image, fault};
 
 /// Bytes of the empty name, at the beginning of a segment.
 const EMPTY_NAME: u64 = 8;
@@ -40,13 +42,12 @@ impl Heap {
     }
 
     /// Takes the empty name, before any other text: the first 8 bytes of the segment, of which the first is zero.
+    /// Takes no memory.
     ///
     /// # Errors
     ///
-    /// A refusal changes nothing.
-    ///
-    /// - `HeapName`, at the header: the first byte is not zero, or one of the 8 bytes is in a free block.
-    /// - `NoMemory`: memory is refused.
+    /// `HeapName`, at the header: the first byte is not zero, or one of the 8 bytes is in a free block. Then nothing
+    /// changes.
     pub fn begin_names(&mut self, image: &Image) -> Result<(), OpenFault>
         requires { self.old.segment.at + self.old.segment.len ≤ length image.now.bytes }
         ensures zero { OnOk result (byte_at (segment_in image.now.bytes self.old) 0 ≡ 0) }
@@ -64,16 +65,15 @@ impl Heap {
         if self.segment_bytes(image)[0] != 0 {
             return Err(fault(Cause::HeapName, self.at));
         }
-        self.claim(0, EMPTY_NAME)
+        self.claim(0, EMPTY_NAME, UnitState::Taken)
     }
 
-    /// Takes the text at `offset`, which a link names. No other link may have one of its bytes.
+    /// Takes the text at `offset`, which a link names. No other link may have one of its bytes. Takes no memory.
     ///
     /// # Errors
     ///
-    /// - `HeapName`, at the header: as of [`Heap::name`]; or the text shares a byte with the empty name, a free
-    ///   block, or a text that was taken before. Then nothing changes.
-    /// - `NoMemory`: memory is refused. The bytes of the text may count as taken then.
+    /// `HeapName`, at the header: as of [`Heap::name`]; or the text shares a byte with the empty name, a free block, or
+    /// a text that was taken before. Then nothing changes.
     pub fn take<'a>(&mut self, image: &'a Image, offset: u64) -> Result<&'a [u8], OpenFault>
         requires { self.old.segment.at + self.old.segment.len ≤ length image.now.bytes }
         ensures text { IfOk result (λ x. x.now ≡ text_at (segment_in image.now.bytes self.old) offset) }
@@ -85,19 +85,15 @@ impl Heap {
         ensures address { IfErr result (λ fault. fault.address ≡ self.old.at) }
         ensures refused { IfErr result (λ fault.
             IsUntaken (segment_in image.now.bytes self.old) self.old.held offset fault.cause) }
-        ensures unchanged { IfErr result (λ fault. fault.cause ≡ Cause.HeapName → self.new ≡ self.old) }
-        ensures err { OnErr result (self.new ≡ record self.old { held = self.new.held }) }
+        ensures err { OnErr result (self.new ≡ self.old) }
     {
         let text = self.name(image, offset)?;
-        self.claim(offset, span_len(text.len()) as u64)?;
-        if self.taken.insert(offset).is_err() {
-            return Err(fault(Cause::NoMemory, self.at));
-        }
+        self.claim(offset, span_len(text.len()) as u64, UnitState::Begin)?;
         Ok(text)
     }
 
     /// The text at `offset`, which a key of a B-tree names: the empty name, a text that was taken, or one that shares
-    /// no byte with any of these and is taken now.
+    /// no byte with any of these and is taken now. Takes no memory.
     ///
     /// # Errors
     ///
@@ -114,8 +110,7 @@ impl Heap {
         ensures address { IfErr result (λ fault. fault.address ≡ self.old.at) }
         ensures refused { IfErr result (λ fault.
             IsUnnamed (segment_in image.now.bytes self.old) self.old offset fault.cause) }
-        ensures unchanged { IfErr result (λ fault. fault.cause ≡ Cause.HeapName → self.new ≡ self.old) }
-        ensures err { OnErr result (self.new ≡ record self.old { held = self.new.held }) }
+        ensures err { OnErr result (self.new ≡ self.old) }
     {
         if self.is_known(offset) {
             self.name(image, offset)
@@ -128,25 +123,34 @@ impl Heap {
     fn is_known(&self, offset: u64) -> bool
         ensures { IsTrue result ↔ ((offset ≡ 0) ⊎ Contains self.now.taken offset) }
     {
-        offset == 0 || self.taken.contains(&offset)
+        offset == 0 || self.units.begins(offset)
     }
 
-    /// Claims bytes of the segment.
-    fn claim(&mut self, offset: u64, len: u64) -> Result<(), OpenFault>
-        requires { offset + len ≤ self.old.segment.len }
-        ensures held { self.new ≡ record self.old { held = self.new.held } }
+    /// Claims bytes of the segment, whole units of which `first` is the first from then on.
+    fn claim(&mut self, offset: u64, len: u64, first: UnitState) -> Result<(), OpenFault>
+        requires inside { offset + len ≤ self.old.segment.len }
+        requires aligned { offset % 8 ≡ 0 }
+        requires whole { len % 8 ≡ 0 }
+        requires filled { 0 < len }
+        requires text { (first ≡ UnitState.Begin) ⊎ (first ≡ UnitState.Taken) }
+        ensures held { self.new ≡ record self.old { held = self.new.held; taken = self.new.taken } }
         ensures claimed { OnOk result ((p : ℕ)
             → cover p self.new.held ≡ cover p self.old.held + holds p offset len) }
         ensures separate { Separate self.new.held }
-        ensures address { IfErr result (λ fault. fault.address ≡ self.old.at) }
-        ensures refused { IfErr result (λ fault. IsHeld self.old.held offset len fault.cause) }
+        ensures begun { first ≡ UnitState.Begin → OnOk result ((x : ℕ)
+            → Contains self.new.taken x ↔ ((x ≡ offset) ⊎ Contains self.old.taken x)) }
+        ensures empty { first ≡ UnitState.Taken → self.new.taken ≡ self.old.taken }
+        ensures fault { IfErr result (λ fault.
+            fault ≡ record { cause = Cause.HeapName; address = self.old.at }) }
+        ensures refused { OnErr result (Shares self.old.held offset len) }
         ensures err { OnErr result (self.new ≡ self.old) }
     {
-        match self.spans.claim(offset, len) {
-            Ok(()) => Ok(()),
-            Err(ClaimFault::NoMemory) => Err(fault(Cause::NoMemory, self.at)),
-            Err(_) => Err(fault(Cause::HeapName, self.at)),
+        let begin = (offset / UNIT) as usize;
+        let end = begin + (len / UNIT) as usize;
+        if !self.units.claim(begin, end, first) {
+            return Err(fault(Cause::HeapName, self.at));
         }
+        Ok(())
     }
 
     /// The bytes of the segment.
