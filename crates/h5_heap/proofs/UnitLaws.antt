@@ -11,7 +11,7 @@ use Rattle.h5_model.specs.Format.Heap.{IsFree}
 use Rattle.h5_space.specs.Claimed.{Shares}
 use Rattle.h5_heap.specs.declared.units.UnitState.{UnitState}
 use Rattle.h5_heap.specs.declared.units.UnitState.TheVariants.{Open, Free, Begin, Taken}
-use Rattle.h5_heap.specs.Units.{unit_at, text_block, text_begin, text_blocks, text_begins, AreUnits, fresh_unit, Fills, IsShut, TakesUnits}
+use Rattle.h5_heap.specs.Units.{unit_at, text_block, text_begin, text_blocks, text_begins, AreUnits, fresh_unit, FillsUnits, IsShut, TakesUnits}
 use Rattle.h5_heap.proofs.TakenLaws.{contains_head, contains_tail, contains_cases}
 
 -- ---- the bytes that texts have
@@ -151,7 +151,7 @@ each_at P (b ∷ bs) (suc i) d all low = each_at P bs i d all.1 (omega (arith, l
 
 -- one free block more
 pub fresh_more : (us vs : List UnitState) (free : List Block) (b : Block) → IsFree b → ((k : ℕ) → unit_at us k ≡ fresh_unit free k)
-    → Fills us vs (b.at / 8) ((b.at + b.len) / 8 + min 1 ((b.at + b.len) % 8)) Free → (k : ℕ) → unit_at vs k ≡ fresh_unit (free ++ b ∷ []) k
+    → FillsUnits us vs (b.at / 8) ((b.at + b.len) / 8 + min 1 ((b.at + b.len) % 8)) Free → (k : ℕ) → unit_at vs k ≡ fresh_unit (free ++ b ∷ []) k
 fresh_more us vs free b is before fills k =
     let all = cover-append (8 * k) free (b ∷ []) in
     let place : ((8 * k < b.at) ⊎ (b.at + b.len ≤ 8 * k)) ⊎ ((b.at ≤ 8 * k) × (8 * k < b.at + b.len)) = grind arith in

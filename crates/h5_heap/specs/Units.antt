@@ -47,7 +47,7 @@ fresh_unit free k = if cover (8 * k) free == 0 then Open else Free
 -- ---- how they change
 
 -- those from begin to end have this state, and the others are as before
-pub record Fills (old new : List UnitState) (begin end : ℕ) (state : UnitState) : Type 0 where
+pub record FillsUnits (old new : List UnitState) (begin end : ℕ) (state : UnitState) : Type 0 where
   pub long : length new ≡ length old
   pub filled : (k : ℕ) → begin ≤ k → k < end → unit_at new k ≡ state
   pub others : (k : ℕ) → (k < begin) ⊎ (end ≤ k) → unit_at new k ≡ unit_at old k

@@ -41,8 +41,8 @@ impl Model for Heap {
 
 /// Reads the local heap at `at`, and claims its header and its segment.
 ///
-/// Takes memory for the free blocks that are there. The claims end where the image ends, which is the caller's
-/// condition.
+/// Takes memory for the free blocks that are there, and for one byte for each 8 bytes of the segment. The claims end
+/// where the image ends, which is the caller's condition.
 ///
 /// # Errors
 ///

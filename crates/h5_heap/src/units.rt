@@ -4,7 +4,7 @@ ghost use Rattle.std.specs.Prelude.{◌≡◌, ℕ, ◌*◌, ◌/◌, ◌%◌, �
 ghost use Rattle.std.specs.List.{AllByRecursion};
 ghost use Rattle.h5_bytes.specs.Blocks.{Inside};
 ghost use Rattle.h5_model.specs.Format.Heap.{IsFree};
-ghost use Rattle.h5_heap.specs.Units.{unit_at, fresh_unit, Fills, AreOpen, IsShut, TakesUnits};
+ghost use Rattle.h5_heap.specs.Units.{unit_at, fresh_unit, FillsUnits, AreOpen, IsShut, TakesUnits};
 
 use h5_bytes::Block;
 use std::alloc::{AllocError, Global};
@@ -109,7 +109,7 @@ fn are_open(states: &[UnitState], begin: usize, end: usize) -> bool
 fn fill(states: &mut [UnitState], begin: usize, end: usize, state: UnitState)
     requires order { begin ≤ end }
     requires inside { end ≤ length states.old }
-    ensures { Fills states.old states.new begin end state }
+    ensures { FillsUnits states.old states.new begin end state }
 {
     for k in begin..end {
         states[k] = state;
