@@ -116,6 +116,9 @@ module _ (sizes : List ℕ) (size : ℕ) (body : List ℕ) (l : Option Block) (w
 same_sizes : (c d : List ℕ) (p q : Option ℕ) → InChunks c p ≡ InChunks d q → c ≡ d
 same_sizes c d p q same = cc
 
+same_root : (c d : List ℕ) (p q : Option ℕ) → InChunks c p ≡ InChunks d q → p ≡ q
+same_root c d p q same = cc
+
 module _ (sizes : List ℕ) (size : ℕ) (body chunk : List ℕ) (l : Option ℕ) (was : layout_of sizes size body ≡ Some (InChunks chunk l)) where
   abbrev rank : ℕ
   rank = length sizes
@@ -139,6 +142,9 @@ module _ (sizes : List ℕ) (size : ℕ) (body chunk : List ℕ) (l : Option ℕ
   -- the address is there, and there is a dimension
   pub tree_room : 11 ≤ length body
   tree_room = let there : 11 + 4 * (length sizes + 1) ≤ length body = grind (arith, nat_tests, met) in omega (arith, there)
+
+  pub tree_address : address_from (number_at body 3 8) ≡ l
+  tree_address = same_root (short_numbers_at body 11 (length sizes)) chunk (address_from (number_at body 3 8)) l (cond_some _ _ _ of_chunks.4).1
 
   pub some_rank : 1 ≤ length sizes
   some_rank = grind (arith, nat_tests, met)

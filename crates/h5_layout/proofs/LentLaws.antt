@@ -82,10 +82,10 @@ pub not_single : (ps : List ℕ) (rs ss ts : List CellRun) (r s : Option CellRun
 not_single ps rs ss ts r s is first second some more = run-single ps ∙ ap is_single (sym is) ∙ sym (single-steps rs ss ts r s first second some false more)
 
 module _ (d : Dataset) (slab : Slab) (run : CellRun) (one : cell_runs (selection_of d.sizes slab) ≡ run ∷ []) where
-  places : selection_of d.sizes slab ≡ range_with_len run.place run.length
+  pub places : selection_of d.sizes slab ≡ range_with_len run.place run.length
   places = sym (places_of_runs (selection_of d.sizes slab)) ∙ ap places_in one ∙ append-nil (range_with_len run.place run.length)
 
-  run_below : (0 < run.length) × (run.place + run.length ≤ cells d.sizes)
+  pub run_below : (0 < run.length) × (run.place + run.length ≤ cells d.sizes)
   run_below =
       let below = selected_below (cells d.sizes) d.sizes slab (record { place = 0; length = 0 }) (run ∷ []) refl refl refl
       (ap places_in (sym one) ∙ places_of_runs (selection_of d.sizes slab)) (subst AreMaximal one (runs-maximal (selection_of d.sizes slab))) in

@@ -37,6 +37,7 @@ pub mod StoredWith
 pub mod KeyBack
 pub mod MissingLaws
 pub mod LentLaws
+pub mod StandingSelected
 pub mod ValueSteps
 pub mod NodesStay
 pub mod ArrayMoved
@@ -47,6 +48,7 @@ pub mod TrimmedChunks
 pub mod TrimmedArray
 pub mod ResizedTold
 pub mod OutsideChunks
+pub mod NoTree
 pub mod DataKept
 pub mod ExtentSaid
 pub mod ExtentMoved

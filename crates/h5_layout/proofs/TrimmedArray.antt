@@ -3,7 +3,7 @@ use Rattle.std.proofs.Common.{◌≡◌, ℕ, ◌*◌, ◌<◌, ◌≤◌, List,
 use Rattle.std.specs.Ordering.{nat_cmp}
 use Rattle.std.specs.Cmp.Lexicographic.{nat_list_cmp_total, slice_cmp}
 use Rattle.std.specs.declared.cmp.Ordering.TheVariants.{Equal}
-use Rattle.std.specs.FinMap.{entries, get, get-empty, get-entries, get-retain_keys, nat_cmp-IsAntisymmetric, retain_keys, slice_cmp-IsAntisymmetric, values}
+use Rattle.std.specs.FinMap.{entries, get, get-entries, get-retain_keys, nat_cmp-IsAntisymmetric, retain_keys, slice_cmp-IsAntisymmetric, values}
 use Rattle.std.proofs.lemmas.Option.{slice_get-get_or}
 use Rattle.h5_bytes.specs.Bytes.{part}
 use Rattle.h5_bytes.specs.Blocks.{IsKept, Keeps, block, cover}
@@ -255,28 +255,3 @@ trimmed_already s m sizes was is =
       trimmed = is;
       kept = λ index long within. refl;
     }
-
--- ---- no chunk is stored
-
-module _ (k : ArrayChunks) (rootless : k.root ≡ None) (sizes : List ℕ) (old : Space) (m : Listed) (was : IsArrayApart old m)
-    (of : IsInChunksOf (described_in old.bytes m) k) where
-  abbrev same : Described
-  same = described_in old.bytes m
-
-  nothing : (offsets : List ℕ) → get (stored_chunks old.bytes k.fixed (InChunks k.chunk k.root)) offsets ≡ None
-  nothing offsets = ap (λ (r : Option ℕ). get (stored_chunks old.bytes k.fixed (InChunks k.chunk r)) offsets) rootless ∙ get-empty (slice_cmp nat_cmp) offsets
-
-  none_held : (offsets : List ℕ) (at : ℕ) → get (stored_chunks old.bytes same.fixed same.layout) offsets ≡ Some at → IsInside sizes offsets
-  none_held offsets at found =
-      let none : get (stored_chunks old.bytes same.fixed same.layout) offsets ≡ None = (λ i. get (stored_chunks old.bytes (sym of.fixed i) (of.layout i)) offsets)
-      ∙ nothing offsets in
-      absurd (let never : None ≡ Some at = sym none ∙ found in cc)
-
-  pub rootless_trimmed : IsTrimmedTo old old m sizes
-  rootless_trimmed = trimmed_already old m sizes was (record {
-    held = none_held;
-    filled = λ index long out.
-        cell_found same k of old.bytes index
-        ∙ ap (value_in_chunk old.bytes k.fixed k.fill (cells k.chunk * k.fixed.size) (place_of k.chunk (inner_of k.chunk index)))
-        (nothing (corner_of k.chunk index)) ∙ of.fill;
-  })

@@ -1,5 +1,5 @@
 -- Cells that are to come, by the runs of their places (HDF5 dataspace reference, H5Sselect_hyperslab).
-use Rattle.std.specs.Prelude.{◌≡◌, ℕ, ◌+◌, ◌*◌, ◌<◌, ◌≤◌, Option, Some, None, List, [], ◌++◌, map, length, slice_index_or}
+use Rattle.std.specs.Prelude.{◌≡◌, ℕ, ◌+◌, ◌*◌, ◌<◌, ◌≤◌, Option, Some, None, List, [], ◌++◌, map, length, slice_index, slice_index_or}
 use Rattle.std.specs.List.{AllByRecursion, range_with_len}
 use Rattle.h5_shape.specs.declared.runs.CellRun.{CellRun}
 use Rattle.h5_shape.specs.Runs.{places_in}
@@ -48,3 +48,8 @@ AreCellBytes t bytes place n cells =
 abbrev pub IsWholePiece : Fixed → List ℕ → ℕ → ℕ → Piece → Type 0
 IsWholePiece t bytes place n (Bytes cells) = AreCellBytes t bytes place n cells.now
 IsWholePiece t bytes place n (Fill cells) = ⊥
+
+-- what stands in a piece are bytes
+abbrev pub HasBytes : Piece → Type 0
+HasBytes (Bytes cells) = (i : ℕ) → slice_index cells.now i < 256
+HasBytes (Fill cells) = Unit {0}

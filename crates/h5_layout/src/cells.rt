@@ -1,12 +1,12 @@
 //! The cells of an array where they stand (File Format Specification 3.0, section IV.A.2.i).
 
-ghost use Rattle.std.specs.Prelude.{◌≡◌, ℕ, ℤ, ◌+◌, ◌*◌, ◌^◌, ◌<◌, ◌≤◌, length};
+ghost use Rattle.std.specs.Prelude.{◌≡◌, ℕ, ℤ, ◌+◌, ◌*◌, ◌^◌, ◌<◌, ◌≤◌, length, slice_index};
 ghost use Rattle.std.specs.List.{range_with_len};
 ghost use Rattle.h5_model.specs.Format.Cells.{cell_of, value_in};
 ghost use Rattle.h5_model.specs.Tree.Places.{cells as cells_of, index_of};
 ghost use Rattle.h5_layout.specs.CellData.{HasCellRoom, value_of_cell};
 ghost use Rattle.h5_layout.specs.Data.{AreDataRead, dataset_told, stored_chunks};
-ghost use Rattle.h5_layout.specs.Runs.{AreCellBytes, IsPieceAt, IsWholePiece};
+ghost use Rattle.h5_layout.specs.Runs.{AreCellBytes, HasBytes, IsPieceAt, IsWholePiece};
 
 use crate::array::{ArrayRef, block_bytes};
 use crate::grid::ChunkGrid;
@@ -74,6 +74,7 @@ impl<'a> StoredCells<'a> {
         ensures same { self.new ≡ self.old }
         ensures piece { IsPieceAt self.old place most result.0 result.1 }
         ensures small { length self.old.values ≤ 2 ^ 40 }
+        ensures bytes { HasBytes result.0 }
     {
         match &mut self.held {
             CellData::Filled => (Piece::Fill { cells: most }, most),
@@ -119,7 +120,8 @@ fn data_of<'a>(image: &'a Image, array: &ArrayRef<'a>) -> CellData<'a>
 fn whole_piece<'a>(fixed: &Fixed, bytes: &'a [u8], place: u64, cells: u64) -> Piece<'a>
     requires some { 0 < cells }
     requires room { (place + cells) * fixed.now.size ≤ length bytes.now }
-    ensures { IsWholePiece fixed.now bytes.now place cells result }
+    ensures piece { IsWholePiece fixed.now bytes.now place cells result }
+    ensures bytes { HasBytes result }
 {
     let run = CellRun {
         place,
@@ -131,7 +133,8 @@ fn whole_piece<'a>(fixed: &Fixed, bytes: &'a [u8], place: u64, cells: u64) -> Pi
 /// The bytes of a run of cells.
 pub(crate) fn run_bytes<'a>(fixed: &Fixed, bytes: &'a [u8], run: &CellRun) -> &'a [u8]
     requires { (run.now.place + run.now.length) * fixed.now.size ≤ length bytes.now }
-    ensures { AreCellBytes fixed.now bytes.now run.now.place run.now.length result.now }
+    ensures cells { AreCellBytes fixed.now bytes.now run.now.place run.now.length result.now }
+    ensures bytes { (i : ℕ) → slice_index result.now i < 256 }
 {
     let start = run.place as usize * fixed.size();
     let end = start + run.length as usize * fixed.size();

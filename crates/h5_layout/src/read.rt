@@ -31,10 +31,7 @@ use h5_space::Image;
 /// - `FillForm`: the old Fill Value message, or then the new one, has another form.
 /// - `LayoutForm`: the Data Layout message has another form.
 /// - `TooLarge`: a chunk has more than 2^30 bytes.
-pub fn read_array<'a>(
-    image: &'a Image,
-    messages: &Messages,
-) -> Result<ArrayRef<'a>, OpenFault>
+pub fn read_array<'a>(image: &'a Image, messages: &Messages) -> Result<ArrayRef<'a>, OpenFault>
     requires within { IsWithin (length image.now.bytes) messages.now.list }
     requires dataset { IsOfDataset (messages_in image.now.bytes messages.now.list) }
     ensures read { IfOk result (λ array. HasArray (messages_in image.now.bytes messages.now.list) array) }

@@ -51,12 +51,7 @@ pub fn resize_array(
 /// Takes away what an array stores outside the smaller of its size and the one here in each dimension.
 ///
 /// These are the caller's conditions: those of `trim` for the smaller sizes.
-fn trim_to_smaller(
-    image: &mut Image,
-    messages: &Messages,
-    sizes: &[u64],
-    outside: &Outside,
-)
+fn trim_to_smaller(image: &mut Image, messages: &Messages, sizes: &[u64], outside: &Outside)
     requires array { IsArrayApart image.old messages.now }
     requires sizes { CanHaveSizes (described_in image.old.bytes messages.now) sizes.now }
     requires outside { AreOutside image.old.bytes (described_in image.old.bytes messages.now)

@@ -42,11 +42,7 @@ use h5_space::{Image, MAXIMUM_IMAGE, SpaceFault};
 /// tree, or one that is to be made, is so low that the tree never gets too deep. Takes no memory.
 ///
 /// That the array was read, with its data, is the caller's condition.
-pub fn is_refused_first(
-    image: &Image,
-    messages: &Messages,
-    missing: &Missing,
-) -> bool
+pub fn is_refused_first(image: &Image, messages: &Messages, missing: &Missing) -> bool
     requires array { IsArrayApart image.now messages.now }
     ensures { result ≡ refuses_first image.now.bytes (described_in image.now.bytes messages.now) missing.now }
 {

@@ -1,6 +1,6 @@
 //! An array with the image in which its cells stand.
 
-ghost use Rattle.std.specs.Prelude.{◌≡◌, ◌^◌, ◌≤◌, false, MatchOption, [], ◌∷◌, length};
+ghost use Rattle.std.specs.Prelude.{◌≡◌, ◌^◌, ◌≤◌, false, IfSome, MatchOption, [], ◌∷◌, length};
 ghost use Rattle.h5_model.specs.Edits.Refusal.{is_chunked};
 ghost use Rattle.h5_model.specs.Tree.Objects.{Chunked};
 ghost use Rattle.h5_model.specs.Tree.Places.{IsInside, cells as cells_of};
@@ -10,7 +10,7 @@ ghost use Rattle.h5_model.specs.Views.Selection.{Within, is_one_run, selection_o
 ghost use Rattle.h5_model.specs.Views.Shown.{is_in_line, is_lent, selected_values};
 ghost use Rattle.h5_shape.specs.Runs.{cell_runs};
 ghost use Rattle.h5_layout.specs.Data.{AreDataRead, IsSoundDataset, dataset_told};
-ghost use Rattle.h5_layout.specs.Lent.{AreInLine, IsLent};
+ghost use Rattle.h5_layout.specs.Lent.{AreInLine, IsLent, IsStandingSelection};
 
 use crate::array::{ArrayRef, block_bytes};
 use crate::cells::{StoredCells, run_bytes};
@@ -18,7 +18,7 @@ use crate::pieces::{Piece, Runs};
 use crate::values::Values;
 use h5_model::Fixed;
 use h5_msg::{Layout, value_at};
-use h5_shape::{CellRun, Dims, Slab};
+use h5_shape::{CellRun, Dims, HyperRef, Slab, one_run};
 use h5_space::Image;
 use std::marker::Model;
 
@@ -123,6 +123,23 @@ impl<'a> StoredArray<'a> {
         let bytes = self.line()?;
         let run = single_run(slab, self.array.dims())?;
         Some(run_bytes(&self.array.fixed(), bytes, &run))
+    }
+
+    /// The bytes of the selected cells as they stand in the image, where the four lists select cells of the array that
+    /// stand one behind another there: cells of one row of a chunk, of a contiguous block, or in the header. `None` where
+    /// they do not, or where the lists are no selection within the sizes. Takes no memory.
+    pub fn standing(&self, hyper: &HyperRef<'_>) -> Option<&'a [u8]>
+        ensures { IfSome result (λ bytes. IsStandingSelection self.now hyper.now bytes.now) }
+    {
+        let run = one_run(self.array().dims(), hyper)?;
+        let (piece, cells) = self.cells().piece(run.place, run.length);
+        if cells < run.length {
+            return None;
+        }
+        match piece {
+            Piece::Bytes(bytes) => Some(bytes),
+            Piece::Fill { .. } => None,
+        }
     }
 
     /// The bytes in which its cells stand one behind another.

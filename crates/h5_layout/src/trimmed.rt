@@ -20,6 +20,7 @@ ghost use Rattle.h5_layout.specs.Trimmed.{AreEdges, AreLost, IsTrimmedTo, offset
 
 use crate::chunked::ChunkedArray;
 use crate::corner::{Span, fill_corner, write_spans};
+use crate::named_tree::lacks_tree;
 use h5_bytes::u64_at;
 use h5_chunks::{ChunkList, OFFSETS, chunk_at, chunks_outside, drop_outside, held_places};
 use h5_header::Messages;
@@ -158,9 +159,12 @@ pub fn trim(image: &mut Image, messages: &Messages, sizes: &[u64], outside: &Out
     ensures trimmed { IsTrimmedTo image.old image.new messages.now sizes.now }
     ensures spends { Spends image.old image.new 0 (16 * length outside.now.lost.offsets) }
 {
+    if lacks_tree(image, messages) {
+        return;
+    }
     let array = ChunkedArray::new(image, messages);
     let Some(root) = array.root() else {
-        return;
+        unreachable!()
     };
     drop_outside(image, &array.shape(), root, &outside.lost, sizes);
     for k in 0..outside.edge.len() {

@@ -1,4 +1,5 @@
-use Rattle.std.proofs.Common.{◌≡◌, ℕ, ◌+◌, ◌*◌, ◌<◌, ◌≤◌, ◌++◌, List, [], ◌∷◌, length, get_or, map, take, Some, None, sym, ap, ◌∙◌, subst, arith}
+use Rattle.std.proofs.Common.{◌≡◌, ℕ, ◌+◌, ◌*◌, ◌<◌, ◌≤◌, ◌++◌, List, [], ◌∷◌, length, get_or, map, take, true, false, Some, None, sym, ap, ◌∙◌, subst, arith}
+use Rattle.std.specs.Prelude.{is_none}
 use Rattle.std.specs.FinMap.{retain_keys, values}
 use Rattle.std.proofs.lemmas.List.{take_all, take_more}
 use Rattle.h5_bytes.specs.Blocks.{Keeps, block}
@@ -17,7 +18,7 @@ use Rattle.h5_chunks.specs.Lists.{ChunkOffsets}
 use Rattle.h5_layout.specs.Trimmed.{offsets_across}
 use Rattle.h5_layout.specs.Described.{Described}
 use Rattle.h5_layout.proofs.OutsideChunks.{chunked_is}
-use Rattle.h5_layout.proofs.TrimmedArray.{chunks_apart, edge_there, rootless_trimmed, stored_by, trimmed_to}
+use Rattle.h5_layout.proofs.TrimmedArray.{chunks_apart, edge_there, stored_by, trimmed_already, trimmed_to}
 use Rattle.h5_layout.proofs.TrimmedChunks.{AreTrimmedSo, none_trimmed, one_trimmed}
 use Rattle.h5_layout.proofs.trimmed.trim.Goals as goal
 use Rattle.h5_layout.proofs.trimmed.trim.Goals.{In-Some}
@@ -27,11 +28,18 @@ new-array-requires-clause-chunked c =
     let a : Described = described_in c.args.image.now.bytes c.args.messages.now in
     chunked_is a.sizes a.layout c.requires.chunked
 
--- no root
-pub returns-in_default-clause-trimmed : goal.returns-in_default-clause-trimmed
-returns-in_default-clause-trimmed c =
-    let rootless : c.new-array.result.root ≡ None = sym c.root.ensures ∙ c.in_default.is in
-    rootless_trimmed c.new-array.result rootless c.args.sizes.now c.args.image.now c.args.messages.now c.requires.array c.new-array.ensures.chunks
+-- no tree
+pub returns-then-lacks_tree-clause-trimmed : goal.returns-then-lacks_tree-clause-trimmed
+returns-then-lacks_tree-clause-trimmed c =
+    trimmed_already c.args.image.now c.args.messages.now c.args.sizes.now c.requires.array (c.lacks_tree.ensures.trimmed c.if-lacks_tree.true c.args.sizes.now)
+
+-- else there is a root
+pub unreachable-requires : goal.unreachable-requires
+unreachable-requires c =
+    let k : ArrayChunks = c.new-array.result in
+    let rootless : k.root ≡ None = sym c.root.ensures ∙ c.in_default.is in
+    let lacks : c.lacks_tree.result ≡ true = c.lacks_tree.ensures.exact k.chunk k.root c.new-array.ensures.chunks.layout ∙ ap is_none rootless in
+    absurd (let never : true ≡ false = sym lacks ∙ c.if-lacks_tree.false in cc)
 
 module _ (c : In-Some) where
   abbrev k : ArrayChunks

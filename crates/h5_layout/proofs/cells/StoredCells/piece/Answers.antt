@@ -3,7 +3,7 @@ use Rattle.std.proofs.Math.Nat.{mul-le-mul_right}
 use Rattle.h5_layout.specs.ChunkCells.{AreChunkBytes, Grid, chunk_of}
 use Rattle.h5_layout.specs.CellData.{HasCellRoom, all_cells}
 use Rattle.h5_layout.specs.Pieces.{CellsLeft}
-use Rattle.h5_layout.specs.Runs.{IsPieceAt}
+use Rattle.h5_layout.specs.Runs.{HasBytes, IsPieceAt}
 use Rattle.h5_layout.specs.declared.cells.CellData.{CellData}
 use Rattle.h5_layout.specs.declared.cells.CellData.TheVariants.{Filled, InLine, InChunks}
 use Rattle.h5_layout.specs.declared.cells.StoredCells.TheInside.{Inside}
@@ -64,7 +64,7 @@ returns-clause-piece c =
       | in-InLine w ↦
           let held : CellData = InLine w.in-InLine.bytes in
           at f all held place most r w.whole_piece.result most c.self.view_is w.in-InLine.is w.result-is
-          (held_piece f.fixed f.fill f.count place most most c.requires.some (omega arith) below held w.whole_piece.result w.in-InLine.bytes.now place w.whole_piece.ensures refl)
+          (held_piece f.fixed f.fill f.count place most most c.requires.some (omega arith) below held w.whole_piece.result w.in-InLine.bytes.now place w.whole_piece.ensures.piece refl)
       | in-InChunks+in-Some w ↦
           let n : ℕ = w.min-cells.result in
           let row = w.row_at-row in
@@ -76,7 +76,7 @@ returns-clause-piece c =
           = of_chunk grid row.new.self row.result.at (chunk_of grid place) (Some w.in-Some.bytes.now) row.ensures.same row.ensures.at w.in-Some.ensures in
           at f all held place most r w.whole_piece-in-Some.result n c.self.view_is w.in-InChunks.is w.result-is
           (held_piece f.fixed f.fill f.count place n most (omega (arith, w.min-cells.ensures, row.ensures.some, c.requires.some)) (omega (arith, w.min-cells.ensures)) below held
-          w.whole_piece-in-Some.result w.in-Some.bytes.now row.result.place w.whole_piece-in-Some.ensures
+          w.whole_piece-in-Some.result w.in-Some.bytes.now row.result.place w.whole_piece-in-Some.ensures.piece
           (stored_row f.fixed f.fill grid place n row.result.place beside row.ensures.place w.in-Some.bytes.now stored))
       | in-InChunks+in-None w ↦
           let n : ℕ = w.min-cells.result in
@@ -90,6 +90,15 @@ returns-clause-piece c =
           at f all held place most r (Fill n) n c.self.view_is w.in-InChunks.is w.result-is
           (unstored_piece f.fixed f.fill f.count place n most (omega (arith, w.min-cells.ensures, row.ensures.some, c.requires.some)) (omega (arith, w.min-cells.ensures)) below held
           (filled_row f.fixed f.fill grid place n row.result.place beside row.ensures.place none))
+    ]
+
+pub returns-clause-bytes : goal.returns-clause-bytes
+returns-clause-bytes c =
+    elim c.match-self.branch [
+      | in-Filled w ↦ subst (λ (p : Piece × ℕ). HasBytes p.0) (sym w.result-is) tt
+      | in-InLine w ↦ subst (λ (p : Piece × ℕ). HasBytes p.0) (sym w.result-is) w.whole_piece.ensures.bytes
+      | in-InChunks+in-Some w ↦ subst (λ (p : Piece × ℕ). HasBytes p.0) (sym w.result-is) w.whole_piece-in-Some.ensures.bytes
+      | in-InChunks+in-None w ↦ subst (λ (p : Piece × ℕ). HasBytes p.0) (sym w.result-is) tt
     ]
 
 pub returns-clause-small : goal.returns-clause-small

@@ -32,4 +32,4 @@ returns c =
     let b = (goal.at.returns c).After-fixed in
     let run = c.in_ok-run.run' in
     run_lent c.args.self.now c.args.slab.now run (one b) c.in_ok-bytes.bytes.now c.run_bytes.result.now c.requires.within c.in_ok-bytes.ensures
-    (subst (λ (t : Fixed). AreCellBytes t c.in_ok-bytes.bytes.now run.place run.length c.run_bytes.result.now) (type-is b) c.run_bytes.ensures)
+    (subst (λ (t : Fixed). AreCellBytes t c.in_ok-bytes.bytes.now run.place run.length c.run_bytes.result.now) (type-is b) c.run_bytes.ensures.cells)

@@ -1,0 +1,52 @@
+-- Selected cells that stand one behind another in the image: their bytes are those of their values.
+use Rattle.std.proofs.Common.{Bor, ◌≡◌, ℕ, ◌+◌, ◌*◌, ◌%◌, ◌<◌, ◌≤◌, List, length, map, true, sym, ap, ◌∙◌, subst, arith}
+use Rattle.std.specs.Prelude.{slice_index_or}
+use Rattle.std.specs.List.{range_with_len}
+use Rattle.std.proofs.lemmas.Bool.Decides.{nat_tests}
+use Rattle.std.proofs.lemmas.Nat.{mod-mul-add}
+use Rattle.h5_model.specs.Format.Fixed.{Fixed, IsFixed}
+use Rattle.h5_model.specs.Format.Plain.{cells_bytes}
+use Rattle.h5_model.specs.Scripts.Answers.{stored_values}
+use Rattle.h5_model.specs.Tree.Objects.{Dataset}
+use Rattle.h5_model.specs.Tree.Places.{cells}
+use Rattle.h5_model.specs.Views.Selection.{axes_of}
+use Rattle.h5_model.specs.Views.Shown.{selected_values}
+use Rattle.h5_model.specs.declared.hyperslab.Hyper.{Hyper}
+use Rattle.h5_model.proofs.PlainValues.{size-low}
+use Rattle.h5_msg.proofs.ValueBytes.{AreBytes}
+use Rattle.h5_shape.specs.OneRun.{IsOneRun}
+use Rattle.h5_shape.specs.declared.runs.CellRun.{CellRun}
+use Rattle.h5_layout.specs.Buffers.{are_whole_cells}
+use Rattle.h5_layout.specs.Lent.{IsStandingSelection}
+use Rattle.h5_layout.specs.Pieces.{CellsLeft}
+use Rattle.h5_layout.specs.Runs.{IsPieceAt}
+use Rattle.h5_layout.specs.declared.pieces.Piece.TheVariants.{Bytes}
+use Rattle.h5_layout.proofs.BufferLaws.{written_back}
+use Rattle.h5_layout.proofs.LentLaws.{places, run_below}
+
+-- bytes of so many cells are whole cells
+whole_cells : (t : Fixed) (n : ℕ) (bytes : List ℕ) → 1 ≤ t.size → length bytes ≡ n * t.size → are_whole_cells t bytes ≡ true
+whole_cells t n bytes some long =
+    let none : length bytes % t.size ≡ 0 = ap (λ k. k % t.size) (long ∙ omega arith) ∙ mod-mul-add n t.size 0 some in
+    grind (arith, nat_tests, none)
+
+module _ (d : Dataset) (hyper : Hyper) (run : CellRun) (is : IsOneRun d.sizes hyper run) where
+  -- the run has a cell, and each of its cells is one of the array
+  pub standing_below : (0 < run.length) × (run.place + run.length ≤ cells d.sizes)
+  standing_below = run_below d (axes_of hyper) run is.runs
+
+  -- a piece with all cells of the run
+  pub standing_selected : (all : CellsLeft) → all ≡ record { fixed = d.fixed; fill = d.fill; values = d.cells } → IsFixed d.fixed → (b : Bor (List ℕ)) → AreBytes b.now
+      → (n : ℕ) → n ≡ run.length → IsPieceAt all run.place run.length (Bytes b) n → IsStandingSelection d hyper b.now
+  standing_selected all are sound b low n whole at =
+      let own = subst (λ (x : CellsLeft). IsPieceAt x run.place run.length (Bytes b) n) are at in
+      let some = size-low d.fixed sound in
+      let values : stored_values d.fixed b.now ≡ selected_values d (axes_of hyper) =
+      own.values ∙ ap (λ k. map (λ place. slice_index_or d.cells place d.fill) (range_with_len run.place k)) whole
+      ∙ ap (map (λ place. slice_index_or d.cells place d.fill)) (sym (places d (axes_of hyper) run is.runs)) in
+      record {
+        selection = is.selection;
+        rank = is.rank;
+        within = is.within;
+        same = sym (written_back d.fixed some b.now (whole_cells d.fixed own.whole.0 b.now some own.whole.2) sound low) ∙ ap (cells_bytes d.fixed) values;
+      }

@@ -1,0 +1,35 @@
+//! Whether an array in chunks has a tree, of which one message of its header tells (File Format Specification 3.0,
+//! section IV.A.2.i).
+
+ghost use Rattle.std.specs.Prelude.{◌≡◌, ℕ, Option, List, true, is_none};
+ghost use Rattle.h5_model.specs.Edits.Refusal.{is_chunked};
+ghost use Rattle.h5_model.specs.Format.Layout.{InChunks};
+ghost use Rattle.h5_model.specs.Format.Reads.{storage_of};
+ghost use Rattle.h5_layout.specs.ArrayEdits.{IsArrayApart, described_in};
+ghost use Rattle.h5_layout.specs.Trimmed.{IsTrimmed};
+
+use crate::bodies::one_body;
+use h5_bytes::{UNDEF, u64_at};
+use h5_header::Messages;
+use h5_model::message_type::DATA_LAYOUT;
+use h5_space::Image;
+
+/// Where the address of the tree stands in the body of a Data Layout message.
+const TREE: usize = 3;
+
+/// Whether an array in chunks has no tree, so that it stores no chunk, and nothing outside any extent. Only its Data
+/// Layout message is read. Takes no memory.
+///
+/// That the array was read, and that it is in chunks, are the caller's conditions.
+pub fn lacks_tree(image: &Image, messages: &Messages) -> bool
+    requires array { IsArrayApart image.now messages.now }
+    requires chunked { is_chunked (storage_of (described_in image.now.bytes messages.now).sizes
+        (described_in image.now.bytes messages.now).layout) ≡ true }
+    ensures exact { (chunk : List ℕ) (root : Option ℕ)
+        → (described_in image.now.bytes messages.now).layout ≡ InChunks chunk root
+        → result ≡ is_none root }
+    ensures trimmed { result ≡ true → (sizes : List ℕ)
+        → IsTrimmed image.now.bytes (described_in image.now.bytes messages.now) sizes }
+{
+    u64_at(one_body(image, messages, DATA_LAYOUT), TREE) == UNDEF
+}
