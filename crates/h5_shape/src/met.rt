@@ -62,11 +62,7 @@ pub fn lie_apart(grid: &Dims, written: &Slab, view: &Slab) -> bool
 ///
 /// Each box that the write meets is looked at once, in time by the number of dimensions. That there are as many
 /// dimensions of each, and that no selected index of the write passes `u64::MAX`, are the caller's conditions.
-pub fn written_boxes<'a>(
-    grid: &'a Dims,
-    written: &'a Slab,
-    view: &'a Slab,
-) -> Option<MetBoxes<'a>>
+pub fn written_boxes<'a>(grid: &'a Dims, written: &'a Slab, view: &'a Slab) -> Option<MetBoxes<'a>>
     requires grid { length grid.now ≡ length written.now }
     requires view { length view.now ≡ length written.now }
     requires top { Within (replicate (length written.now) (2 ^ 64)) written.now }
