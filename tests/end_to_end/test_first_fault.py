@@ -17,7 +17,7 @@ from h5oracle.model import Attr, Dataset, Flat, Group, Tree  # noqa: E402
 from h5oracle.plain import le, write_plain  # noqa: E402
 from h5oracle.reader import Superblock  # noqa: E402
 from h5oracle.values import TYPES  # noqa: E402
-from mutate import groups_deep, linked  # noqa: E402
+from mutate import groups_deep, linked_names  # noqa: E402
 
 AT_ONCE = 8
 # One cell more than an array may have.
@@ -84,6 +84,14 @@ def versions():
     return patched(image_of({"d": made}), 1200, "032a08000000" + "00" * 10)
 
 
+def often_linked():
+    """An array with 65536 links, and /z behind them by name."""
+    tree = linked_names(*(b"%06d" % k for k in range(65536)))
+    tree.objects[2], tree.counts[2] = array(), 1
+    tree.objects[0].links[b"z"] = ("object", 2)
+    return write_plain(tree, Superblock.fresh())
+
+
 def turned(image):
     """The image of two arrays whose first header has its messages the other way round."""
     places = (1144, 1168, 1192, 1216, 1248, 1312, 1376, 1440)
@@ -121,8 +129,8 @@ IMAGES = {
     "cut 1": (lambda: empty_image_1()[:99], 99),
     # Header of /d at 1128: fill value of version 3 at 1192, layout 1216, attributes of version 2 at 1248 and of version 3 at 1296 and 1344; data 1392.
     "versions": (versions, 1400),
-    # The array's header stands at 3355600, behind the names.
-    "65536 names": (lambda: linked(65536), 3355723),
+    # Behind the names the header of the array with so many links at 3357024, and that of /z at 3357147.
+    "65536 names": (often_linked, 3357275),
 }
 
 # By image what is changed, in the order of the walk: the refusal of each, and its places and bytes.
@@ -345,8 +353,9 @@ AT_ONE_PLACE = {
     "root node of chunks on a header": ("chunks", "32 Overlap at 1128", (1235, "6804")),  # NodeForm
     "deep link to a header of another version": ("deep", "33 TooDeep at 66848", (67176, "02")),  # HeaderVersion
     "deep link to the root": ("deep", "33 TooDeep at 66848", (66864, "600000")),  # GroupLinkedTwice
-    "many links to a header of another version": ("65536 names", "8 HeaderVersion at 3355600", (3355600, "02")),  # TooLarge
-    "many links that are not counted": ("65536 names", "34 TooLarge at 3355600", (3355604, "00")),  # LinkCount
+    "many links to a header of another version": ("65536 names", "8 HeaderVersion at 3357024", (3357024, "02")),  # TooLarge
+    "many links that are not counted": ("65536 names", "34 TooLarge at 3357024", (3357028, "00")),  # LinkCount
+    "many links before one to a header of another version": ("65536 names", "34 TooLarge at 3357024", (3357147, "02")),  # HeaderVersion
 }
 
 

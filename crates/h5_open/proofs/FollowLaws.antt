@@ -1,29 +1,34 @@
 -- A link that leads to no object, to one that was read before, or to a new one.
-use Rattle.std.proofs.Common.{◌≡◌, ◌≢◌, ◌==◌, inl, ℕ, ◌+◌, ◌-◌, ◌≤◌, List, [], ◌∷◌, ◌++◌, length, refl, sym, ◌∙◌, subst}
+use Rattle.std.proofs.Common.{Bor, ◌≡◌, ◌≢◌, ◌==◌, inl, ℕ, ◌+◌, ◌-◌, ◌<◌, ◌≤◌, List, [], ◌∷◌, ◌++◌, length, get_or, refl, sym, ◌∙◌, subst, Some, arith}
 use Rattle.std.specs.List.{Contains}
+use Rattle.std.specs.Prelude.{slice_get}
 use Rattle.std.proofs.lemmas.List.{append-nil}
 use Rattle.h5_bytes.specs.declared.Block.{Block}
 use Rattle.h5_model.specs.Format.Reached.{Named, named, ObjectHeader}
 use Rattle.h5_model.specs.Faults.HeaderFaults.{SomeMessage}
-use Rattle.h5_model.specs.Format.Symbols.{Header}
-use Rattle.h5_model.specs.declared.open_fault.Cause.TheVariants.{GroupLinkedTwice}
+use Rattle.h5_model.specs.Format.Symbols.{Target, Header}
+use Rattle.h5_model.specs.declared.open_fault.Cause.{Cause}
+use Rattle.h5_model.specs.declared.open_fault.Cause.TheVariants.{GroupLinkedTwice, TooLarge}
 use Rattle.h5_header.specs.Listed.{messages_in}
-use Rattle.h5_laws.proofs.Lists.{In, in_all, in_contains, contains_in, in_right}
+use Rattle.h5_laws.proofs.Lists.{In, in_all, in_at, in_contains, contains_in, in_right}
 use Rattle.h5_header.specs.Walk.Walked.{IsFollowed}
 use Rattle.h5_header.proofs.WalkLaws.ListLaws.{prefix_there}
 use Rattle.h5_header.specs.Kinds.{IsOfGroup}
 use Rattle.h5_open.specs.declared.opened.object.OpenedObject.{OpenedObject}
 use Rattle.h5_open.specs.declared.opened.object.OpenedContent.{OpenedContent}
 use Rattle.h5_open.specs.declared.opened.object.OpenedContent.TheVariants as content
+use Rattle.h5_open.specs.Counted.Counts.{AreCounted, IsLinkedFully, IsRefusedAgain}
+use Rattle.h5_open.specs.Counted.Links.{leading, all_links}
 use Rattle.h5_open.specs.Opened.Kept.{IsObjectKept, IsContentKept}
 use Rattle.h5_open.specs.Opened.Refused.{IsOpenRefusedAt}
 use Rattle.h5_open.specs.Opened.Objects.{content_links}
 use Rattle.h5_open.specs.Placed.Whole.{IsGroupContent}
-use Rattle.h5_open.specs.Walk.{IsNamedBy, IsUnder, IsReady, AreFurtherObjects, IsTreeRead, IsLinkReady, IsLinkRead}
+use Rattle.h5_open.specs.Walk.{IsNamedBy, IsUnder, IsReady, AreFurtherObjects, IsTreeRead, IsLinkReady, IsLinkRead, CountsLink}
 use Rattle.h5_group.specs.Links.{lent_link, lent_target}
 use Rattle.h5_model.specs.declared.link.Link.{Link}
 use Rattle.h5_model.specs.declared.link.LinkTo.{LinkTo}
 use Rattle.h5_model.specs.declared.link.LinkTo.TheVariants as target
+use Rattle.h5_open.proofs.CountedLaws.CountLaws.{counted_text, one_more}
 use Rattle.h5_open.proofs.FoundLaws.{group_at}
 use Rattle.h5_open.proofs.GrowLaws.{bare}
 
@@ -66,7 +71,7 @@ group_of image o kept group = go o.content kept.content group where
   go (content.Group t) is group = is.0
   go content.Array is group = absurd group
 
-pub twice : (image : List ℕ) (held : List Block) (followed : List Named) (objects : List OpenedObject) (field header depth : ℕ) → IsReady image held followed objects field header depth
+twice : (image : List ℕ) (held : List Block) (followed : List Named) (objects : List OpenedObject) (field header depth : ℕ) → IsReady image held followed objects field header depth
     → (o : OpenedObject) → Contains objects o → o.messages.header ≡ header → IsGroupContent o.content → IsOpenRefusedAt image GroupLinkedTwice header
 twice image held followed objects field header depth ready o among same group =
     let at : In o objects = in_contains o objects among in
@@ -87,12 +92,57 @@ twice image held followed objects field header depth ready o among same group =
       ),
     )
 
+-- ---- an array is met once too often
+
+too_often : (image : List ℕ) (held : List Block) (followed : List Named) (objects : List OpenedObject) (field header depth : ℕ) → IsReady image held followed objects field header depth
+    → (counts : List ℕ) (name : List ℕ) (waiting : List (List ℕ × Target)) → AreCounted image objects counts ((name, Header header) ∷ waiting)
+    → (number : ℕ) (o : OpenedObject) → slice_get objects number ≡ Some o → o.messages.header ≡ header → 65535 ≤ get_or counts number 0 → IsOpenRefusedAt image TooLarge header
+too_often image held followed objects field header depth ready counts name waiting are number o here same most =
+    let kept : IsObjectKept image o = in_all (IsObjectKept image) o objects (ready.under).each (in_at objects number o here) in
+    let met = (ready.under).fields header in
+    let one : leading header ((name, Header header) ∷ waiting) ≡ 1 + leading header waiting = one_more header header name waiting refl in
+    let exact : get_or counts number 0 + leading header ((name, Header header) ∷ waiting) ≡ leading header (all_links image objects)
+    = subst (λ (h : ℕ). get_or counts number 0 + leading h ((name, Header header) ∷ waiting) ≡ leading h (all_links image objects)) same (are.each number o here).exact in
+    let many : 65535 < length met.fields = omega (arith, most, one, exact, met.long) in (
+      named field ObjectHeader header depth,
+      (ready.met).reached,
+      refl,
+      (
+        subst (λ (h : ℕ). h + 16 ≤ length image) same (prefix_there image o.messages.header (messages_in image o.messages.list) o.messages.blocks (kept.header).has (kept.header).inside),
+        inl (refl, (met.fields, met.name, many)),
+      ),
+    )
+
+-- what is not counted is refused
+pub refused_again : (image : List ℕ) (held : List Block) (followed : List Named) (objects : List OpenedObject) (field header depth : ℕ) → IsReady image held followed objects field header depth
+    → (counts : List ℕ) (name : List ℕ) (waiting : List (List ℕ × Target)) → AreCounted image objects counts ((name, Header header) ∷ waiting)
+    → (number : ℕ) (o : OpenedObject) → slice_get objects number ≡ Some o → o.messages.header ≡ header → (cause : Cause) (address : ℕ)
+    → IsRefusedAgain o (get_or counts number 0) cause address → IsOpenRefusedAt image cause address
+refused_again image held followed objects field header depth ready counts name waiting are number o here same cause address refused =
+    subst (IsOpenRefusedAt image cause) (sym (refused.header ∙ same)) (go cause refused.full) where
+      go : (c : Cause) → IsLinkedFully o (get_or counts number 0) c → IsOpenRefusedAt image c header
+      go GroupLinkedTwice group = twice image held followed objects field header depth ready o (contains_in o objects (in_at objects number o here)) same group
+      go TooLarge most = too_often image held followed objects field header depth ready counts name waiting are number o here same most
+      go _ never = absurd never
+
 -- ---- by the link's target
 
 pub ready_at : (image : List ℕ) (held : List Block) (followed : List Named) (objects : List OpenedObject) (field depth : ℕ) (l : Link ℕ) (header : ℕ) → l.to ≡ target.Object header
     → IsLinkReady image held followed objects field depth (lent_link l) → IsReady image held followed objects field header (depth + 1)
 ready_at image held followed objects field depth l header is ready =
     subst (λ (t : LinkTo ℕ). IsLinkReady image held followed objects field depth (l.name.now, lent_target t)) is ready
+
+pub counted_at : (image : List ℕ) (objects : List OpenedObject) (counts : List ℕ) (waiting : List (List ℕ × Target)) (l : Link ℕ) (header : ℕ) → l.to ≡ target.Object header
+    → AreCounted image objects counts (lent_link l ∷ waiting) → AreCounted image objects counts ((l.name.now, Header header) ∷ waiting)
+counted_at image objects counts waiting l header is are =
+    subst (λ (t : LinkTo ℕ). AreCounted image objects counts ((l.name.now, lent_target t) ∷ waiting)) is are
+
+-- a soft link is no more to count
+pub soft_counted : (image : List ℕ) (objects : List OpenedObject) (counts : List ℕ) (l : Link ℕ) (text : Bor (List ℕ)) → l.to ≡ target.Soft text
+    → CountsLink image objects counts objects counts (lent_link l)
+soft_counted image objects counts l text is waiting are =
+    counted_text image objects counts l.name.now text.now waiting
+    (subst (λ (t : LinkTo ℕ). AreCounted image objects counts ((l.name.now, lent_target t) ∷ waiting)) is are)
 
 pub read_at : (image : List ℕ) (held now : List Block) (followed : List Named) (objects after : List OpenedObject) (field depth : ℕ) (l : Link ℕ) (header : ℕ) → l.to ≡ target.Object header
     → IsLinkRead image held now followed objects after field depth (l.name.now, Header header) → IsLinkRead image held now followed objects after field depth (lent_link l)

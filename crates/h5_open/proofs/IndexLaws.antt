@@ -69,11 +69,27 @@ dense_object slots dense n slot at =
       go None none is = absurd (cc)
       go (Some o) there is = (o, sym (same_Some (Some o) slot is), there)
 
+pub object_of_slot : (slots : List (Option OpenedObject)) → IsDense slots → (n : ℕ) (o : OpenedObject) → slice_get slots n ≡ Some (Some o) → slice_get (objects_of slots) n ≡ Some o
+object_of_slot slots dense n o at =
+    let here = dense_object slots dense n (Some o) at in
+    here.2 ∙ sym here.1
+
 -- the slot that is looked at has an object
 pub slot_at : (slots items : List (Option OpenedObject)) → IsDense slots → items ≡ slots → (i : ℕ) (slot : Option OpenedObject) → i < length items → slot ≡ get_or items i slot
     → (o : OpenedObject) × (slot ≡ Some o) × (slice_get (objects_of slots) i ≡ Some o)
 slot_at slots items dense same i slot low is =
     dense_object slots dense i slot (ap (λ (s : List (Option OpenedObject)). slice_get s i) (sym same) ∙ slice_get_read items (length items) i slot refl low is)
+
+-- the object whose header it is
+pub object_here : (slots : List (Option OpenedObject)) (numbers : BTreeMap ℕ ℕ) → IsNumbered slots numbers → (header : ℕ)
+    → MatchOption (lookup nat_cmp numbers header) (Contains (headers (objects_of slots)) header → ⊥)
+    (λ n. (o : OpenedObject) × (slice_get slots n ≡ Some (Some o)) × (o.messages.header ≡ header))
+object_here slots numbers is header = go (lookup nat_cmp numbers header) refl (dense_index slots numbers is header) where
+  go : (found : Option ℕ) → lookup nat_cmp numbers header ≡ found
+      → MatchOption found (Contains (headers (objects_of slots)) header → ⊥) (λ n. slice_get (headers (objects_of slots)) n ≡ Some header)
+      → MatchOption found (Contains (headers (objects_of slots)) header → ⊥) (λ n. (o : OpenedObject) × (slice_get slots n ≡ Some (Some o)) × (o.messages.header ≡ header))
+  go None got none = none
+  go (Some n) got at = slot_here slots numbers is.index header n got
 
 -- ---- one object more
 

@@ -11,6 +11,7 @@ pub mod TableLaws
 pub mod PlaceLaws
 pub mod GrowLaws
 pub mod WaitLaws
+pub mod FieldsMet
 pub mod UnderLaws
 pub mod StepLaws
 pub mod FollowLaws

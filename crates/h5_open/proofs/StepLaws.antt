@@ -14,6 +14,7 @@ use Rattle.h5_header.specs.Walk.Met.{IsMet}
 use Rattle.h5_group.specs.Links.{lent_link}
 use Rattle.h5_model.specs.declared.link.Link.{Link}
 use Rattle.h5_open.specs.declared.opened.object.OpenedObject.{OpenedObject}
+use Rattle.h5_open.specs.Counted.Counts.{AreCounted}
 use Rattle.h5_open.specs.Opened.Objects.{headers, content_links}
 use Rattle.h5_open.specs.Placed.Whole.{HasHeight, IsLed, AreLed}
 use Rattle.h5_open.specs.Read.{IsObjectRead, IsObjectFollowed, AreWaiting, IsOwn}
@@ -147,6 +148,14 @@ module _ (image : List ℕ) (base held : List Block) (followed : List Named) (ob
       waiting = subst (λ (ys : List Named). AreWaiting image base now ys depth later turn.rest) (sym seam)
           (still_waiting image base held now more_claimed (part.new ++ followed) far.new turn.field depth far.stands later turn.rest turn.others turn.waiting);
     }
+
+-- the link whose turn it is waits before the later ones
+pub next_counted : (image : List ℕ) (objects : List OpenedObject) (counts : List ℕ) (links : List (Link ℕ)) (k : ℕ) (d : Link ℕ) (waiting : List (List ℕ × Target)) → k < length links
+    → AreCounted image objects counts (map lent_link (drop k links) ++ waiting)
+    → AreCounted image objects counts (lent_link (get_or links k d) ∷ (map lent_link (drop (k + 1) links) ++ waiting))
+next_counted image objects counts links k d waiting low are =
+    subst (λ (ls : List (Link ℕ)). AreCounted image objects counts (map lent_link ls ++ waiting))
+    (drop-cons links k d low ∙ ap (λ (n : ℕ). get_or links k d ∷ drop n links) (sym (add-one k))) are
 
 -- ---- the first and the last
 

@@ -17,6 +17,7 @@ use Rattle.h5_open.specs.Placed.Whole.{HasParent}
 use Rattle.h5_open.specs.Read.{IsObjectRead, IsObjectFollowed}
 use Rattle.h5_open.specs.Walk.{IsNamedBy, IsUnder, IsReady}
 use Rattle.h5_open.proofs.PlaceLaws.{weaken_all}
+use Rattle.h5_open.proofs.FieldsMet.{more_fields}
 use Rattle.h5_open.proofs.GrowLaws.{headers-append, cover-objects, cover-object, distinct_push, named_push}
 
 -- a header that names none of the objects is new
@@ -79,4 +80,5 @@ module _ (image : List ℕ) (held now : List Block) (followed : List Named) (obj
         (weaken_all (λ (y : Named). is_header y.role ≡ true → Contains (headers objects) y.at) (λ (y : Named). is_header y.role ≡ true → Contains (headers (objects ++ o ∷ [])) y.at) followed still_known under.known);
     named = all_append (IsNamedBy (gone.new ++ followed)) objects (o ∷ []) (weaken_all (IsNamedBy followed) (IsNamedBy (gone.new ++ followed)) objects still_named under.named)
         ((named field ObjectHeader o.messages.header depth, Contains-append_left gone.new followed (named field ObjectHeader o.messages.header depth) gone.first, refl, refl), tt);
+    fields = λ h. more_fields image held now (gone.new ++ followed) depth objects o gone.fields (λ p. omega (arith, read.claimed p)) gone.waiting h (under.fields h);
   }

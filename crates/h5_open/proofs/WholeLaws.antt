@@ -11,16 +11,18 @@ use Rattle.h5_bytes.specs.Blocks.{holds, Separate}
 use Rattle.h5_bytes.specs.declared.Block.{Block}
 use Rattle.h5_bytes.proofs.BlockLaws.{holds_in, cover_past}
 use Rattle.h5_model.specs.Format.Superblock.{IsSuperblock, end_of_file, root_header, root_header_place, superblock_length}
-use Rattle.h5_model.specs.Format.Reached.{by_superblock}
+use Rattle.h5_model.specs.Format.Reached.{by_superblock, named, ObjectHeader}
 use Rattle.h5_model.specs.Format.Reads.{ReadsAs}
 use Rattle.h5_space.specs.Space.{Space}
 use Rattle.h5_space.specs.Whole.{IsApart}
+use Rattle.h5_header.specs.Walk.Met.{IsMet}
 use Rattle.h5_header.specs.Walk.Walked.{IsWalked}
 use Rattle.h5_open.specs.declared.opened.object.OpenedObject.{OpenedObject}
 use Rattle.h5_open.specs.Opened.Kept.{IsIndex, IsOpened}
 use Rattle.h5_open.specs.Opened.Objects.{objects_of, opened_blocks, table_of, tree_of}
 use Rattle.h5_open.specs.Placed.Whole.{AreLed, IsWholeImage, placed_of}
 use Rattle.h5_open.specs.Walk.{IsNumbered, IsUnder, IsReady, IsTreeRead}
+use Rattle.h5_open.proofs.FieldsMet.{root_fields}
 use Rattle.h5_open.proofs.IndexLaws.{few_objects}
 use Rattle.h5_open.proofs.OpenedLaws.Entries.{get_table}
 
@@ -43,7 +45,19 @@ none_numbered slots numbers none empty =
 
 -- the root's header is met first
 pub root_ready : (image : List ℕ) (held : List Block) → IsSuperblock image → IsWalked image held [] → Separate held → IsReady image held [] [] (root_header_place image) (root_header image) 0
-root_ready image held is walked separate = record {
+root_ready image held is walked separate = record { under = under; met = met; parent = inl refl } where
+  met : IsMet image held [] (named (root_header_place image) ObjectHeader (root_header image) 0)
+  met = record {
+    reached = (let long = is.whole in by_superblock (omega (arith, long)) refl);
+    behind = omega arith;
+    stands = (
+        let before : ℕ = root_header_place image - 8 in
+        let here : holds before 0 (superblock_length image) ≡ 1 = holds_in before 0 (superblock_length image) (omega arith) (omega arith) in
+        omega (arith, here, walked.covered before));
+    fresh = tt;
+  }
+
+  under : IsUnder image held [] []
   under = record {
     walked = walked;
     separate = separate;
@@ -54,18 +68,8 @@ root_ready image held is walked separate = record {
     parents = tt;
     known = tt;
     named = tt;
-  };
-  met = record {
-    reached = (let long = is.whole in by_superblock (omega (arith, long)) refl);
-    behind = omega arith;
-    stands = (
-        let before : ℕ = root_header_place image - 8 in
-        let here : holds before 0 (superblock_length image) ≡ 1 = holds_in before 0 (superblock_length image) (omega arith) (omega arith) in
-        omega (arith, here, walked.covered before));
-    fresh = tt;
-  };
-  parent = inl refl;
-}
+    fields = root_fields image held met;
+  }
 
 pub ready_at : (image : List ℕ) (held : List Block) (objects : List OpenedObject) (header : ℕ) → IsSuperblock image → IsWalked image held [] → Separate held → objects ≡ [] → header ≡ root_header image
     → IsReady image held [] objects (root_header_place image) header 0

@@ -7,7 +7,7 @@ use Rattle.h5_bytes.specs.Blocks.{cover, Separate, Inside}
 use Rattle.h5_bytes.specs.declared.Block.{Block}
 use Rattle.h5_model.specs.Format.Reached.{Named, named, ObjectHeader}
 use Rattle.h5_model.specs.Format.Symbols.{Target, Header, Text}
-use Rattle.h5_model.specs.Faults.Breaches.{is_header}
+use Rattle.h5_model.specs.Faults.Breaches.{is_header, AreLinkFields}
 use Rattle.h5_model.specs.declared.open_fault.Cause.{Cause}
 use Rattle.h5_group.specs.Links.{lent_link}
 use Rattle.h5_model.specs.declared.link.Link.{Link}
@@ -18,6 +18,8 @@ use Rattle.h5_open.specs.Opened.Kept.{IsObjectKept, IsIndex}
 use Rattle.h5_open.specs.Opened.Refused.{IsOpenRefusedAt}
 use Rattle.h5_open.specs.Opened.Objects.{IsDense, headers, objects_of, content_links, object_blocks, opened_blocks, table_of}
 use Rattle.h5_open.specs.Placed.Whole.{IsGroupContent, HasHeight, IsLed, AreLed, HasParent, AreNamed}
+use Rattle.h5_open.specs.Counted.Counts.{AreCounted}
+use Rattle.h5_open.specs.Counted.Links.{leading, all_links}
 use Rattle.h5_open.specs.Read.{IsOwn, AreWaiting}
 
 -- Each number has an object, whose header has the number. No two have one header, and headers lie below 2 GiB, so numbers fit.
@@ -31,8 +33,15 @@ pub record IsNumbered (slots : List (Option OpenedObject)) (numbers : BTreeMap �
 abbrev pub IsNamedBy : List Named → OpenedObject → Type 0
 IsNamedBy followed o = (y : Named) × Contains followed y × (y.at ≡ o.messages.header) × (is_header y.role ≡ true)
 
+-- Different fields that name this header were met, as many as these links lead to it. They stand in claimed blocks.
+pub record AreFieldsMet (image : List ℕ) (held : List Block) (links : List (List ℕ × Target)) (header : ℕ) : Type 0 where
+  pub fields : List ℕ
+  pub name : AreLinkFields image header fields
+  pub stand : AllByRecursion (λ field. 1 ≤ cover (field - 8) held) fields
+  pub long : length fields ≡ leading header links
+
 -- The walk has read these objects, and claimed their blocks and the superblock. Each followed field that names a header names that of
--- one of them.
+-- one of them. The fields of all their links were met.
 pub record IsUnder (image : List ℕ) (held : List Block) (followed : List Named) (objects : List OpenedObject) : Type 0 where
   pub walked : IsWalked image held followed
   pub separate : Separate held
@@ -43,6 +52,7 @@ pub record IsUnder (image : List ℕ) (held : List Block) (followed : List Named
   pub parents : AreNamed image [] objects
   pub known : AllByRecursion (λ (y : Named). is_header y.role ≡ true → Contains (headers objects) y.at) followed
   pub named : AllByRecursion (IsNamedBy followed) objects
+  pub fields : (header : ℕ) → AreFieldsMet image held (all_links image objects) header
 
 -- The walk has come to a field that names a header; it is the root's, or that of a link of an object that was read.
 pub record IsReady (image : List ℕ) (held : List Block) (followed : List Named) (objects : List OpenedObject) (field header depth : ℕ) : Type 0 where
@@ -86,18 +96,24 @@ ReadsFrom image old now objects objects' header depth = (followed : List Named) 
     → IsReady image old followed objects field header depth → IsTreeRead image old now followed objects objects' field header depth
 
 -- or one of these objects is refused
-abbrev pub IsFaultFrom : List ℕ → List Block → List OpenedObject → ℕ → ℕ → Cause → ℕ → Type 0
-IsFaultFrom image old objects header depth cause address = (followed : List Named) (field : ℕ)
-    → IsReady image old followed objects field header depth → IsOpenRefusedAt image cause address
+abbrev pub IsFaultFrom : List ℕ → List Block → List OpenedObject → List ℕ → List ℕ → ℕ → ℕ → Cause → ℕ → Type 0
+IsFaultFrom image old objects counts name header depth cause address = (followed : List Named) (field : ℕ) (waiting : List (List ℕ × Target))
+    → IsReady image old followed objects field header depth → AreCounted image objects counts ((name, Header header) ∷ waiting)
+    → IsOpenRefusedAt image cause address
 
 -- the same from wherever it has come to this link
 abbrev pub ReadsLink : List ℕ → List Block → List Block → List OpenedObject → List OpenedObject → ℕ → (List ℕ × Target) → Type 0
 ReadsLink image old now objects objects' depth link = (followed : List Named) (field : ℕ)
     → IsLinkReady image old followed objects field depth link → IsLinkRead image old now followed objects objects' field depth link
 
-abbrev pub IsLinkFault : List ℕ → List Block → List OpenedObject → ℕ → (List ℕ × Target) → Cause → ℕ → Type 0
-IsLinkFault image old objects depth link cause address = (followed : List Named) (field : ℕ)
-    → IsLinkReady image old followed objects field depth link → IsOpenRefusedAt image cause address
+abbrev pub IsLinkFault : List ℕ → List Block → List OpenedObject → List ℕ → ℕ → (List ℕ × Target) → Cause → ℕ → Type 0
+IsLinkFault image old objects counts depth link cause address = (followed : List Named) (field : ℕ) (waiting : List (List ℕ × Target))
+    → IsLinkReady image old followed objects field depth link → AreCounted image objects counts (link ∷ waiting) → IsOpenRefusedAt image cause address
+
+-- the link does not wait any more: it was followed and counted, and so were all links of the objects that were read then
+abbrev pub CountsLink : List ℕ → List OpenedObject → List ℕ → List OpenedObject → List ℕ → (List ℕ × Target) → Type 0
+CountsLink image objects counts objects' counts' link = (waiting : List (List ℕ × Target))
+    → AreCounted image objects counts (link ∷ waiting) → AreCounted image objects' counts' waiting
 
 -- Of the links of an object that was read, so many were followed; the others wait.
 pub record IsPartly (image : List ℕ) (held now : List Block) (followed : List Named) (objects objects' : List OpenedObject) (field header depth : ℕ) (links : List (Link ℕ)) (k : ℕ) : Type 0 where

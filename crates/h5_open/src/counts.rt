@@ -1,5 +1,6 @@
 //! Reference counts: each object header says how many links lead to it (File Format Specification 3.0, section IV.A.1.a).
 mod check;
-mod links;
+mod tally;
 
 pub(crate) use check::check_counts;
+pub(crate) use tally::{Tally, count_again, push_counted};

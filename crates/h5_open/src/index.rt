@@ -1,6 +1,6 @@
 //! What is kept of an opened image: its objects, and the table of their numbers (File Format Specification 3.0, section IV.A).
 
-ghost use Rattle.std.specs.Prelude.{◌≡◌, ℕ, ◌^◌, ◌<◌, [], ◌∷◌, ◌++◌, IfSome, IfNone, IfErr, OnErr, OnOk, Some, None, length, slice_get, slice_set};
+ghost use Rattle.std.specs.Prelude.{◌≡◌, ℕ, ◌^◌, ◌<◌, [], ◌∷◌, ◌++◌, IfErr, MatchOption, OnErr, OnOk, Some, None, length, slice_get, slice_set};
 ghost use Rattle.std.specs.BTreeMap.{Updates};
 ghost use Rattle.std.specs.List.{Contains, IsDistinct};
 ghost use Rattle.std.specs.Ordering.{eq_by_cmp, nat_cmp};
@@ -24,15 +24,22 @@ pub(crate) struct Index {
     pub(crate) numbers: BTreeMap<u64, u32>,
 }
 
-/// The object whose header is at this address, where it was read.
-pub(crate) fn object_at(index: &Index, header: u64) -> Option<&OpenedObject>
+/// The number of the object whose header is at this address, where it was read.
+pub(crate) fn known_number(index: &Index, header: u64) -> Option<u32>
     requires { IsNumbered index.now.objects.items index.now.numbers }
-    ensures object { IfSome result (λ o. Contains (objects_of index.now.objects.items) o.now) }
-    ensures header { IfSome result (λ o. o.now.messages.header ≡ header) }
-    ensures none { IfNone result (Contains (headers (objects_of index.now.objects.items)) header → ⊥) }
+    ensures { MatchOption result (Contains (headers (objects_of index.now.objects.items)) header → ⊥)
+        (λ n. (o : OpenedObject) × (slice_get index.now.objects.items n ≡ Some (Some o))
+        × (o.messages.header ≡ header)) }
 {
-    let number = *index.numbers.get(&header)?;
-    index.objects[number as usize].as_ref()
+    index.numbers.get(&header).copied()
+}
+
+/// The object of this number. Takes no memory.
+pub(crate) fn object_numbered(index: &Index, number: u32) -> &OpenedObject
+    requires { (o : OpenedObject) × (slice_get index.now.objects.items number ≡ Some (Some o)) }
+    ensures { slice_get index.now.objects.items number ≡ Some (Some result.now) }
+{
+    index.objects[number as usize].as_ref().unwrap()
 }
 
 /// Gives the object that was read the next number. Refused is want of memory alone.

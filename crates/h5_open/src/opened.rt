@@ -58,9 +58,10 @@ impl Model for Opened {
 impl Opened {
     /// Opens an image: reads the root, and all objects to which links lead from there.
     ///
-    /// Each block is looked at once. Memory is taken for the messages that stand in claimed blocks, for the nodes and
-    /// leaves of one tree at a time, and for a reference to each link of the groups on the way from the root. That
-    /// the image begins with a superblock, ends where that says, and has no free block, are the caller's conditions.
+    /// Each block is looked at once. Memory is taken for the messages that stand in claimed blocks, for a number for
+    /// each object, for the nodes and leaves of one tree at a time, and for a reference to each link of the groups on
+    /// the way from the root. That the image begins with a superblock, ends where that says, and has no free block, are
+    /// the caller's conditions.
     ///
     /// # Errors
     ///
@@ -71,8 +72,9 @@ impl Opened {
     ///   names of a group, or with the block or the chunks of an array.
     /// - `TooDeep`, at a symbol node: it has a link 65 names below the root.
     /// - `GroupLinkedTwice`, at the header of a group: a second link leads to it.
-    /// - When all objects are read, by their numbers: a reference count in a header that is not the count of its
-    ///   links (`LinkCount`), or more than 65535 links (`TooLarge`).
+    /// - `TooLarge`, at the header of an array: a 65536th link leads to it.
+    /// - `LinkCount`, at a header, by the objects' numbers when all are read: its reference count is not the count of
+    ///   the links that lead to it.
     /// - `NoMemory`, at any time: memory is refused. An image that reads as a tree is refused by this alone.
     pub fn open(alloc: Global, image: Image) -> Result<Opened, (OpenFault, Image)>
         requires superblock { IsSuperblock image.bytes }

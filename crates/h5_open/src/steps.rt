@@ -1,24 +1,24 @@
 //! The walk of opening: from the superblock to all objects, depth first (File Format Specification 3.0, sections II.A, III and IV.A).
 
-ghost use Rattle.std.specs.Prelude.{◌≡◌, ◌+◌, ◌^◌, ◌≤◌, [], length, IfOk, IfErr, OnOk};
+ghost use Rattle.std.specs.Prelude.{◌≡◌, ◌+◌, ◌^◌, ◌≤◌, [], List, ℕ, length, IfOk, IfErr, OnOk};
 ghost use Rattle.std.specs.List.{Contains};
 ghost use Rattle.h5_model.specs.Format.Superblock.{IsSuperblock, end_of_file};
+ghost use Rattle.h5_model.specs.Format.Symbols.{Header};
 ghost use Rattle.h5_group.specs.Links.{lent_link};
 ghost use Rattle.h5_header.specs.Walk.Walked.{IsWalked};
 ghost use Rattle.h5_open.specs.Opened.Kept.{IsOpened};
 ghost use Rattle.h5_open.specs.Opened.Refused.{IsOpenRefusedAt, ReadsSome};
 ghost use Rattle.h5_open.specs.Opened.Objects.{IsDense, headers, objects_of};
 ghost use Rattle.h5_bytes.specs.Blocks.{Separate};
-ghost use Rattle.h5_open.specs.Walk.{IsNumbered, ReadsFrom, IsFaultFrom, ReadsLink, IsLinkFault};
+ghost use Rattle.h5_open.specs.Walk.{IsNumbered, ReadsFrom, IsFaultFrom, ReadsLink, IsLinkFault, CountsLink};
 
-use crate::counts::check_counts;
-use crate::index::{Index, object_at, push_object};
+use crate::counts::{Tally, check_counts, count_again, push_counted};
+use crate::index::{Index, known_number};
 use crate::object::{links_in, read_object};
-use crate::opened::OpenedContent;
 use h5_bytes::Block;
 use h5_header::claim;
 use h5_model::{Cause, Link, LinkTo, OpenFault};
-use h5_space::{Claims, Image, fault, root_header, superblock_length};
+use h5_space::{Claims, Image, root_header, superblock_length};
 use std::alloc::Global;
 use std::collections::BTreeMap;
 
@@ -35,14 +35,17 @@ pub(crate) fn walk(alloc: Global, image: &Image) -> Result<Index, OpenFault>
     ensures only { IfErr result (λ fault. ReadsSome image.now.bytes → fault.cause ≡ Cause.NoMemory) }
 {
     let mut claims = claim_superblock(alloc, image)?;
-    let mut index = Index {
-        objects: Vec::new(alloc),
-        numbers: BTreeMap::new(alloc),
+    let mut tally = Tally {
+        index: Index {
+            objects: Vec::new(alloc),
+            numbers: BTreeMap::new(alloc),
+        },
+        counts: Vec::new(alloc),
     };
     let header = root_header(image.bytes());
-    read_tree(alloc, image, &mut claims, &mut index, header, 0)?;
-    check_counts(alloc, image, &index)?;
-    Ok(index)
+    read_tree(alloc, image, &mut claims, &mut tally, header, 0)?;
+    check_counts(image, &tally)?;
+    Ok(tally.index)
 }
 
 /// Claims the superblock.
@@ -62,69 +65,79 @@ fn claim_superblock(alloc: Global, image: &Image) -> Result<Claims, OpenFault>
     Ok(claims)
 }
 
-/// Reads the object at `header`, so many links below the root, and all objects below it that were not read before.
+/// Reads the object at `header`, so many links below the root, and all objects below it that were not read before. The link to it
+/// and those that are followed then are counted.
 #[cycle(tree)]
 fn read_tree(
     alloc: Global,
     image: &Image,
     claims: &mut Claims,
-    index: &mut Index,
+    tally: &mut Tally,
     header: u64,
     depth: u8,
 ) -> Result<(), OpenFault>
     requires superblock { IsSuperblock image.now.bytes }
     requires small { length image.now.bytes ≤ 2 ^ 31 }
     requires end { claims.old.end ≡ length image.now.bytes }
-    requires index { IsNumbered index.old.objects.items index.old.numbers }
-    requires new { Contains (headers (objects_of index.old.objects.items)) header → ⊥ }
+    requires index { IsNumbered tally.old.index.objects.items tally.old.index.numbers }
+    requires length { length tally.old.counts.items ≡ length tally.old.index.objects.items }
+    requires new { Contains (headers (objects_of tally.old.index.objects.items)) header → ⊥ }
     requires depth { depth ≤ 64 }
     ensures end { claims.new.end ≡ claims.old.end }
-    ensures index { OnOk result (IsNumbered index.new.objects.items index.new.numbers) }
+    ensures index { OnOk result (IsNumbered tally.new.index.objects.items tally.new.index.numbers) }
+    ensures length { OnOk result (length tally.new.counts.items ≡ length tally.new.index.objects.items) }
     ensures read { OnOk result (ReadsFrom image.now.bytes claims.old.held claims.new.held
-        (objects_of index.old.objects.items) (objects_of index.new.objects.items) header depth) }
-    ensures refused { IfErr result (λ fault. IsFaultFrom image.now.bytes claims.old.held
-        (objects_of index.old.objects.items) header depth fault.cause fault.address) }
+        (objects_of tally.old.index.objects.items) (objects_of tally.new.index.objects.items) header depth) }
+    ensures counted { OnOk result ((name : List ℕ) → CountsLink image.now.bytes
+        (objects_of tally.old.index.objects.items) tally.old.counts.items
+        (objects_of tally.new.index.objects.items) tally.new.counts.items (name, Header header)) }
+    ensures refused { IfErr result (λ fault. (name : List ℕ) → IsFaultFrom image.now.bytes claims.old.held
+        (objects_of tally.old.index.objects.items) tally.old.counts.items name header depth fault.cause
+        fault.address) }
 {
     let object = read_object(alloc, image, claims, header, depth)?;
     let links = links_in(alloc, image, &object)?;
-    push_object(index, object)?;
+    push_counted(tally, object)?;
     for link in &links {
-        follow(alloc, image, claims, index, *link, depth)?;
+        follow(alloc, image, claims, tally, *link, depth)?;
     }
     Ok(())
 }
 
-/// Reads what a link of an object leads to that is so many links below the root, where it was not read before.
+/// Counts a link of an object that is so many links below the root, and reads what it leads to, where that was not read before.
 #[cycle(tree)]
 fn follow(
     alloc: Global,
     image: &Image,
     claims: &mut Claims,
-    index: &mut Index,
+    tally: &mut Tally,
     link: Link<'_, u64>,
     depth: u8,
 ) -> Result<(), OpenFault>
     requires superblock { IsSuperblock image.now.bytes }
     requires small { length image.now.bytes ≤ 2 ^ 31 }
     requires end { claims.old.end ≡ length image.now.bytes }
-    requires index { IsNumbered index.old.objects.items index.old.numbers }
+    requires index { IsNumbered tally.old.index.objects.items tally.old.index.numbers }
+    requires length { length tally.old.counts.items ≡ length tally.old.index.objects.items }
     requires depth { depth + 1 ≤ 64 }
     ensures end { claims.new.end ≡ claims.old.end }
-    ensures index { OnOk result (IsNumbered index.new.objects.items index.new.numbers) }
+    ensures index { OnOk result (IsNumbered tally.new.index.objects.items tally.new.index.numbers) }
+    ensures length { OnOk result (length tally.new.counts.items ≡ length tally.new.index.objects.items) }
     ensures read { OnOk result (ReadsLink image.now.bytes claims.old.held claims.new.held
-        (objects_of index.old.objects.items) (objects_of index.new.objects.items) depth
+        (objects_of tally.old.index.objects.items) (objects_of tally.new.index.objects.items) depth
         (lent_link link.entry)) }
+    ensures counted { OnOk result (CountsLink image.now.bytes
+        (objects_of tally.old.index.objects.items) tally.old.counts.items
+        (objects_of tally.new.index.objects.items) tally.new.counts.items (lent_link link.entry)) }
     ensures refused { IfErr result (λ fault. IsLinkFault image.now.bytes claims.old.held
-        (objects_of index.old.objects.items) depth (lent_link link.entry) fault.cause fault.address) }
+        (objects_of tally.old.index.objects.items) tally.old.counts.items depth (lent_link link.entry) fault.cause
+        fault.address) }
 {
     let LinkTo::Object(header) = link.to else {
         return Ok(());
     };
-    if let Some(object) = object_at(index, header) {
-        return match object.content {
-            OpenedContent::Group(_) => Err(fault(Cause::GroupLinkedTwice, header)),
-            OpenedContent::Array => Ok(()),
-        };
+    match known_number(&tally.index, header) {
+        Some(number) => count_again(tally, number),
+        None => read_tree(alloc, image, claims, tally, header, depth + 1),
     }
-    read_tree(alloc, image, claims, index, header, depth + 1)
 }

@@ -1,37 +1,30 @@
 -- The links to an object of the image, as they are counted: that its reference count is right, or wrong.
-use Rattle.std.proofs.Common.{◌≡◌, ◌≢◌, ℕ, ◌+◌, ◌<◌, ◌≤◌, inl, inr, List, [], ◌∷◌, length, refl, sym, ap, ◌∙◌, subst, arith, true, false, Bool}
-use Rattle.std.proofs.lemmas.Bool.Decides.{nat_tests}
+use Rattle.std.proofs.Common.{◌≡◌, ◌≢◌, ℕ, ◌+◌, ◌≤◌, inl, inr, List, [], ◌∷◌, length, refl, sym, ap, ◌∙◌, subst, arith}
 use Rattle.std.specs.Prelude.{◌==◌, if◌then◌else◌}
 use Rattle.std.specs.List.{AllByRecursion, Contains}
 use Rattle.std.specs.Ordering.{nat_cmp}
 use Rattle.std.specs.FinMap.{FinMap}
 use Rattle.h5_bytes.specs.Blocks.{Inside}
-use Rattle.h5_model.specs.Format.Addresses.{symbol_table_of}
-use Rattle.h5_model.specs.Format.Reached.{Named, named, ObjectHeader, Reached, kind_at}
+use Rattle.h5_model.specs.Format.Reached.{named, ObjectHeader, Reached}
 use Rattle.h5_model.specs.Tree.Objects.{hard_links}
 use Rattle.h5_model.specs.Format.Reads.{Placed, IsGroup, IsCounted, ReadsAs, Holds}
-use Rattle.h5_model.specs.Faults.Breaches.{AreAllLinks, ReachedBreach}
-use Rattle.h5_model.specs.Faults.HeaderFaults.{SomeMessage}
-use Rattle.h5_model.specs.declared.open_fault.Cause.{Cause}
-use Rattle.h5_model.specs.declared.open_fault.Cause.TheVariants.{TooLarge, LinkCount, GroupLinkedTwice}
-use Rattle.h5_model.specs.Format.Messages.{Message}
+use Rattle.h5_model.specs.Faults.Breaches.{AreAllLinks}
+use Rattle.h5_model.specs.declared.open_fault.Cause.TheVariants.{LinkCount}
+use Rattle.h5_model.specs.Format.Messages.{Message, prefix_at, reference_count}
 use Rattle.h5_header.specs.Listed.{messages_in}
 use Rattle.h5_group.specs.Nodes.Walk.{IsFault}
 use Rattle.h5_open.specs.declared.opened.object.OpenedObject.{OpenedObject}
 use Rattle.h5_open.specs.declared.opened.object.OpenedContent.{OpenedContent}
 use Rattle.h5_open.specs.declared.opened.object.OpenedContent.TheVariants as content
-use Rattle.h5_open.specs.Opened.Kept.{IsObjectKept, IsContentKept}
+use Rattle.h5_open.specs.Opened.Kept.{IsObjectKept}
 use Rattle.h5_open.specs.Opened.Objects.{table_of, tree_of, content_in, object_in, object_blocks, slots_of}
 use Rattle.h5_open.specs.Placed.Whole.{IsGroupContent, IsWholeImage, placed_from, placed_of}
-use Rattle.h5_laws.proofs.Lists.{In, in_all, contains_in}
-use Rattle.h5_laws.proofs.Pigeonhole.{Apart, apart_of_distinct}
-use Rattle.h5_laws.proofs.Datasets.{find_in, said_first}
-use Rattle.h5_laws.proofs.MetMessages.{message_met}
+use Rattle.h5_laws.proofs.Lists.{In, in_all}
 use Rattle.h5_laws.proofs.LinkCounts.{object_count}
 use Rattle.h5_laws.proofs.AllReached.{all_reached}
 use Rattle.h5_laws.proofs.Holding.{linked_by}
 use Rattle.h5_open.specs.Counted.Links.{leading, all_links}
-use Rattle.h5_open.specs.Counted.Counts.{IsCount, IsRight, IsWrong}
+use Rattle.h5_open.specs.Counted.Counts.{IsCount}
 use Rattle.h5_open.proofs.CountedLaws.FieldCounts.{fields_count}
 
 -- a group of the tree is a group that was read
@@ -39,35 +32,10 @@ is_group_content : (image : List ℕ) (table : FinMap nat_cmp ℕ) (ms : List Me
 is_group_content image table ms (content.Group t) is = tt
 is_group_content image table ms content.Array is = is
 
--- of two different fields one is not this
-other_in : (fields : List ℕ) → Apart fields → 1 < length fields → (f : ℕ) → (g : ℕ) × In g fields × (g ≢ f)
-other_in [] apart two f = absurd (omega (arith, two))
-other_in (a ∷ []) apart two f = absurd (omega (arith, two))
-other_in (a ∷ b ∷ fields) apart two f = go (a == f) refl where
-  go : (t : Bool) → (a == f) ≡ t → (g : ℕ) × In g (a ∷ b ∷ fields) × (g ≢ f)
-  go true e =
-      let same : a ≡ f = grind (arith, nat_tests, e) in
-      (b, inr (inl refl), (λ is. apart.0 (inl (is ∙ sym same))))
-  go false e = let other : a ≢ f = grind (arith, nat_tests, e) in (a, inl refl, other)
-
 pub header_inside : (image : List ℕ) (o : OpenedObject) → IsObjectKept image o → o.messages.header + 16 ≤ length image
 header_inside image o kept =
     let laid = subst (Inside (length image)) kept.header.has.laid kept.header.inside in
     omega (arith, laid.0)
-
--- the header of a group has a Symbol Table message
-table_met : (image : List ℕ) (o : OpenedObject) → IsObjectKept image o → IsGroupContent o.content → SomeMessage image o.messages.header (λ kind. kind == 17)
-table_met image o kept is = go o.content is kept.content where
-  go : (c : OpenedContent) → IsGroupContent c → IsContentKept image (messages_in image o.messages.list) c → SomeMessage image o.messages.header (λ kind. kind == 17)
-  go content.Array never of = absurd never
-  go (content.Group t) group of =
-      let ms = messages_in image o.messages.list in
-      let first = said_first symbol_table_of 17 ms t of.1 in
-      let m = find_in 17 ms first.0 first.1 in
-      let met = message_met image o.messages.header ms o.messages.blocks kept.header.has kept.header.inside first.0 m.0 in
-      let is_table : kind_at image met.at ≡ 17 = met.kind ∙ m.1 in
-      let kind : (kind_at image met.at == 17) ≡ true = grind (arith, nat_tests, is_table) in
-      (met.at, met.fits.0, kind)
 
 module _ (image : List ℕ) (objects : List OpenedObject) (whole : IsWholeImage image objects)
     (holds : Holds image (table_of (slots_of objects)) (tree_of image (slots_of objects)) (placed_of image objects)) where
@@ -122,17 +90,17 @@ module _ (image : List ℕ) (objects : List OpenedObject) (whole : IsWholeImage 
 
   -- the count of an object is right
   abbrev HasRight : OpenedObject → Type 0
-  HasRight o = (count : ℕ) × IsRight image o count × IsCount count (leading o.messages.header (all_links image objects))
+  HasRight o = (count : ℕ) × (reference_count (prefix_at image o.messages.header) ≡ count) × IsCount image objects [] o count
 
   one_counted : (n : ℕ) (o : OpenedObject) → In (place n o) (placed_of image objects) → HasRight o → IsCounted image (tree_of image (slots_of objects)) (place n o)
   one_counted n o member has =
       let known = placed_named (place n o) member in
       let links = links_are (place n o) member in
-      let is : has.0 ≡ leading o.messages.header (all_links image objects) = has.2.exact has.1.limit in
+      let is : has.0 ≡ leading o.messages.header (all_links image objects) = omega (arith, has.2.exact) in
       let some : 1 ≤ leading o.messages.header (all_links image objects) = omega (arith, known.among.1, known.long) in record {
-        counted = has.1.counted ∙ is ∙ links;
-        once = λ group. let most : has.0 ≤ 1 = has.1.once (is_group_content image table (messages_in image o.messages.list) o.content group) in omega (arith, has.1.counted, is, some, most);
-        limit = omega (arith, has.1.limit, is, links);
+        counted = has.1 ∙ is ∙ links;
+        once = λ group. let most : has.0 ≤ 1 = has.2.once (is_group_content image table (messages_in image o.messages.list) o.content group) in omega (arith, has.1, is, some, most);
+        limit = omega (arith, has.2.limit, is, links);
       }
 
   each_counted : (n : ℕ) (some : List OpenedObject) → ((x : Placed) → In x (placed_from image table n some) → In x (placed_of image objects))
@@ -148,28 +116,13 @@ module _ (image : List ℕ) (objects : List OpenedObject) (whole : IsWholeImage 
 
   -- ---- wrong
 
-  breach_at : (header : ℕ) (known : IsNamed header) (cause : Cause) → ReachedBreach image (named known.field ObjectHeader header known.depth) cause
-      → (z : Named) × Reached image z × (z.at ≡ header) × ReachedBreach image z cause
-  breach_at header known cause breach = (named known.field ObjectHeader header known.depth, known.reached, refl, breach)
-
-  pub wrong_fault : (o : OpenedObject) → In o objects → (count : ℕ) → IsCount count (leading o.messages.header (all_links image objects)) → (cause : Cause)
-      → IsWrong image o count cause → IsFault image cause o.messages.header
-  wrong_fault o member count counts TooLarge wrong =
+  pub wrong_fault : (o : OpenedObject) → In o objects → reference_count (prefix_at image o.messages.header) ≢ leading o.messages.header (all_links image objects)
+      → IsFault image LinkCount o.messages.header
+  wrong_fault o member wrong =
       let known = object_named o member in
-      let kept = in_all (IsObjectKept image) o objects whole.each member in
-      let many : 65535 < length known.fields = omega (arith, counts.many wrong, known.long) in
-      breach_at o.messages.header known TooLarge (header_inside image o kept, inl (refl, (known.fields, known.all.links, many)))
-  wrong_fault o member count counts LinkCount wrong =
-      let known = object_named o member in
-      let kept = in_all (IsObjectKept image) o objects whole.each member in
-      breach_at o.messages.header known LinkCount
-      (header_inside image o kept, (refl, (known.fields, known.all, (λ same. wrong.1 (same ∙ known.long ∙ sym (counts.exact wrong.0))))))
-  wrong_fault o member count counts GroupLinkedTwice wrong =
-      let known = object_named o member in
-      let kept = in_all (IsObjectKept image) o objects whole.each member in
-      let two : 1 < length known.fields = omega (arith, wrong.2, counts.exact wrong.0, known.long) in
-      let other = other_in known.fields (apart_of_distinct known.fields known.all.links.once) two known.field in
-      let y = known.all.links.each other.0 (contains_in other.0 known.fields other.1) in
-      breach_at o.messages.header known GroupLinkedTwice
-      (header_inside image o kept, (refl, table_met image o kept wrong.1, (y.0, y.1, (λ same. other.2 (sym y.2 ∙ same)), y.3, y.4)))
-  wrong_fault o member count counts _ wrong = absurd wrong
+      let kept = in_all (IsObjectKept image) o objects whole.each member in (
+        named known.field ObjectHeader o.messages.header known.depth,
+        known.reached,
+        refl,
+        (header_inside image o kept, (refl, (known.fields, known.all, (λ same. wrong (same ∙ known.long))))),
+      )

@@ -17,7 +17,7 @@ ghost use Rattle.h5_open.specs.Opened.Objects.{object_blocks, tree_of};
 ghost use Rattle.h5_open.specs.SlotsInPlace.{blocks_at};
 
 use super::OpenedObject;
-use crate::index::Index;
+use crate::index::{Index, object_numbered};
 use crate::object::{claim_object, links_in};
 use h5_model::LinkTo;
 use h5_space::{Claims, Image};
@@ -107,14 +107,6 @@ fn lose_links(
         }
     }
     Ok(())
-}
-
-/// The object of this number. Takes no memory.
-fn object_numbered(index: &Index, number: u32) -> &OpenedObject
-    requires { (o : OpenedObject) × (slice_get index.now.objects.items number ≡ Some (Some o)) }
-    ensures { slice_get index.now.objects.items number ≡ Some (Some result.now) }
-{
-    index.objects[number as usize].as_ref().unwrap()
 }
 
 /// Counts one lost link to the object of this number.

@@ -1,5 +1,8 @@
-use Rattle.std.proofs.Common.{◌≡◌, ℕ, ◌+◌, ◌-◌, ◌*◌, ◌≤◌, List, length}
+use Rattle.std.proofs.Common.{◌≡◌, ℕ, ◌+◌, ◌-◌, ◌*◌, ◌≤◌, List, ◌∷◌, ◌++◌, drop, length, map}
 use Rattle.h5_model.specs.Format.Reached.{Named}
+use Rattle.h5_model.specs.Format.Symbols.{Target, Header}
+use Rattle.h5_group.specs.Links.{lent_link}
+use Rattle.h5_open.specs.Counted.Counts.{AreCounted}
 use Rattle.h5_open.specs.Opened.Objects.{objects_of}
 use Rattle.h5_open.specs.Walk.{IsNumbered, IsReady, IsPartly}
 use Rattle.h5_open.proofs.steps.+tree.Given as goal
@@ -13,8 +16,12 @@ decreases-read_tree l = 2 * (65 - l.depth) + 1
 abbrev pub invariant-read_tree-loop-link : goal.invariant-read_tree-loop-link
 invariant-read_tree-loop-link l = record {
   end : l.claims.end ≡ length l.image.bytes;
-  index : IsNumbered l.index.objects.items l.index.numbers;
+  index : IsNumbered l.tally.index.objects.items l.tally.index.numbers;
+  long : length l.tally.counts.items ≡ length l.tally.index.objects.items;
   deep : 1 ≤ length l.link-items → l.depth + 1 ≤ 64;
-  read : (followed : List Named) (field : ℕ) → IsReady l.image.bytes l.fn.claims.held followed (objects_of l.fn.index.objects.items) field l.header l.depth
-      → IsPartly l.image.bytes l.fn.claims.held l.claims.held followed (objects_of l.fn.index.objects.items) (objects_of l.index.objects.items) field l.header l.depth l.link-items l.link-index;
+  read : (followed : List Named) (field : ℕ) → IsReady l.image.bytes l.fn.claims.held followed (objects_of l.fn.tally.index.objects.items) field l.header l.depth
+      → IsPartly l.image.bytes l.fn.claims.held l.claims.held followed (objects_of l.fn.tally.index.objects.items) (objects_of l.tally.index.objects.items) field l.header l.depth l.link-items l.link-index;
+  counted : (name : List ℕ) (waiting : List (List ℕ × Target))
+      → AreCounted l.image.bytes (objects_of l.fn.tally.index.objects.items) l.fn.tally.counts.items ((name, Header l.header) ∷ waiting)
+      → AreCounted l.image.bytes (objects_of l.tally.index.objects.items) l.tally.counts.items (map lent_link (drop l.link-index l.link-items) ++ waiting);
 }
