@@ -130,8 +130,8 @@ fn follow(
         (objects_of tally.old.index.objects.items) tally.old.counts.items
         (objects_of tally.new.index.objects.items) tally.new.counts.items (lent_link link.entry)) }
     ensures refused { IfErr result (λ fault. IsLinkFault image.now.bytes claims.old.held
-        (objects_of tally.old.index.objects.items) tally.old.counts.items depth (lent_link link.entry) fault.cause
-        fault.address) }
+        (objects_of tally.old.index.objects.items) tally.old.counts.items depth (lent_link link.entry)
+        fault.cause fault.address) }
 {
     let LinkTo::Object(header) = link.to else {
         return Ok(());

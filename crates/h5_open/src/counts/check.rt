@@ -22,7 +22,8 @@ use h5_space::{Image, fault};
 pub(crate) fn check_counts(image: &Image, tally: &Tally) -> Result<(), OpenFault>
     requires whole { IsWholeImage image.now.bytes (objects_of tally.now.index.objects.items) }
     requires all { IsDense tally.now.index.objects.items }
-    requires counted { AreCounted image.now.bytes (objects_of tally.now.index.objects.items) tally.now.counts.items [] }
+    requires counted { AreCounted image.now.bytes (objects_of tally.now.index.objects.items)
+        tally.now.counts.items [] }
     ensures reads { OnOk result (ReadsAs image.now.bytes (table_of tally.now.index.objects.items)
         (tree_of image.now.bytes tally.now.index.objects.items)
         (placed_of image.now.bytes (objects_of tally.now.index.objects.items))) }
