@@ -683,13 +683,15 @@ static double i_ours(void) {
 
 /* ---- the floor */
 
-static double copied(const void *bytes, size_t length) {
+/* Copies bytes into fresh memory, and from there so many of them once more, into memory that was used before. */
+static double copied(const void *bytes, size_t length, size_t again) {
     double from = now();
     void *fresh = mmap(NULL, length, PROT_READ | PROT_WRITE, MAP_PRIVATE | MAP_ANONYMOUS, -1, 0);
     TRUE(fresh != MAP_FAILED);
     memcpy(fresh, bytes, length);
+    memcpy(room, fresh, again);
     double time = now() - from;
-    TRUE(memcmp(fresh, bytes, length) == 0);
+    TRUE(memcmp(fresh, bytes, length) == 0 && memcmp(room, bytes, again) == 0);
     munmap(fresh, length);
     return time;
 }
@@ -705,26 +707,27 @@ static const struct {
     double (*theirs)(void), (*ours)(void);
     size_t bytes;         /* how many it has to move; none where that says nothing */
     const size_t *length; /* the same, where it is known later */
+    size_t again;         /* how many of them are to be moved once more */
 } phases[] = {
-    {'a', true, "10000 datasets created and written", a_theirs, a_ours, 0, NULL},
-    {'b', false, "64 MB written, in 4096 chunks not yet stored", b_theirs, b_ours, BIG, NULL},
-    {'c', false, "2233140 strided cells read", strided_theirs, strided_ours, STRIDED * 4, NULL},
-    {'c', false, "64 MB read, in chunks", whole_theirs, whole_ours, BIG, NULL},
-    {'c', false, "64 MB opened and read", opened_theirs, opened_ours, BIG, NULL},
-    {'d', false, "100000 single cells written", d_theirs, d_ours, 0, NULL},
-    {'e', true, "10000 hard links made", e_theirs, e_ours, 0, NULL},
-    {'e', false, "10000 links opened and listed", links_listed_theirs, links_listed_ours, 0, &lengths[0]},
-    {'e', false, "10000 datasets listed with types", arrays_listed_theirs, arrays_listed_ours, 0, &lengths[1]},
-    {'f', true, "2000 times grown, written, shrunk", written_theirs, written_ours, 0, NULL},
-    {'f', true, "the same beside 64 MB", written_beside_theirs, written_beside_ours, 0, NULL},
-    {'f', true, "20000 times resized", sized_theirs, sized_ours, 0, NULL},
-    {'f', true, "the same beside 64 MB", sized_beside_theirs, sized_beside_ours, 0, NULL},
-    {'g', true, "5000 of 10000 links unlinked", links_gone_theirs, links_gone_ours, 0, NULL},
-    {'g', true, "5000 of 10000 datasets unlinked", arrays_gone_theirs, arrays_gone_ours, 0, NULL},
-    {'h', false, "1000000 reads of 16 cells", h_theirs, h_ours, 0, NULL},
-    {'i', false, "20000 times an attribute set, of 50", i_theirs, i_ours, 0, NULL},
-    {'j', true, "100000 times a chunk appended", appended_theirs, appended_ours, 0, NULL},
-    {'j', true, "the same beside 64 MB", appended_beside_theirs, appended_beside_ours, 0, NULL},
+    {'a', true, "10000 datasets created and written", a_theirs, a_ours, 0, NULL, 0},
+    {'b', false, "64 MB written, in 4096 chunks not yet stored", b_theirs, b_ours, BIG, NULL, 0},
+    {'c', false, "2233140 strided cells read", strided_theirs, strided_ours, STRIDED * 4, NULL, 0},
+    {'c', false, "64 MB read, in chunks", whole_theirs, whole_ours, BIG, NULL, 0},
+    {'c', false, "64 MB opened and read", opened_theirs, opened_ours, BIG, NULL, BIG},
+    {'d', false, "100000 single cells written", d_theirs, d_ours, 0, NULL, 0},
+    {'e', true, "10000 hard links made", e_theirs, e_ours, 0, NULL, 0},
+    {'e', false, "10000 links opened and listed", links_listed_theirs, links_listed_ours, 0, &lengths[0], 0},
+    {'e', false, "10000 datasets listed with types", arrays_listed_theirs, arrays_listed_ours, 0, &lengths[1], 0},
+    {'f', true, "2000 times grown, written, shrunk", written_theirs, written_ours, 0, NULL, 0},
+    {'f', true, "the same beside 64 MB", written_beside_theirs, written_beside_ours, 0, NULL, 0},
+    {'f', true, "20000 times resized", sized_theirs, sized_ours, 0, NULL, 0},
+    {'f', true, "the same beside 64 MB", sized_beside_theirs, sized_beside_ours, 0, NULL, 0},
+    {'g', true, "5000 of 10000 links unlinked", links_gone_theirs, links_gone_ours, 0, NULL, 0},
+    {'g', true, "5000 of 10000 datasets unlinked", arrays_gone_theirs, arrays_gone_ours, 0, NULL, 0},
+    {'h', false, "1000000 reads of 16 cells", h_theirs, h_ours, 0, NULL, 0},
+    {'i', false, "20000 times an attribute set, of 50", i_theirs, i_ours, 0, NULL, 0},
+    {'j', true, "100000 times a chunk appended", appended_theirs, appended_ours, 0, NULL, 0},
+    {'j', true, "the same beside 64 MB", appended_beside_theirs, appended_beside_ours, 0, NULL, 0},
 };
 
 int main(int count, char **words) {
@@ -754,7 +757,7 @@ int main(int count, char **words) {
             ours[run] = phases[k].ours();
             size_t bytes = phases[k].length != NULL ? *phases[k].length : phases[k].bytes;
             if (bytes > 0)
-                floors[run] = copied(big_image, bytes);
+                floors[run] = copied(big_image, bytes, phases[k].again);
         }
         char name[96];
         snprintf(name, sizeof name, phases[k].is_divided && part > 1 ? "%c: %s, one in %d of these" : "%c: %s", phases[k].letter,
