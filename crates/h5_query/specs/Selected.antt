@@ -4,6 +4,7 @@ use Rattle.std.specs.List.{list_any}
 use Rattle.h5_model.specs.Views.Selection.{Slab, Within, axes_of, has_rank, has_no_stride, overlaps, is_within, selected_cells, selection_of}
 use Rattle.h5_model.specs.Views.Shown.{selected_values}
 use Rattle.h5_model.specs.Edits.Refusal.{first_holding}
+use Rattle.h5_model.specs.Format.Plain.{cells_bytes}
 use Rattle.h5_model.specs.Scripts.Reading.{selection_rules}
 use Rattle.h5_model.specs.Tree.Objects.{Tree, Dataset}
 use Rattle.h5_model.specs.Tree.Paths.{dataset_at, object_at}
@@ -35,6 +36,12 @@ pub record IsSlabOf (sizes : List ℕ) (slab : Slab) : Type 0 where
   pub within : Within sizes slab
   pub counted : length (selection_of sizes slab) ≡ selected_cells slab
   pub few : selected_cells slab ≤ cells sizes
+
+-- no rule of a selection refuses it, and these are the bytes of the selected cells
+pub record HasSelectedBytes (d : Dataset) (hyper : Hyper) (bytes : List ℕ) : Type 0 where
+  pub accepted : first_holding (hyper_rules d.sizes hyper) ≡ None
+  pub slab : IsSlabOf d.sizes (axes_of hyper)
+  pub same : bytes ≡ cells_bytes d.fixed (selected_values d (axes_of hyper))
 
 -- no rule of a selection refuses it, and these are the selected values of the dataset that stands there
 pub record HasRuns (tree : Tree) (path : List ℕ) (hyper : Hyper) (left : CellsLeft) : Type 0 where

@@ -30,4 +30,4 @@ pub use kind::{Kind, StoreKind};
 pub use links::{kind_at, names_at, store_of};
 pub use path::MAX_DEPTH;
 pub use place::{Place, Spot, look, look_up, number_at};
-pub use selection::{runs_at, selected_at, slab_within};
+pub use selection::{runs_at, selected_at, slab_within, standing_cells};

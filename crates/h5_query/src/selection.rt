@@ -1,10 +1,10 @@
 //! Selections of an array's cells, and the runs of these (HDF5 dataspace reference, H5Sselect_hyperslab).
 
-ghost use Rattle.std.specs.Prelude.{◌≡◌, Some, None, IfOk, MatchResult};
+ghost use Rattle.std.specs.Prelude.{◌≡◌, Some, None, IfOk, IfSome, MatchResult};
 ghost use Rattle.h5_model.specs.Edits.Refusal.{first_holding};
 ghost use Rattle.h5_model.specs.Scripts.Reading.{selection_rules};
 ghost use Rattle.h5_model.specs.Views.Selection.{axes_of};
-ghost use Rattle.h5_query.specs.Selected.{HasRuns, IsSelectedAt, IsSlabOf, fault_of_slab, hyper_rules};
+ghost use Rattle.h5_query.specs.Selected.{HasRuns, HasSelectedBytes, IsSelectedAt, IsSlabOf, fault_of_slab, hyper_rules};
 
 use crate::array::array_at;
 use h5_model::EditFault;
@@ -48,6 +48,15 @@ pub fn selected_at<'a>(
     let (number, array) = array_at(opened, path)?;
     let slab = slab_within(array.array().dims(), hyper)?;
     Ok((number, array, slab))
+}
+
+/// The bytes of the selected cells of an array as they stand in the image, where no rule refuses the selection and the
+/// cells stand one behind another there: cells of one row of a chunk, of a contiguous block, or in the header. `None`
+/// else. It is left open which cells of a chunk are found to do so. Takes no memory.
+pub fn standing_cells<'a>(array: &StoredArray<'a>, hyper: &HyperRef<'_>) -> Option<&'a [u8]>
+    ensures { IfSome result (λ bytes. HasSelectedBytes array.now hyper.now bytes.now) }
+{
+    array.standing(hyper)
 }
 
 /// The selection of the four lists, in an array of these sizes. Takes no memory.
