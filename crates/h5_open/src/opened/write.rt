@@ -87,13 +87,7 @@ impl Opened {
 /// header is read once, and what is kept of the objects stays right.
 ///
 /// These are the caller's conditions: the index is the image's, and those of `Opened::write_cells`.
-fn write_runs(
-    image: &mut Image,
-    index: &Index,
-    number: u32,
-    place: u64,
-    values: &Buffer<'_>,
-)
+fn write_runs(image: &mut Image, index: &Index, number: u32, place: u64, values: &Buffer<'_>)
     requires opened { IsOpened image.old index.now.objects.items index.now.numbers }
     requires run { (d : Dataset)
         × IsStoredRun (opened_state image.old index.now.objects.items) number place values.now d }
