@@ -22,7 +22,7 @@ use super::end::write_end;
 use super::{Opened, OpenedObject};
 use h5_header::{AddFault, Messages};
 use h5_layout::{
-    MAX_RANK, Outside, copy_smaller, lacks_maxima, outside_of, resize_array, sizes_of,
+    MAX_RANK, Outside, copy_smaller, lacks_maxima, lacks_tree, outside_of, resize_array, sizes_of,
 };
 use h5_space::{Image, MAXIMUM_IMAGE};
 use std::alloc::{AllocError, Global};
@@ -152,8 +152,8 @@ fn bytes_for(image: &Image, messages: &Messages, sizes: &[u64]) -> Result<u64, A
     Ok(bytes)
 }
 
-/// What an array stores outside the cells that it has with its sizes and with these; `None` where it is known to store nothing outside its
-/// sizes, and none of these is smaller.
+/// What an array stores outside the cells that it has with its sizes and with these; `None` where it stores no chunk, or is known to store
+/// nothing outside its sizes and none of these is smaller.
 ///
 /// # Errors
 ///
@@ -172,6 +172,9 @@ fn look_outside(
     ensures { IfOk result (λ outside.
         IsLookedAt image.now.bytes (described_in image.now.bytes messages.now) sizes.now outside) }
 {
+    if lacks_tree(image, messages) {
+        return Ok(None);
+    }
     let mut sizes_room = [0; MAX_RANK];
     let old = sizes_of(image, messages, &mut sizes_room);
     let mut room = [0; MAX_RANK];
