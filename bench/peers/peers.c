@@ -681,6 +681,60 @@ static double i_ours(void) {
     return time;
 }
 
+/* ---- k: single cells written while views are open. libhdf5 has no views: its writes are those of phase d, as many */
+
+enum { VIEWS = 1024, SHOWN = 16, SINGLE = 10000 };
+
+static double some_theirs(void) {
+    hid_t file = new_file("k"), array = big_array(file);
+    write_theirs(file, array);
+    hid_t space = H5Dget_space(array), memory = H5Screate_simple(1, (hsize_t[]){1}, NULL);
+    hsize_t at[2], one[2] = {1, 1};
+    begin_chance();
+    double from = now();
+    for (int32_t k = 0; k < SINGLE; k++) {
+        uint64_t place = chance();
+        at[0] = place % SIDE, at[1] = (place >> 20) % SIDE;
+        H5(H5Sselect_hyperslab(space, H5S_SELECT_SET, at, NULL, one, NULL));
+        H5(H5Dwrite(array, H5T_NATIVE_INT32, memory, space, H5P_DEFAULT, &k));
+    }
+    double time = now() - from;
+    H5(H5Sclose(space)), H5(H5Sclose(memory)), H5(H5Dclose(array)), H5(H5Fclose(file));
+    return time;
+}
+
+/* Views of some cells of a row each, of the array at the path; and the writes to the array `/d`. */
+static double some_ours(const char *viewed) {
+    h5i_session session = new_session();
+    new_big_array(&session);
+    write_ours(&session);
+    new_array(&session, "/other", CELLS);
+    write_front(&session, "/other", cells, CELLS);
+    const uint64_t shown1[] = {SHOWN}, shown2[] = {1, SHOWN}, one1[] = {1};
+    for (uint64_t row = 0; row < VIEWS; row++) {
+        const uint64_t start1[] = {row * SHOWN}, start2[] = {row, 0};
+        uint32_t number;
+        if (strcmp(viewed, "/d") == 0)
+            OURS(h5i_open_view(&session, TEXT(viewed), SLAB_OF(start2, one2, shown2, one2), &number));
+        else
+            OURS(h5i_open_view(&session, TEXT(viewed), SLAB_OF(start1, one1, shown1, one1), &number));
+    }
+    uint64_t at[2];
+    begin_chance();
+    double from = now();
+    for (int32_t k = 0; k < SINGLE; k++) {
+        uint64_t place = chance();
+        at[0] = place % SIDE, at[1] = (place >> 20) % SIDE;
+        OURS(h5i_write(&session, TEXT("/d"), SLAB_OF(at, one2, one2, one2), int32, (const uint8_t *)&k, 4));
+    }
+    double time = now() - from;
+    h5i_close(&session);
+    return time;
+}
+
+static double beside_views_ours(void) { return some_ours("/other"); }
+static double in_views_ours(void) { return some_ours("/d"); }
+
 /* ---- the floor */
 
 /* Copies bytes into fresh memory, and from there so many of them once more, into memory that was used before. */
@@ -728,11 +782,13 @@ static const struct {
     {'i', false, "20000 times an attribute set, of 50", i_theirs, i_ours, 0, NULL, 0},
     {'j', true, "100000 times a chunk appended", appended_theirs, appended_ours, 0, NULL, 0},
     {'j', true, "the same beside 64 MB", appended_beside_theirs, appended_beside_ours, 0, NULL, 0},
+    {'k', false, "10000 single cells written, 1024 views of another array", some_theirs, beside_views_ours, 0, NULL, 0},
+    {'k', false, "10000 single cells written, 1024 views of the array", some_theirs, in_views_ours, 0, NULL, 0},
 };
 
 int main(int count, char **words) {
     int runs = count > 1 ? atoi(words[1]) : 5;
-    const char *wanted = count > 2 ? words[2] : "abcdefghij";
+    const char *wanted = count > 2 ? words[2] : "abcdefghijk";
     part = count > 3 ? atoi(words[3]) : 1;
     if (runs < 1 || runs > MOST_RUNS || part < 1) {
         fprintf(stderr, "usage: peers [RUNS [PHASES [PARTS]]]\n");
