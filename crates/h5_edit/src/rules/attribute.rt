@@ -34,11 +34,7 @@ use h5_query::{Dims, Opened, get};
 /// - `ValueCount`: there is not one value for each cell.
 /// - `ValueRange`: a value is not one of the type.
 /// - `AttributeTooLarge`: the body of the message would have more than 65528 bytes.
-pub fn check_set_attr(
-    opened: &Opened,
-    path: &[u8],
-    attr: &AttrSpec,
-) -> Result<u32, EditFault>
+pub fn check_set_attr(opened: &Opened, path: &[u8], attr: &AttrSpec) -> Result<u32, EditFault>
     ensures at { let tree = opened.now.tree in
         let next = opened.now.next in
         MatchResult result (IsAt tree next path.now (SetAttr path.now attr.now))

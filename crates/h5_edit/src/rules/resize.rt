@@ -15,11 +15,7 @@ use h5_query::{ArrayExtent, Dims, Opened, extent_at};
 /// Refused by the lowest number that holds: `BadPath`, `PathTooDeep`, `NoSuchParent`, `NotAGroup`, `NotFound`, `NotADataset` also where a
 /// soft link stands there, `RankMismatch`, `NotChunked` where the cells are not in chunks, whatever the sizes, `AboveMaximum` where a size
 /// is above its maximum, `TooManyCells` where the product of the sizes other than 0 is above 2^40. It takes no memory.
-pub(crate) fn check_resize(
-    opened: &Opened,
-    path: &[u8],
-    dims: &[u64],
-) -> Result<u32, EditFault>
+pub(crate) fn check_resize(opened: &Opened, path: &[u8], dims: &[u64]) -> Result<u32, EditFault>
     ensures at { let tree = opened.now.tree in
         let next = opened.now.next in
         MatchResult result (IsResizeAt tree next path.now dims.now)

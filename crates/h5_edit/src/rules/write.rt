@@ -80,7 +80,11 @@ fn standing_cells(
 }
 
 /// Whether the lists select cells of the array, and the values are some for these cells, or by the lowest number why not.
-fn check_cells(array: &ArrayRef<'_>, hyper: &HyperRef<'_>, values: &Buffer<'_>) -> Result<(), EditFault>
+fn check_cells(
+    array: &ArrayRef<'_>,
+    hyper: &HyperRef<'_>,
+    values: &Buffer<'_>,
+) -> Result<(), EditFault>
     ensures { let rules = hyper_rules array.now.sizes hyper.now
         ++ value_rules array.now.fixed hyper.now values.now in
         MatchResult result (λ _. first_holding rules ≡ None) (λ e. first_holding rules ≡ Some e) }

@@ -37,7 +37,7 @@ returns-then-not-is_small-clause-at c =
     let chunked = sym (ap (λ (e : StoredExtent). e.chunked) x.extent) ∙ sym c.is_chunked.ensures ∙ c.if-not-is_chunked.false in
     let within = sym (ap (λ (e : StoredExtent). some_above c.args.dims.now e.maxima) x.extent) ∙ sym c.is_above.ensures ∙ c.if-is_above.false in
     many_refused _ _ c.args.path.now c.args.dims.now _ x.there.accepted x.there.found ranked chunked within
-    (many_of c.args.dims.now c.unwrap.result c.is_small-2.result (rw c.unwrap.ensures at c.new.ensures.numbers) c.is_small-2.ensures.product
+    (many_of c.args.dims.now c.unwrap.result c.is_small.result (rw c.unwrap.ensures at c.new.ensures.numbers) c.is_small.ensures.product
     ∙ ap not c.if-not-is_small.true)
 
 pub returns-clause-at : goal.returns-clause-at
@@ -48,7 +48,7 @@ returns-clause-at c =
     let within = sym (ap (λ (e : StoredExtent). some_above c.args.dims.now e.maxima) x.extent) ∙ sym c.is_above.ensures ∙ c.if-is_above.false in (
       record {
         allowed = resize_allowed _ _ c.args.path.now c.args.dims.now _ x.there.accepted x.there.found ranked chunked within
-            (many_of c.args.dims.now c.unwrap.result c.is_small-2.result (rw c.unwrap.ensures at c.new.ensures.numbers) c.is_small-2.ensures.product
+            (many_of c.args.dims.now c.unwrap.result c.is_small.result (rw c.unwrap.ensures at c.new.ensures.numbers) c.is_small.ensures.product
             ∙ ap not c.if-not-is_small.false);
         object = x.there.number;
       },

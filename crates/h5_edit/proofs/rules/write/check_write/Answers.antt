@@ -1,8 +1,6 @@
-use Rattle.std.proofs.Common.{◌∙◌, ◌^◌, ◌≤◌, ap, sym, subst, arith}
+use Rattle.std.proofs.Common.{◌∙◌, ap, sym, arith}
 use Rattle.std.specs.Prelude.{option_and_then}
-use Rattle.h5_layout.specs.Described.{Described}
 use Rattle.h5_model.specs.Tree.Objects.{dataset_of}
-use Rattle.h5_model.specs.Tree.Places.{extent_cells}
 use Rattle.h5_shape.proofs.Products.{cells_le}
 use Rattle.h5_edit.proofs.FoundStanding.{allowed_there}
 use Rattle.h5_edit.proofs.RuleLaws.Exits.{passed_on}
@@ -31,7 +29,7 @@ returns-clause-at c =
     let at = c.in_ok-number.ensures.1 in
     let a = c.described_of-array.result in
     let found = ap (option_and_then (dataset_of c.args.opened.now.tree)) at.number ∙ c.described_of-array.ensures.there.told in
-    let small = subst (λ (x : Described). extent_cells x.sizes ≤ 2 ^ 40) c.array.view_is c.array.invariant.2.small in
+    let small = c.described_of-array.ensures.there.described.small in
     let le = cells_le a.sizes in
     record {
       write = record {
