@@ -1,11 +1,13 @@
--- Selected cells that are one run: why nothing refuses them, and what is known where they were found to stand together or were not.
-use Rattle.std.proofs.Common.{◌≡◌, ℕ, ℤ, ◌+◌, ◌<◌, ◌≤◌, List, [], ◌∷◌, Bool, true, false, not, Result, Ok, Err, if◌then◌else◌, Option, Some, None, length, refl, sym, ap, ◌∙◌, subst}
-use Rattle.std.specs.Prelude.{◌++◌, ◌&&◌, is_some, nat_le}
-use Rattle.std.specs.List.{Contains, list_any, range_with_len}
+-- Selected cells that are one run: why nothing but their values refuses them, and what is known where they were found to stand together.
+use Rattle.std.proofs.Common.{◌≡◌, ℕ, ℤ, ◌+◌, ◌<◌, ◌≤◌, List, [], ◌∷◌, Bool, true, false, not, Result, Ok, Err, if◌then◌else◌, Option, Some, None, length, refl, sym, ap, ◌∙◌, subst, arith}
+use Rattle.std.specs.Prelude.{◌++◌, ◌==◌, ◌&&◌, nat_le}
+use Rattle.std.proofs.lemmas.Bool.Decides.{nat_tests}
+use Rattle.std.specs.List.{Contains, list_all, list_any, range_with_len}
 use Rattle.std.specs.Option.{IfSome}
 use Rattle.h5_laws.proofs.Lists.{all_in, contains_in}
 use Rattle.h5_layout.specs.Described.{Described}
 use Rattle.h5_model.specs.Edits.Refusal.{first_holding}
+use Rattle.h5_model.specs.Format.Fixed.{Fixed, fits}
 use Rattle.h5_model.specs.Tree.Places.{cells}
 use Rattle.h5_model.specs.Views.Selection.{Slab, axes_of, has_rank, has_no_stride, overlaps, is_within, selected_cells, selection_of}
 use Rattle.h5_model.specs.declared.edit_fault.EditFault.TheVariants as fault
@@ -13,7 +15,10 @@ use Rattle.h5_model.specs.declared.hyperslab.Hyper.{Hyper}
 use Rattle.h5_model.proofs.RefusalLaws.{length-axes_of}
 use Rattle.h5_model.proofs.CountLaws.{length-selection}
 use Rattle.h5_model.proofs.WithinLaws.{to_is_within}
+use Rattle.h5_query.proofs.RuleLaws.{first-behind}
+use Rattle.h5_query.specs.Opened.State.{FileState}
 use Rattle.h5_query.specs.Selected.{hyper_rules}
+use Rattle.h5_query.specs.Written.{IsArrayThere}
 use Rattle.h5_query.specs.StandingCellsType.{StandingCells}
 use Rattle.h5_shape.specs.OneRun.{IsOneRun}
 use Rattle.h5_shape.specs.Runs.{AreMaximal, places_in}
@@ -22,10 +27,9 @@ use Rattle.h5_shape.specs.declared.runs.CellRun.{CellRun}
 use Rattle.h5_shape.specs.declared.slab.SlabFault.{SlabFault}
 use Rattle.h5_shape.specs.declared.slab.SlabFault.TheVariants as slab_fault
 use Rattle.h5_shape.proofs.RunLaws.{places_of_runs, runs-maximal}
-use Rattle.h5_edit.specs.Refusals.Allowed.{AreSelectedStanding}
-use Rattle.h5_edit.specs.Refusals.Rules.{value_rules}
+use Rattle.h5_edit.specs.Refusals.Allowed.{AreSelectedStanding, AreStandingAt, IsRunStanding}
+use Rattle.h5_edit.specs.Refusals.Rules.{counted_rules, value_rules}
 use Rattle.h5_edit.proofs.SelectedStored.{place_low}
-use Rattle.h5_edit.proofs.RuleLaws.Writes.{cells_allowed}
 use Rattle.h5_edit.proofs.WrittenRuns.{ends_in, length_range, places_one}
 
 and_first : (a b : Bool) → (a && b) ≡ true → a ≡ true
@@ -96,10 +100,37 @@ module _ (sizes : List ℕ) (hyper : Hyper) (run : CellRun) (is : IsOneRun sizes
       ends_in (cells sizes) run.place run.length run_some (all_in (λ place. place < cells sizes) (range_with_len run.place run.length) (λ place at.
       place_low sizes slab place (subst (λ (ps : List ℕ). Contains ps place) places_are (contains_in place (range_with_len run.place run.length) at))))
 
--- with a value of the type for each of its cells, no rule refuses a write of it
-pub allowed_there : (image : List ℕ) (a : Described) (hyper : Hyper) (values : List ℤ) (found : Option StandingCells) → IfSome found (AreSelectedStanding image a hyper values)
-    → is_some found ≡ true → first_holding (hyper_rules a.sizes hyper ++ value_rules a.fixed hyper values) ≡ None
-allowed_there image a hyper values None stands some = absurd (cc)
-allowed_there image a hyper values (Some cells) stands some =
-    let v = stands.valued in
-    cells_allowed a.sizes a.fixed hyper values (run_selects a.sizes hyper stands.run v.selected) (v.counted ∙ run_counted a.sizes hyper stands.run v.selected) v.of_type
+-- ---- and values for it
+
+values_fit : (fixed : Fixed) (n : ℕ) (values : List ℤ) → first_holding (counted_rules fixed n values) ≡ None
+    → (length values ≡ n) × (list_all (fits fixed) values ≡ true)
+values_fit fixed n values none = by_values (length values == n) (list_all (fits fixed) values) refl refl none where
+  by_values : (counted fitting : Bool) → (length values == n) ≡ counted → list_all (fits fixed) values ≡ fitting
+      → first_holding ((fault.ValueCount, not counted) ∷ (fault.ValueRange, not fitting) ∷ []) ≡ None
+      → (length values ≡ n) × (list_all (fits fixed) values ≡ true)
+  by_values false fitting count fit never = absurd (cc)
+  by_values true false count fit never = absurd (cc)
+  by_values true true count fit none_holds = (grind (arith, nat_tests, count), fit)
+
+module _ (image : List ℕ) (a : Described) (hyper : Hyper) (values : List ℤ) (run : CellRun) (is : IsOneRun a.sizes hyper run) where
+  -- the values alone decide
+  pub values_decide : first_holding (hyper_rules a.sizes hyper ++ value_rules a.fixed hyper values) ≡ first_holding (counted_rules a.fixed run.length values)
+  values_decide =
+      first-behind (hyper_rules a.sizes hyper) (value_rules a.fixed hyper values) (run_selects a.sizes hyper run is)
+      ∙ ap (λ n. first_holding (counted_rules a.fixed n values)) (sym (run_counted a.sizes hyper run is))
+
+  pub values_standing : first_holding (counted_rules a.fixed run.length values) ≡ None → (found : Option StandingCells)
+      → IfSome found (IsRunStanding image a run) → IfSome found (AreSelectedStanding image a hyper values)
+  values_standing none None stands = tt
+  values_standing none (Some c) stands =
+      let fit = values_fit a.fixed run.length values none in
+      record { run = run; valued = record { selected = is; counted = fit.0; of_type = fit.1 }; stands = stands }
+
+-- ---- of the array of a number
+
+pub standing_there : (f : FileState) (number : ℕ) (a : Described) → IsArrayThere f number a → (hyper : Hyper) (run : CellRun)
+    → IsOneRun a.sizes hyper run → (found : Option StandingCells) → IfSome found (IsRunStanding f.image a run)
+    → IfSome found (AreStandingAt f number hyper)
+standing_there f number a there hyper run is None stands = tt
+standing_there f number a there hyper run is (Some c) stands =
+    record { array = a; there = there; run = run; selected = is; stands = stands }

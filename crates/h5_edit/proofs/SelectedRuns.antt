@@ -1,16 +1,23 @@
 -- The runs of a selection whose cells are stored.
-use Rattle.std.proofs.Common.{◌≡◌, ℕ, ℤ, ◌^◌, ◌<◌, ◌≤◌, true, Some, List, [], ◌∷◌, length, sym, ap, ◌∙◌, subst}
+use Rattle.std.proofs.Common.{◌≡◌, ℕ, ℤ, ◌^◌, ◌<◌, ◌≤◌, true, Some, None, List, [], ◌∷◌, length, sym, ap, ◌∙◌, subst}
 use Rattle.std.specs.List.{AllByRecursion, Contains, list_all}
 use Rattle.h5_laws.proofs.Lists.{all_in, contains_in}
+use Rattle.h5_model.specs.Edits.Refusal.{first_holding}
 use Rattle.h5_model.specs.Format.Fixed.{fits}
+use Rattle.h5_layout.specs.Described.{Described}
 use Rattle.h5_model.specs.Tree.Objects.{Dataset, dataset_of}
 use Rattle.h5_model.specs.Tree.Places.{cells}
-use Rattle.h5_model.specs.Views.Selection.{Slab, selection_of}
+use Rattle.h5_model.specs.Views.Selection.{Slab, axes_of, selection_of}
+use Rattle.h5_model.specs.declared.edit_fault.EditFault.{EditFault}
+use Rattle.h5_model.specs.declared.hyperslab.Hyper.{Hyper}
 use Rattle.h5_query.specs.Opened.State.{FileState}
+use Rattle.h5_query.specs.Selected.{hyper_rules}
+use Rattle.h5_query.specs.Written.{IsArrayThere}
 use Rattle.h5_shape.specs.Runs.{AreMaximal, places_in}
 use Rattle.h5_shape.specs.declared.runs.CellRun.{CellRun}
-use Rattle.h5_edit.specs.Stored.{AreRunsStored, AreSelectedStored}
+use Rattle.h5_edit.specs.Stored.{AreRunsStored, AreSelectedReady, AreSelectedRuns, AreSelectedStored}
 use Rattle.h5_edit.proofs.SelectedStored.{place_low}
+use Rattle.h5_edit.proofs.WrittenTrees.{sizes_are}
 
 each_some : (runs : List CellRun) → AreMaximal runs → AllByRecursion (λ (r : CellRun). 0 < r.length) runs
 each_some [] maximal = tt
@@ -30,3 +37,25 @@ module _ (f : FileState) (number : ℕ) (d : Dataset) (array : dataset_of f.tree
     of_type = of_type;
     stored = λ place at. stored d array place (subst (λ (ps : List ℕ). Contains ps place) places at);
   }
+
+-- ---- of the array of a number
+
+module _ (f : FileState) (number : ℕ) (hyper : Hyper) (d : Dataset) (array : dataset_of f.tree number ≡ Some d) (a : Described) (there : IsArrayThere f number a) where
+  -- where no rule of a selection refuses it of the array, none does of its description
+  pub none_refused : first_holding (hyper_rules d.sizes hyper) ≡ None → (e : EditFault) → first_holding (hyper_rules a.sizes hyper) ≡ Some e → ⊥
+  none_refused selects e refused =
+      let some = subst (λ (sizes : List ℕ). first_holding (hyper_rules sizes hyper) ≡ Some e) (sizes_are f number a there d array) refused in
+      absurd (let never : None ≡ Some e = sym selects ∙ some in cc)
+
+  -- the runs of the one are those of the other
+  pub runs_there : (slab : Slab) → slab ≡ axes_of hyper → (runs : List CellRun) → places_in runs ≡ selection_of a.sizes slab → AreMaximal runs → cells a.sizes ≤ 2 ^ 40
+      → AreSelectedRuns d.sizes hyper runs
+  runs_there slab same runs places maximal few =
+      subst (λ (sizes : List ℕ). AreSelectedRuns sizes hyper runs) (sizes_are f number a there d array)
+      (record { places = places ∙ ap (selection_of a.sizes) same; maximal = maximal; few = few })
+
+-- what is asked of the runs of cells that are stored
+pub runs_ready : {f : FileState} {number : ℕ} {hyper : Hyper} {values : List ℤ} {d : Dataset} → AreSelectedReady f number hyper values d → (runs : List CellRun)
+    → AreSelectedRuns d.sizes hyper runs → AreRunsStored f number runs values d
+runs_ready {f} {number} {hyper} {values} {d} ready runs are =
+    runs_stored f number d ready.array (axes_of hyper) ready.stored values ready.counted ready.of_type runs are.places are.maximal are.few

@@ -1,5 +1,6 @@
 -- A write of cells that stand one behind another: what is asked of it, and what it makes.
-use Rattle.std.proofs.Common.{◌≡◌, ℕ, zero, suc, ℤ, ◌+◌, ◌*◌, ◌<◌, List, [], ◌∷◌, Bool, true, false, not, Option, Some, None, length, take, refl, sym, ap, ◌∙◌, subst, arith}
+use Rattle.std.proofs.Common.{◌≡◌, ℕ, zero, suc, ℤ, ◌+◌, ◌*◌, ◌^◌, ◌<◌, ◌≤◌, List, [], ◌∷◌, Bool, true, false, not, Option, Some, None, length, take, refl, sym, ap, ◌∙◌, subst, arith}
+use Rattle.std.proofs.lemmas.Option.{same_Some}
 use Rattle.std.specs.Prelude.{is_some}
 use Rattle.std.specs.FinMap.{get}
 use Rattle.std.specs.List.{list_any, range_with_len}
@@ -13,7 +14,7 @@ use Rattle.h5_model.specs.Format.Layout.{Layout, InMessage, InBlock, InChunks}
 use Rattle.h5_model.specs.Format.Superblock.{k_values}
 use Rattle.h5_model.specs.Tree.Grid.{corner_of, inner_of}
 use Rattle.h5_model.specs.Tree.Objects.{Dataset, with_object}
-use Rattle.h5_model.specs.Tree.Places.{index_of, place_of}
+use Rattle.h5_model.specs.Tree.Places.{cells, index_of, place_of}
 use Rattle.h5_model.specs.Views.Selection.{axes_of, selection_of}
 use Rattle.h5_model.specs.declared.hyperslab.Hyper.{Hyper}
 use Rattle.h5_query.specs.StandingCellsType.{StandingCells}
@@ -24,14 +25,18 @@ use Rattle.h5_query.specs.Opened.State.{FileState}
 use Rattle.h5_query.specs.Written.{AreStanding, IsCellStored, IsStoredRun, with_run}
 use Rattle.h5_shape.specs.Runs.{AreMaximal, cell_runs, places_in}
 use Rattle.h5_shape.specs.declared.runs.CellRun.{CellRun}
+use Rattle.h5_shape.proofs.Products.{cells_le}
 use Rattle.h5_shape.proofs.RunLaws.{places_of_runs, runs-maximal}
 use Rattle.h5_layout.specs.Lacking.{lacks_cells}
-use Rattle.h5_edit.specs.Refusals.Allowed.{AreSelectedStanding, IsTarget}
-use Rattle.h5_edit.specs.Stored.{AreRunsStored, AreValuesWritten, HasStorage, IsPlanned, IsWriteMade}
+use Rattle.h5_edit.specs.Refusals.Allowed.{AreSelectedStanding, AreStandingAt, IsTarget}
+use Rattle.h5_edit.specs.Stored.{AreRunsStored, AreSelectedReady, AreSelectedWritten, AreValuesWritten, HasStorage}
 use Rattle.h5_edit.specs.declared.rules.write.WriteTarget.{WriteTarget}
 use Rattle.h5_edit.proofs.ArraysThere.{one_there}
-use Rattle.h5_edit.proofs.WriteSteps.{has_all, runs_asked, runs_made, storing}
-use Rattle.h5_edit.proofs.WrittenRuns.{AreFirstWritten, all_first, all_written, none_first, one_more, places_one, run_stored}
+use Rattle.h5_edit.proofs.FoundStanding.{places_are}
+use Rattle.h5_edit.proofs.SelectedRuns.{runs_stored}
+use Rattle.h5_edit.proofs.WriteSteps.{has_all, selected_ready}
+use Rattle.h5_edit.proofs.WrittenRuns.{AreFirstWritten, all_first, all_written, length_range, none_first, one_more, places_one, run_stored}
+use Rattle.h5_edit.proofs.WrittenTrees.{sizes_are}
 
 -- ---- a cell with an address is stored
 
@@ -53,22 +58,22 @@ none_fails test from (suc n) all =
 
 -- ---- the one run
 
-module _ {f : FileState} {path : List ℕ} {hyper : Hyper} {values : List ℤ} {t : WriteTarget} (is : IsTarget f path hyper values t) (c : StandingCells)
-    (some : t.standing ≡ Some c) (sound_before : IsSound f) where
-  abbrev a : Described
-  a = is.write.array
+module _ {f : FileState} {number : ℕ} {hyper : Hyper} {values : List ℤ} {d : Dataset} (ready : AreSelectedReady f number hyper values d)
+    (c : StandingCells) (is : AreStandingAt f number hyper c) where
+  abbrev run : CellRun
+  run = is.run
 
   abbrev selection : List ℕ
-  selection = selection_of a.sizes (axes_of hyper)
+  selection = selection_of d.sizes (axes_of hyper)
 
-  stands : AreSelectedStanding f.image a hyper values c
-  stands = subst (λ (found : Option StandingCells). IfSome found (AreSelectedStanding f.image a hyper values)) some is.found
+  sizes : is.array.sizes ≡ d.sizes
+  sizes = sizes_are f number is.array is.there d ready.array
 
-  abbrev run : CellRun
-  run = stands.run
+  few : cells is.array.sizes ≤ 2 ^ 40
+  few = let small = is.there.described.small in let le = cells_le is.array.sizes in omega (arith, small, le)
 
-  abbrev one_run : cell_runs selection ≡ run ∷ []
-  one_run = stands.valued.selected.runs
+  one_run : cell_runs selection ≡ run ∷ []
+  one_run = subst (λ (ns : List ℕ). cell_runs (selection_of ns (axes_of hyper)) ≡ run ∷ []) sizes is.selected.runs
 
   maximal : 0 < run.length
   maximal = subst AreMaximal one_run (runs-maximal selection)
@@ -76,62 +81,88 @@ module _ {f : FileState} {path : List ℕ} {hyper : Hyper} {values : List ℤ} {
   places : places_in (run ∷ []) ≡ selection
   places = ap places_in (sym one_run) ∙ places_of_runs selection
 
-  -- each selected cell is stored
-  none_lacks : lacks_cells f.image a (axes_of hyper) ≡ false
-  none_lacks =
-      ap (list_any (λ place. not (is_stored_cell f.image a place))) (sym places ∙ places_one run)
-      ∙ none_fails (is_stored_cell f.image a) run.place run.length (λ k low.
-      stored_by a.fixed a.sizes a.layout (stored_chunks f.image a.fixed a.layout) (index_of a.sizes (run.place + k)) _ (stands.standing k low))
+  counted : length values ≡ run.length
+  counted = ready.counted ∙ ap length (sym places ∙ places_one run) ∙ length_range run.place run.length
 
-  plan : IsPlanned f path hyper values t.number (record { runs = run ∷ []; missing = None })
-  plan = record { write = is.write; found = none_lacks; places = places; maximal = maximal; few = is.few }
+  asked : AreRunsStored f number (run ∷ []) values d
+  asked =
+      runs_stored f number d ready.array (axes_of hyper) ready.stored values ready.counted ready.of_type (run ∷ []) places maximal
+      (subst (λ (ns : List ℕ). cells ns ≤ 2 ^ 40) sizes few)
 
-  has : HasStorage f path hyper values t.number f
-  has = has_all (storing plan sound_before)
-
-  asked : (d : Dataset) × AreRunsStored f t.number (run ∷ []) values d
-  asked = runs_asked plan f has
-
-  none_yet : AreFirstWritten f t.number (run ∷ []) values asked.0 asked.1 0 (run ∷ []) f
-  none_yet = none_first f t.number (run ∷ []) values asked.0 asked.1 (run ∷ []) refl
+  none_yet : AreFirstWritten f number (run ∷ []) values d asked 0 (run ∷ []) f
+  none_yet = none_first f number (run ∷ []) values d asked (run ∷ []) refl
 
   all_values : values ≡ take run.length values
-  all_values = let counted = stands.valued.counted in sym (all_first values run.length (omega (arith, counted)))
+  all_values = sym (all_first values run.length (omega (arith, counted)))
 
   -- ---- what is asked
 
-  pub run_asked : (d : Dataset) × IsStoredRun f t.number c.place values d
+  pub run_asked : (e : Dataset) × IsStoredRun f number c.place values e
   run_asked =
-      subst (λ place. (d : Dataset) × IsStoredRun f t.number place values d) (sym stands.place_is)
-      (run_stored f t.number (run ∷ []) values asked.0 asked.1 0 (run ∷ []) [] run f none_yet refl values all_values)
+      subst (λ place. (e : Dataset) × IsStoredRun f number place values e) (sym is.stands.place_is)
+      (run_stored f number (run ∷ []) values d asked 0 (run ∷ []) [] run f none_yet refl values all_values)
 
   pub some_asked : 0 < length values
-  some_asked = let counted = stands.valued.counted in let more = maximal in omega (arith, counted, more)
+  some_asked = let more = maximal in omega (arith, counted, more)
 
-  pub standing_asked : AreStanding f t.number c (length values)
+  pub standing_asked : AreStanding f number c (length values)
   standing_asked b there =
-      let same = one_there f t.number a b is.write.there there in (
-        stands.type_is ∙ ap (λ (x : Described). x.fixed) same,
+      let same = one_there f number is.array b is.there there in (
+        is.stands.type_is ∙ ap (λ (x : Described). x.fixed) same,
         subst (λ (x : Described). IsStandingAt f.image x c.place (length values) c.at) same
-            (subst (λ place. IsStandingAt f.image a place (length values) c.at) (sym stands.place_is)
-            (subst (λ n. IsStandingAt f.image a run.place n c.at) (sym stands.valued.counted) stands.standing)),
+            (subst (λ place. IsStandingAt f.image is.array place (length values) c.at) (sym is.stands.place_is)
+            (subst (λ n. IsStandingAt f.image is.array run.place n c.at) (sym counted) is.stands.standing)),
       )
 
   -- ---- what it makes
 
   module _ (now : FileState)
-      (changed : now ≡ record f { image = now.image; tree = with_object f.tree t.number (with_dataset (with_run c.place values)) })
+      (changed : now ≡ record f { image = now.image; tree = with_object f.tree number (with_dataset (with_run c.place values)) })
       (k : k_values now.image ≡ k_values f.image) (sound : IsSound now) (whole : IsWholeFile f → IsWholeFile now)
-      (in_place_now : IsChangedInPlace f now (with_object f.tree t.number (with_dataset (with_run c.place values))) f.next (t.number ∷ []) 0)
-      (stored : (place : ℕ) → IsCellStored f t.number place → IsCellStored now t.number place) where
-    wrote : AreValuesWritten f t.number (places_in (run ∷ [])) values now
+      (in_place_now : IsChangedInPlace f now (with_object f.tree number (with_dataset (with_run c.place values))) f.next (number ∷ []) 0)
+      (stored : (place : ℕ) → IsCellStored f number place → IsCellStored now number place) where
+    wrote : AreValuesWritten f number (places_in (run ∷ [])) values now
     wrote =
-        all_written f t.number (run ∷ []) values asked.0 asked.1 (0 + run.length) [] now
-        (one_more f t.number (run ∷ []) values asked.0 asked.1 0 (run ∷ []) [] run f none_yet refl values all_values now
-        (subst (λ place. now ≡ record f { image = now.image; tree = with_object f.tree t.number (with_dataset (with_run place values)) }) stands.place_is changed)
+        all_written f number (run ∷ []) values d asked (0 + run.length) [] now
+        (one_more f number (run ∷ []) values d asked 0 (run ∷ []) [] run f none_yet refl values all_values now
+        (subst (λ place. now ≡ record f { image = now.image; tree = with_object f.tree number (with_dataset (with_run place values)) }) is.stands.place_is changed)
         k sound whole
-        (subst (λ place. IsChangedInPlace f now (with_object f.tree t.number (with_dataset (with_run place values))) f.next (t.number ∷ []) 0) stands.place_is in_place_now) stored)
+        (subst (λ place. IsChangedInPlace f now (with_object f.tree number (with_dataset (with_run place values))) f.next (number ∷ []) 0) is.stands.place_is in_place_now) stored)
         refl
 
-    pub standing_written : IsWriteMade f path hyper values t.number now
-    standing_written = runs_made plan f has sound_before now wrote
+    pub selected_written : AreSelectedWritten f number hyper values now
+    selected_written e array =
+        let same = same_Some d e (sym ready.array ∙ array) in
+        subst (λ (ps : List ℕ). AreValuesWritten f number ps values now) (places ∙ ap (λ (x : Dataset). selection_of x.sizes (axes_of hyper)) same) wrote
+
+-- ---- where no storage was missing
+
+module _ {f : FileState} {path : List ℕ} {hyper : Hyper} {values : List ℤ} {t : WriteTarget} (is : IsTarget f path hyper values t) (c : StandingCells)
+    (some : t.standing ≡ Some c) (sound_before : IsSound f) where
+  abbrev a : Described
+  a = is.write.array
+
+  stands : AreSelectedStanding f.image a hyper values c
+  stands = subst (λ (found : Option StandingCells). IfSome found (AreSelectedStanding f.image a hyper values)) some is.found
+
+  abbrev only : CellRun
+  only = stands.run
+
+  selected : range_with_len only.place only.length ≡ selection_of a.sizes (axes_of hyper)
+  selected = places_are a.sizes hyper only stands.valued.selected
+
+  -- each selected cell is stored
+  none_lacks : lacks_cells f.image a (axes_of hyper) ≡ false
+  none_lacks =
+      ap (list_any (λ place. not (is_stored_cell f.image a place))) (sym selected)
+      ∙ none_fails (is_stored_cell f.image a) only.place only.length (λ k low.
+      stored_by a.fixed a.sizes a.layout (stored_chunks f.image a.fixed a.layout) (index_of a.sizes (only.place + k)) _ (stands.stands.standing k low))
+
+  pub target_has : HasStorage f path hyper values t.number f
+  target_has = has_all (record { sound = sound_before; write = is.write; found = none_lacks })
+
+  pub target_ready : (d : Dataset) × AreSelectedReady f t.number hyper values d
+  target_ready = selected_ready is.write f target_has
+
+  pub target_standing : AreStandingAt f t.number hyper c
+  target_standing = record { array = a; there = is.write.there; run = only; selected = stands.valued.selected; stands = stands.stands }

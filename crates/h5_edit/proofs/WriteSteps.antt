@@ -1,5 +1,5 @@
 -- A write of an opened image that no rule refuses, step by step: what is asked of each, and what it makes.
-use Rattle.std.proofs.Common.{◌≡◌, ℕ, ℤ, ◌^◌, ◌≤◌, true, List, [], ◌∷◌, Option, Some, None, length, sym, ap, ◌∙◌, subst}
+use Rattle.std.proofs.Common.{◌≡◌, ℕ, ℤ, true, List, [], ◌∷◌, Option, Some, None, Result, Ok, Err, IfOk, length, refl, sym, ap, ◌∙◌, subst}
 use Rattle.std.proofs.lemmas.Option.{same_Some}
 use Rattle.std.specs.List.{Contains, list_all}
 use Rattle.h5_layout.specs.Described.{Described}
@@ -8,7 +8,6 @@ use Rattle.h5_model.specs.Edits.Refusal.{first_holding}
 use Rattle.h5_model.specs.Format.Fixed.{fits}
 use Rattle.h5_model.specs.Tree.Objects.{Tree, Dataset, dataset_of, with_object}
 use Rattle.h5_model.specs.Tree.Paths.{dataset_at}
-use Rattle.h5_model.specs.Tree.Places.{cells}
 use Rattle.h5_model.specs.Views.Selection.{Slab, axes_of, selection_of}
 use Rattle.h5_model.specs.declared.edits.Edit.TheVariants.{Write}
 use Rattle.h5_model.specs.declared.edit_fault.EditFault.{EditFault}
@@ -20,26 +19,26 @@ use Rattle.h5_query.specs.Opened.State.{FileState}
 use Rattle.h5_query.specs.Selected.{hyper_rules}
 use Rattle.h5_query.specs.Written.{IsArrayThere, IsCellStored}
 use Rattle.h5_query.proofs.ChangedThen.{changed_none}
-use Rattle.h5_shape.specs.Runs.{AreMaximal, places_in}
-use Rattle.h5_shape.specs.declared.runs.CellRun.{CellRun}
 use Rattle.h5_layout.specs.Storage.{storage_bytes}
 use Rattle.h5_edit.specs.Carried.{IsAccepted}
 use Rattle.h5_layout.specs.Lacking.{IsFound}
 use Rattle.h5_layout.specs.Lacking.{stored_all, stored_storage}
 use Rattle.h5_edit.specs.Edited.{IsGrowth}
 use Rattle.h5_edit.specs.Refusals.Allowed.{IsWriteAt}
-use Rattle.h5_edit.specs.Stored.{AreRunsStored, AreValuesWritten, HasStorage, IsPlanned, IsStoring, IsWriteMade, with_places}
+use Rattle.h5_edit.specs.Stored.{AreSelectedReady, AreSelectedWritten, HasStorage, IsStoring, IsWriteMade, with_places}
 use Rattle.h5_layout.specs.declared.lacking.Missing.{Missing}
-use Rattle.h5_edit.specs.declared.written.WritePlan.{WritePlan}
 use Rattle.h5_edit.proofs.ChangedTwice.{dataset_changed}
 use Rattle.h5_edit.proofs.SelectedStored.{none_lacking}
 use Rattle.h5_edit.proofs.RuleLaws.Writes.{path_allowed, slab_refused, write_left}
-use Rattle.h5_edit.proofs.SelectedRuns.{runs_stored}
 use Rattle.h5_edit.proofs.StorageGiven.{nothing_accepted, nothing_grows, written_array}
 use Rattle.h5_edit.proofs.WrittenTrees.{edited_in_place, sizes_are, tree_in_place, tree_made}
 
+none_is : (found : Option EditFault) → ((e : EditFault) → found ≡ Some e → ⊥) → found ≡ None
+none_is None never = refl
+none_is (Some e) never = absurd (never e refl)
+
 module _ {f : FileState} {path : List ℕ} {hyper : Hyper} {values : List ℤ} {number : ℕ} where
-  -- ---- the plan
+  -- ---- the selection, and what is missing of it
 
   module _ (is : IsWriteAt f path hyper values number) where
     abbrev accepted : (d : Dataset) × (dataset_at f.tree path ≡ Some d) × Writes d (axes_of hyper) values
@@ -55,21 +54,21 @@ module _ {f : FileState} {path : List ℕ} {hyper : Hyper} {values : List ℤ} {
           let some = slab_refused d.sizes d.fixed hyper values e (subst (λ (sizes : List ℕ). first_holding (hyper_rules sizes hyper) ≡ Some e) same refused) in
           absurd (let never : None ≡ Some e = sym none ∙ some in cc)
 
-      pub planned : (slab : Slab) → slab ≡ axes_of hyper → (missing : Option Missing) → IsFound f.image a slab missing → (runs : List CellRun)
-          → places_in runs ≡ selection_of a.sizes slab → AreMaximal runs → cells a.sizes ≤ 2 ^ 40
-          → IsPlanned f path hyper values number (record { runs = runs; missing = missing })
-      planned slab same missing found runs places maximal few = record {
+      pub storing : IsSound f → (slab : Slab) → slab ≡ axes_of hyper → (missing : Option Missing) → IsFound f.image a slab missing
+          → IsStoring f path hyper values number missing
+      storing sound slab same missing found = record {
+        sound = sound;
         write = record { at = is.at; array = a; there = there };
         found = subst (λ (axes : Slab). IsFound f.image a axes missing) same found;
-        places = places ∙ ap (selection_of a.sizes) same;
-        maximal = maximal;
-        few = few;
       }
 
-  -- ---- the storage
+      -- if memory was not refused
+      pub storing_found : {E : Type 0} → IsSound f → (slab : Slab) → slab ≡ axes_of hyper → (answer : Result (Option Missing) E)
+          → IfOk answer (IsFound f.image a slab) → IfOk answer (IsStoring f path hyper values number)
+      storing_found sound slab same (Ok missing) found = storing sound slab same missing found
+      storing_found sound slab same (Err e) found = tt
 
-  pub storing : {p : WritePlan} → IsPlanned f path hyper values number p → IsSound f → IsStoring f path hyper values number p.missing
-  storing is sound = record { sound = sound; write = is.write; found = is.found }
+  -- ---- the storage
 
   -- where nothing is missing
   pub has_all : IsStoring f path hyper values number None → HasStorage f path hyper values number f
@@ -117,33 +116,33 @@ module _ {f : FileState} {path : List ℕ} {hyper : Hyper} {values : List ℤ} {
               ∙ tree_made f path hyper values number is.write.at.object is.write.array is.write.there d array m is.found.1 is.found.0;
         }
 
-  -- ---- the runs
+  -- ---- the cells
 
-  module _ {p : WritePlan} (is : IsPlanned f path hyper values number p) (mid : FileState) (has : HasStorage f path hyper values number mid) where
-    abbrev found : (d : Dataset) × (dataset_at f.tree path ≡ Some d) × Writes d (axes_of hyper) values
-    found = accepted is.write
+  module _ (is : IsWriteAt f path hyper values number) (mid : FileState) (has : HasStorage f path hyper values number mid) where
+    same : (accepted is).0 ≡ has.before
+    same = same_Some (accepted is).0 has.before (sym (written_array is) ∙ has.was)
 
-    same : found.0 ≡ has.before
-    same = same_Some found.0 has.before (sym (written_array is.write) ∙ has.was)
-
-    sizes : (is.write.array).sizes ≡ has.before.sizes
-    sizes = sizes_are f number is.write.array is.write.there found.0 (written_array is.write) ∙ ap (λ (x : Dataset). x.sizes) same
-
-    places : places_in p.runs ≡ selection_of has.before.sizes (axes_of hyper)
-    places = is.places ∙ ap (λ (s : List ℕ). selection_of s (axes_of hyper)) sizes
+    selects : first_holding (hyper_rules ((accepted is).0).sizes hyper) ≡ None
+    selects =
+        let sizes = sizes_are f number is.array is.there (accepted is).0 (written_array is) in
+        subst (λ (ns : List ℕ). first_holding (hyper_rules ns hyper) ≡ None) sizes
+        (none_is (first_holding (hyper_rules is.array.sizes hyper)) (selected_somehow is is.array is.there))
 
     -- what is asked of them
-    pub runs_asked : (e : Dataset) × AreRunsStored mid number p.runs values e
-    runs_asked = (
-      record has.before { storage = has.storage },
-      runs_stored mid number (record has.before { storage = has.storage }) has.array (axes_of hyper) has.stored values
-          ((found.2).counted ∙ ap (λ (x : Dataset). length (selection_of x.sizes (axes_of hyper))) same)
-          (subst (λ (x : Dataset). list_all (fits x.fixed) values ≡ true) same (found.2).fitting)
-          p.runs places is.maximal (subst (λ (s : List ℕ). cells s ≤ 2 ^ 40) sizes is.few),
-    )
+    pub selected_ready : (d : Dataset) × AreSelectedReady mid number hyper values d
+    selected_ready =
+        let writes = (accepted is).2 in (
+          record has.before { storage = has.storage },
+          record {
+            array = has.array;
+            selects = subst (λ (x : Dataset). first_holding (hyper_rules x.sizes hyper) ≡ None) same selects;
+            counted = writes.counted ∙ ap (λ (x : Dataset). length (selection_of x.sizes (axes_of hyper))) same;
+            of_type = subst (λ (x : Dataset). list_all (fits x.fixed) values ≡ true) same writes.fitting;
+            stored = has.stored;
+          },
+        )
 
     -- and what they make
-    pub runs_made : IsSound f → (now : FileState) → AreValuesWritten mid number (places_in p.runs) values now → IsWriteMade f path hyper values number now
-    runs_made sound now wrote e named refreshed =
-        edited_in_place f path hyper values number is.write.at e named refreshed mid has sound now
-        (subst (λ (ps : List ℕ). AreValuesWritten mid number ps values now) places wrote)
+    pub selected_made : IsSound f → (now : FileState) → AreSelectedWritten mid number hyper values now → IsWriteMade f path hyper values number now
+    selected_made sound now wrote e named refreshed =
+        edited_in_place f path hyper values number is.at e named refreshed mid has sound now (wrote (record has.before { storage = has.storage }) has.array)

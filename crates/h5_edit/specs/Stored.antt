@@ -1,9 +1,10 @@
 -- Storage made for cells that are to be written, and the cells written into it (File Format Specification 3.0, sections III.A.1 and
 -- IV.A.2.i).
-use Rattle.std.specs.Prelude.{◌≡◌, ℕ, ◌^◌, ◌<◌, ◌≤◌, ℤ, true, Option, Some, List, [], ◌∷◌, length}
+use Rattle.std.specs.Prelude.{◌≡◌, ℕ, ◌^◌, ◌<◌, ◌≤◌, ℤ, true, Option, Some, None, List, [], ◌∷◌, length}
 use Rattle.std.specs.List.{AllByRecursion, Contains, list_all}
 use Rattle.std.specs.Option.{option_map}
 use Rattle.h5_model.specs.Edits.Applied.{with_cells, with_dataset}
+use Rattle.h5_model.specs.Edits.Refusal.{first_holding}
 use Rattle.h5_model.specs.Format.Fixed.{fits}
 use Rattle.h5_model.specs.Format.Superblock.{k_values}
 use Rattle.h5_model.specs.Tree.Objects.{Dataset, Storage, dataset_of, with_object}
@@ -16,6 +17,7 @@ use Rattle.h5_model.specs.declared.object_no.ObjectNo.{ObjectNo}
 use Rattle.h5_query.specs.ChangedInPlace.{IsChangedInPlace}
 use Rattle.h5_query.specs.Opened.Sound.{IsSound, IsWholeFile}
 use Rattle.h5_query.specs.Opened.State.{FileState}
+use Rattle.h5_query.specs.Selected.{hyper_rules}
 use Rattle.h5_query.specs.Written.{IsCellStored}
 use Rattle.h5_shape.specs.Runs.{AreMaximal, places_in}
 use Rattle.h5_shape.specs.declared.runs.CellRun.{CellRun}
@@ -24,7 +26,6 @@ use Rattle.h5_layout.specs.Lacking.{IsFound}
 use Rattle.h5_edit.specs.Edited.{IsEdited, IsGrowth}
 use Rattle.h5_edit.specs.Refusals.Allowed.{IsWriteAt}
 use Rattle.h5_layout.specs.declared.lacking.Missing.{Missing}
-use Rattle.h5_edit.specs.declared.written.WritePlan.{WritePlan}
 
 -- ---- storage made
 
@@ -60,13 +61,19 @@ pub record HasStorage (f : FileState) (path : List ℕ) (hyper : Hyper) (values 
 
 -- ---- cells written
 
--- these are the maximal runs of the selected cells of the array of this number, and so much of their storage is missing
-pub record IsPlanned (f : FileState) (path : List ℕ) (hyper : Hyper) (values : List ℤ) (number : ℕ) (p : WritePlan) : Type 0 where
-  pub write : IsWriteAt f path hyper values number
-  pub found : IsFound f.image write.array (axes_of hyper) p.missing
-  pub places : places_in p.runs ≡ selection_of (write.array).sizes (axes_of hyper)
-  pub maximal : AreMaximal p.runs
-  pub few : cells (write.array).sizes ≤ 2 ^ 40
+-- no rule of the array of this number refuses the values for these selected cells, each of which is stored
+pub record AreSelectedReady (f : FileState) (number : ℕ) (hyper : Hyper) (values : List ℤ) (d : Dataset) : Type 0 where
+  pub array : dataset_of f.tree number ≡ Some d
+  pub selects : first_holding (hyper_rules d.sizes hyper) ≡ None
+  pub counted : length values ≡ length (selection_of d.sizes (axes_of hyper))
+  pub of_type : list_all (fits d.fixed) values ≡ true
+  pub stored : AreSelectedStored f number (axes_of hyper)
+
+-- these are the maximal runs of the selected cells of an array of these sizes
+pub record AreSelectedRuns (sizes : List ℕ) (hyper : Hyper) (runs : List CellRun) : Type 0 where
+  pub places : places_in runs ≡ selection_of sizes (axes_of hyper)
+  pub maximal : AreMaximal runs
+  pub few : cells sizes ≤ 2 ^ 40
 
 -- the array has a cell for each of these values in the runs; the cells are stored, and the values are of its type
 pub record AreRunsStored (f : FileState) (number : ℕ) (runs : List CellRun) (values : List ℤ) (d : Dataset) : Type 0 where
@@ -86,6 +93,11 @@ pub record AreValuesWritten (old : FileState) (number : ℕ) (places : List ℕ)
   pub whole : IsWholeFile old → IsWholeFile new
   pub in_place : IsSound old
       → IsChangedInPlace old new (with_object old.tree number (with_dataset (with_places places values))) old.next (number ∷ []) 0
+
+-- of the opened image the array of this number alone is another, which has these values in its selected cells
+abbrev pub AreSelectedWritten : FileState → ℕ → Hyper → List ℤ → FileState → Type 0
+AreSelectedWritten old number hyper values new =
+    (d : Dataset) → dataset_of old.tree number ≡ Some d → AreValuesWritten old number (selection_of d.sizes (axes_of hyper)) values new
 
 -- the write is made, where the number of the array is answered
 abbrev pub IsWriteMade : FileState → List ℕ → Hyper → List ℤ → ℕ → FileState → Type 0

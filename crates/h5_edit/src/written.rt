@@ -1,18 +1,19 @@
 //! Cells written (File Format Specification 3.0, sections III.A.1 and IV.A.2.i).
 
-ghost use Rattle.std.specs.Prelude.{◌≡◌, ℕ, ℤ, List, IfOk, MatchResult};
-ghost use Rattle.h5_model.specs.Tree.Objects.{Dataset};
+ghost use Rattle.std.specs.Prelude.{◌≡◌, ℕ, ℤ, List, None, Some, IfOk, MatchResult};
+ghost use Rattle.h5_model.specs.Edits.Refusal.{first_holding};
+ghost use Rattle.h5_model.specs.Tree.Objects.{Dataset, dataset_of};
 ghost use Rattle.h5_model.specs.declared.edits.Edit.TheVariants.{Write};
 ghost use Rattle.h5_model.specs.declared.hyperslab.Hyper.{Hyper as TheHyper};
-ghost use Rattle.h5_query.specs.Opened.Sound.{IsSound};
+ghost use Rattle.h5_query.specs.Selected.{hyper_rules};
 ghost use Rattle.h5_shape.specs.Runs.{places_in};
 ghost use Rattle.h5_edit.specs.Carried.{IsRefused};
 ghost use Rattle.h5_edit.specs.Edited.{IsEdited};
 ghost use Rattle.h5_edit.specs.Refusals.Allowed.{IsWriteAt};
-ghost use Rattle.h5_edit.specs.Stored.{AreRunsStored, AreValuesWritten, HasStorage, IsPlanned, IsStoring, IsWriteMade};
+ghost use Rattle.h5_edit.specs.Stored.{AreRunsStored, AreSelectedReady, AreSelectedRuns, AreSelectedWritten, AreValuesWritten, HasStorage, IsStoring, IsWriteMade};
 
 use crate::links::insertion_fault;
-use crate::rules::check_write;
+use crate::rules::{check_write, standing_at};
 use h5_layout::{Buffer, Missing, missing_of};
 use h5_model::{EditFault, Edited, ObjectNo};
 use h5_query::{Opened, described_of, slab_within};
@@ -68,7 +69,7 @@ pub fn write(
     })
 }
 
-/// Writes values into the selected cells of the array of this number, run by run. The storage that is missing is made first.
+/// Writes values into the selected cells of the array of this number. The storage that is missing is made first.
 ///
 /// `TreeTooDeep` where a chunk finds no room in the tree, `ImageFull` where the image may pass 2147483648 bytes with that storage, `NoMemory`
 /// where memory is refused. A refusal changes nothing.
@@ -84,10 +85,31 @@ fn write_selected(
         → MatchResult result (λ _. IsWriteMade opened.old path hyper.now values.now number opened.new) (λ e.
         IsRefused opened.old (Write path hyper.now values.now) e × (opened.new ≡ opened.old)) }
 {
-    let WritePlan { runs, missing } = plan_write(alloc, opened, number, hyper)?;
+    let missing = missing_at(alloc, opened, number, hyper)?;
     make_missing(alloc, opened, number, missing)?;
-    write_runs(opened, number, runs, values);
+    write_where_stored(opened, number, hyper, values);
     Ok(())
+}
+
+/// What is missing of the storage of the selected cells of the array of this number, or `None` where each of them is stored. Takes memory
+/// for the keys of missing chunks.
+///
+/// That no rule refuses the write is the caller's condition.
+fn missing_at(
+    alloc: Global,
+    opened: &Opened,
+    number: u32,
+    hyper: &HyperRef<'_>,
+) -> Result<Option<Missing>, AllocError>
+    requires { (path : List ℕ) × (values : List ℤ) × IsWriteAt opened.now path hyper.now values number }
+    ensures { (path : List ℕ) (values : List ℤ) → IsWriteAt opened.now path hyper.now values number
+        → IfOk result (IsStoring opened.now path hyper.now values number) }
+{
+    let array = described_of(opened, number);
+    let Ok(slab) = slab_within(array.dims(), hyper) else {
+        unreachable!()
+    };
+    missing_of(alloc, opened.image(), &array, &slab)
 }
 
 /// Makes the storage that is missing of the array of this number, if any is. A refusal changes nothing.
@@ -113,37 +135,42 @@ fn make_missing(
     }
 }
 
-/// How selected cells are written: as runs of consecutive places, and what is missing of their storage, or `None` where each of them is
-/// stored.
-#[derive(Drop)]
-struct WritePlan {
-    runs: CellRuns,
-    missing: Option<Missing>,
+/// Writes values into the selected cells of the array of this number, all of which are stored: at once where they stand one behind another,
+/// else run by run. Takes no memory.
+fn write_where_stored(opened: &mut Opened, number: u32, hyper: &HyperRef<'_>, values: &Buffer<'_>)
+    requires { (d : Dataset) × AreSelectedReady opened.old number hyper.now values.now d }
+    ensures { AreSelectedWritten opened.old number hyper.now values.now opened.new }
+{
+    match standing_at(opened, number, hyper) {
+        Some(standing) => opened.write_standing(number, &standing, values),
+        None => write_by_runs(opened, number, hyper, values),
+    }
 }
 
-/// How the selected cells of the array of this number are to be written. Takes memory for the keys of missing chunks.
+/// Writes values into the selected cells of the array of this number, all of which are stored, run by run.
 ///
-/// That no rule refuses the write is the caller's condition.
-fn plan_write(
-    alloc: Global,
-    opened: &Opened,
-    number: u32,
-    hyper: &HyperRef<'_>,
-) -> Result<WritePlan, AllocError>
-    requires { (path : List ℕ) × (values : List ℤ) × IsWriteAt opened.now path hyper.now values number }
-    ensures planned { (path : List ℕ) (values : List ℤ) → IsWriteAt opened.now path hyper.now values number
-        → IfOk result (IsPlanned opened.now path hyper.now values number) }
-    ensures sound { IsSound opened.now }
+/// The selection and its runs are some KB, so they stand in functions that other writes do not call.
+fn write_by_runs(opened: &mut Opened, number: u32, hyper: &HyperRef<'_>, values: &Buffer<'_>)
+    requires { (d : Dataset) × AreSelectedReady opened.old number hyper.now values.now d }
+    ensures { AreSelectedWritten opened.old number hyper.now values.now opened.new }
+{
+    let runs = selected_runs(opened, number, hyper);
+    write_runs(opened, number, runs, values);
+}
+
+/// The selected cells of the array of this number, as runs of consecutive places.
+///
+/// That no rule refuses the selection is the caller's condition.
+fn selected_runs(opened: &Opened, number: u32, hyper: &HyperRef<'_>) -> CellRuns
+    requires { (d : Dataset) × (dataset_of opened.now.tree number ≡ Some d)
+        × (first_holding (hyper_rules d.sizes hyper.now) ≡ None) }
+    ensures { (d : Dataset) → dataset_of opened.now.tree number ≡ Some d → AreSelectedRuns d.sizes hyper.now result }
 {
     let array = described_of(opened, number);
     let Ok(slab) = slab_within(array.dims(), hyper) else {
         unreachable!()
     };
-    let missing = missing_of(alloc, opened.image(), &array, &slab)?;
-    Ok(WritePlan {
-        runs: slab.runs(array.dims()),
-        missing,
-    })
+    slab.runs(array.dims())
 }
 
 /// Writes values into the cells of these runs, all of which are stored.

@@ -1,10 +1,9 @@
 -- Edits of an opened image that no rule of its tree refuses, and where they take place.
-use Rattle.std.specs.Prelude.{◌≡◌, ℕ, ◌^◌, ◌≤◌, ℤ, true, IfSome, IsSome, Some, None, List, length}
+use Rattle.std.specs.Prelude.{◌≡◌, ℕ, ℤ, true, IfSome, Some, None, List, length}
 use Rattle.std.specs.List.{list_all}
 use Rattle.h5_layout.specs.Described.{Described}
-use Rattle.h5_layout.specs.Standing.{IsStandingAt, address_at}
+use Rattle.h5_layout.specs.Standing.{IsStandingAt}
 use Rattle.h5_model.specs.Format.Fixed.{fits}
-use Rattle.h5_model.specs.Tree.Places.{cells}
 use Rattle.h5_model.specs.Tree.Paths.{dataset_at, object_at, parent_at}
 use Rattle.h5_model.specs.Edits.Refusal.{refusal_of}
 use Rattle.h5_model.specs.Tree.Objects.{Tree, Dataset}
@@ -42,25 +41,29 @@ pub record AreValuesOfRun (a : Described) (hyper : Hyper) (values : List ℤ) (r
   pub counted : length values ≡ run.length
   pub of_type : list_all (fits a.fixed) values ≡ true
 
--- and they stand one behind another in the image, as these
-pub record AreSelectedStanding (image : List ℕ) (a : Described) (hyper : Hyper) (values : List ℤ) (cells : StandingCells) : Type 0 where
-  pub run : CellRun
-  pub valued : AreValuesOfRun a hyper values run
+-- the cells of a run of an array stand one behind another in the image, as these
+pub record IsRunStanding (image : List ℕ) (a : Described) (run : CellRun) (cells : StandingCells) : Type 0 where
   pub type_is : cells.fixed ≡ a.fixed
   pub place_is : cells.place ≡ run.place
   pub standing : IsStandingAt image a run.place run.length cells.at
 
--- one cell alone is selected, with a value of the type, and it is stored in a block or in a chunk
-pub record IsOneStored (image : List ℕ) (a : Described) (hyper : Hyper) (values : List ℤ) : Type 0 where
+-- the cells that are selected of an array are one run, with a value of its type for each, and stand one behind another in the image
+pub record AreSelectedStanding (image : List ℕ) (a : Described) (hyper : Hyper) (values : List ℤ) (cells : StandingCells) : Type 0 where
   pub run : CellRun
   pub valued : AreValuesOfRun a hyper values run
-  pub one : run.length ≡ 1
-  pub stored : IsSome (address_at image a run.place)
+  pub stands : IsRunStanding image a run cells
+
+-- the cells that are selected of the array of this number are one run, and stand one behind another in the image
+pub record AreStandingAt (f : FileState) (number : ℕ) (hyper : Hyper) (cells : StandingCells) : Type 0 where
+  pub array : Described
+  pub there : IsArrayThere f number array
+  pub run : CellRun
+  pub selected : IsOneRun array.sizes hyper run
+  pub stands : IsRunStanding f.image array run cells
 
 -- the write takes place at this array, and where its cells were found to stand together, they do
 pub record IsTarget (f : FileState) (path : List ℕ) (hyper : Hyper) (values : List ℤ) (t : WriteTarget) : Type 0 where
   pub write : IsWriteAt f path hyper values t.number
-  pub few : cells (write.array).sizes ≤ 2 ^ 40
   pub found : IfSome t.standing (AreSelectedStanding f.image write.array hyper values)
 
 -- no rule refuses the resize; the array at its path has this number

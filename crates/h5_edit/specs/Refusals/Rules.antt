@@ -114,12 +114,16 @@ spec_rules s =
     ∷ (fault.ValueRange, not (fits s.fixed s.fill))
     ∷ []
 
--- values for the selected cells of an array of this type
-abbrev pub value_rules : Fixed → Hyper → List ℤ → List (EditFault × Bool)
-value_rules fixed hyper values =
-    (fault.ValueCount, not (length values == selected_cells (axes_of hyper)))
+-- values for so many cells of an array of this type
+abbrev pub counted_rules : Fixed → ℕ → List ℤ → List (EditFault × Bool)
+counted_rules fixed cells values =
+    (fault.ValueCount, not (length values == cells))
     ∷ (fault.ValueRange, not (list_all (fits fixed) values))
     ∷ []
+
+-- and for the selected cells
+abbrev pub value_rules : Fixed → Hyper → List ℤ → List (EditFault × Bool)
+value_rules fixed hyper values = counted_rules fixed (selected_cells (axes_of hyper)) values
 
 -- a new object
 abbrev pub number_rules : ℕ → List (EditFault × Bool)
