@@ -1,5 +1,5 @@
 -- The open views of a session behind an edit of its file.
-use Rattle.std.proofs.Common.{◌≡◌, ◌⊎◌, inl, inr, ◌≤◌, ◌^◌, ℕ, List, [], map, Some, None, sym, ap, ◌∙◌}
+use Rattle.std.proofs.Common.{◌≡◌, ◌≤◌, ◌^◌, ℕ, List, map, Some, None, sym, ap, ◌∙◌}
 use Rattle.std.specs.Option.{option_and_then, option_map}
 use Rattle.h5_model.specs.Edits.Applied.{named_object}
 use Rattle.h5_model.specs.Edits.Refusal.{refusal_of}
@@ -13,12 +13,12 @@ use Rattle.h5_model.specs.declared.object_no.ObjectNo.{ObjectNo}
 use Rattle.h5_edit.specs.Opened.State.{FileState}
 use Rattle.h5_file.specs.Following.{HaveFollowed, IsToFollow}
 use Rattle.h5_file.specs.OpenViews.{AreViewsFollowed, numbered_view}
-use Rattle.h5_file.specs.Touched.{HasBoxes, IsTouchOf, IsTouching, IsUntouching, sizes_before}
+use Rattle.h5_file.specs.Touched.{HasBoxes, IsTouchOf, IsTouching, sizes_before}
 use Rattle.h5_file.specs.declared.touched.Touched.{Touched}
 use Rattle.h5_file.specs.declared.touched.Touched.TheVariants.{Written, Lost}
 use Rattle.h5_file.specs.declared.views.KeptView.{KeptView}
 use Rattle.h5_file.proofs.AcceptedEdits.{write_allowed}
-use Rattle.h5_file.proofs.SessionEdits.{edited_after, edited_still, edited_unseen, kept_after, kept_still, kept_unseen, new, now, same_after, touch_after}
+use Rattle.h5_file.proofs.SessionEdits.{edited_after, kept_after, new, now, same_after, still_followed, touch_after}
 
 -- an array that is touched is named
 array_named : (tree : Tree) (next : ℕ) (edit : Edit) (touched : Touched) → IsTouching tree edit touched → refusal_of tree next edit ≡ None → named_object tree edit next ≡ None → ⊥
@@ -38,20 +38,9 @@ array_named tree next (SetAttr path attr) touched is allowed none = absurd is
 array_named tree next (RemoveAttr path name) touched is allowed none = absurd is
 
 module _ (before after : FileState) (views : List KeptView) (next : ℕ) (edit : Edit) (e : Edited) where
-  -- no array is touched, or no view is open
+  -- no array is touched
   pub unfollowed : IsToFollow before after views next edit None e → HaveFollowed before after views views next edit e
-  unfollowed to = by_touch to.touch where
-    by_touch : (views ≡ []) ⊎ IsUntouching before.tree before.next edit → HaveFollowed before after views views next edit e
-    by_touch (inl none) = record {
-      kept = kept_unseen before after edit e to.edited views next to.kept none;
-      edited = edited_unseen before after edit e to.edited views next to.kept none;
-    }
-    by_touch (inr untouching) =
-        let none = untouching to.edited.accepted.accepted in
-        record {
-          kept = kept_still before after edit e to.edited views next to.kept none;
-          edited = edited_still before after edit e to.edited views next to.kept none;
-        }
+  unfollowed to = still_followed before after edit e to.edited views next to.kept (to.touch to.edited.accepted.accepted)
 
   -- one is, and it is named
   module _ (touched : Touched) (to : IsToFollow before after views next edit (Some touched) e) where

@@ -22,6 +22,7 @@ use Rattle.h5_model.proofs.MapSteps.{entries-empty}
 use Rattle.h5_edit.specs.Edited.{IsEdited}
 use Rattle.h5_edit.specs.Opened.State.{FileState, state_of}
 use Rattle.h5_shape.specs.InBox.{AreApart}
+use Rattle.h5_file.specs.Following.{HaveFollowed}
 use Rattle.h5_file.specs.OpenViews.{AreViewsFollowed, AreViewsKept, IsViewFit, IsViewShown, numbered_view, session_state, views_of}
 use Rattle.h5_file.specs.Session.{IsSessionEdited}
 use Rattle.h5_file.specs.Touched.{HasBoxes, IsTouchOf, IsTouching, sizes_before}
@@ -145,10 +146,7 @@ module _ (before after : FileState) (edit : Edit) (e : Edited) (is : IsEdited be
     shown_after : AllByRecursion (IsViewShown after.tree) views
     shown_after = all_shown_still before after edit is.state none views kept.fit kept.shown
 
-    pub kept_still : AreViewsKept after views next
-    kept_still = kept_again before after views views next kept refl fit_after shown_after
-
-    pub edited_still : IsSessionEdited (session_state before views next) edit (session_state after views next) e
+    edited_still : IsSessionEdited (session_state before views next) edit (session_state after views next) e
     edited_still = record {
       file = file_edited;
       refreshed = is.refreshed ∙ sym (refreshed_none before after edit is.state none _);
@@ -157,14 +155,14 @@ module _ (before after : FileState) (edit : Edit) (e : Edited) (is : IsEdited be
       patches = λ number view there. patches_stepped before.tree after.tree edit views views (stepped_still before after edit is.state none views shown_after) number view there;
     }
 
+    pub still_followed : HaveFollowed before after views views next edit e
+    still_followed = record { kept = kept_again before after views views next kept refl fit_after shown_after; edited = edited_still }
+
   module _ (none : views ≡ []) where
     all_unseen : AllByRecursion (IsViewShown after.tree) views
     all_unseen = subst (AllByRecursion (IsViewShown after.tree)) (sym none) tt
 
-    pub kept_unseen : AreViewsKept after views next
-    kept_unseen = kept_again before after views views next kept refl fit_after all_unseen
-
-    pub edited_unseen : IsSessionEdited (session_state before views next) edit (session_state after views next) e
+    edited_unseen : IsSessionEdited (session_state before views next) edit (session_state after views next) e
     edited_unseen =
         let stepped : AreStepped before.tree after.tree edit views views = subst (λ (vs : List KeptView). AreStepped before.tree after.tree edit vs vs) (sym none) tt in
         record {
@@ -174,6 +172,9 @@ module _ (before after : FileState) (edit : Edit) (e : Edited) (is : IsEdited be
           next_view = refl;
           patches = λ number view there. patches_stepped before.tree after.tree edit views views stepped number view there;
         }
+
+    pub none_followed : HaveFollowed before after views views next edit e
+    none_followed = record { kept = kept_again before after views views next kept refl fit_after all_unseen; edited = edited_unseen }
 
   module _ (number : ℕ) (touched : Touched) (touching : IsTouching before.tree edit touched) (named : named_object before.tree edit before.next ≡ Some number) where
     pub at : changed_array before.tree edit ≡ Some number

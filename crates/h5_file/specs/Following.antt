@@ -1,5 +1,5 @@
 -- The open views of a session once an edit was carried out on its file (selections: HDF5 dataspace reference, H5Sselect_hyperslab).
-use Rattle.std.specs.Prelude.{◌≡◌, ◌⊎◌, ℕ, MatchOption, Option, List, []}
+use Rattle.std.specs.Prelude.{ℕ, MatchOption, Option, List}
 use Rattle.h5_model.specs.declared.edits.Edit.{Edit}
 use Rattle.h5_model.specs.declared.edits.Edited.{Edited}
 use Rattle.h5_edit.specs.Edited.{IsEdited}
@@ -10,16 +10,15 @@ use Rattle.h5_file.specs.Touched.{IsTouching, IsUntouching}
 use Rattle.h5_file.specs.declared.touched.Touched.{Touched}
 use Rattle.h5_file.specs.declared.views.KeptView.{KeptView}
 
--- the edit touches these cells of an array, or none; or no view is open to follow it
-abbrev pub IsTouchedBy : FileState → List KeptView → Edit → Option Touched → Type 0
-IsTouchedBy before views edit touched =
-    MatchOption touched ((views ≡ []) ⊎ IsUntouching before.tree before.next edit) (IsTouching before.tree edit)
+-- the edit touches these cells of an array, or none
+abbrev pub IsTouchedBy : FileState → Edit → Option Touched → Type 0
+IsTouchedBy before edit touched = MatchOption touched (IsUntouching before.tree before.next edit) (IsTouching before.tree edit)
 
 -- the edit was carried out on the file, and its views have yet to follow
 pub record IsToFollow (before after : FileState) (views : List KeptView) (next : ℕ) (edit : Edit) (touched : Option Touched) (e : Edited) : Type 0 where
   pub edited : IsEdited before edit after e
   pub kept : AreViewsKept before views next
-  pub touch : IsTouchedBy before views edit touched
+  pub touch : IsTouchedBy before edit touched
 
 -- the views followed, and so the edit was carried out on the session
 pub record HaveFollowed (before after : FileState) (views others : List KeptView) (next : ℕ) (edit : Edit) (e : Edited) : Type 0 where

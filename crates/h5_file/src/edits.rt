@@ -12,8 +12,8 @@ ghost use Rattle.h5_file.specs.Anew.{IsRepacked};
 
 use crate::file::File;
 use h5_edit::{
-    HyperRef, Buffer, create_dataset, create_group, hard_link, open_made, remove_attr, repack, resize,
-    set_attr, soft_link, unlink, write,
+    Buffer, HyperRef, create_dataset, create_group, hard_link, open_made, remove_attr, repack,
+    resize, set_attr, soft_link, unlink, write,
 };
 use h5_model::{AttrSpec, Edit, EditFault, Edited, Spec};
 use std::alloc::AllocError;

@@ -22,7 +22,7 @@ ghost use Rattle.h5_file.specs.Opening.{IsReadable, Refused};
 
 use crate::open_error::OpenError;
 use h5_edit::{
-    HyperRef, AttrRef, Found, Kind, Opened, Runs, StoredArray, array_at, array_of, attributes_at,
+    AttrRef, Found, HyperRef, Kind, Opened, Runs, StoredArray, array_at, array_of, attributes_at,
     empty_image, found_at, kind_at, links_of, names_at, names_of_attributes, number_at,
     one_attribute, one_cell, open_written, runs_at,
 };

@@ -7,7 +7,6 @@ ghost use Rattle.h5_file.specs.Following.{IsTouchedBy};
 ghost use Rattle.h5_file.specs.Touched.{HasGrid, IsGridOf, met_with};
 
 use crate::file::File;
-use crate::open_views::OpenViews;
 use h5_edit::{Dims, HyperRef, Slab, array_at};
 use h5_model::Edit;
 use h5_shape::{MetBoxes, lie_apart, lost_boxes, written_boxes};
@@ -22,16 +21,13 @@ pub(crate) enum Touched {
 }
 
 impl Touched {
-    /// What an edit touches, or `None` where this is no cell of an array, a rule refuses the edit, or no view is open. It
-    /// takes no memory.
-    pub(crate) fn of(file: &File, views: &OpenViews, edit: &Edit) -> Option<Touched>
-        ensures { IsTouchedBy file.now views.now edit.now result }
+    /// What an edit touches, or `None` where this is no cell of an array or a rule refuses the edit. It takes no memory.
+    pub(crate) fn of(file: &File, edit: &Edit) -> Option<Touched>
+        ensures { IsTouchedBy file.now edit.now result }
     {
         match edit {
-            Edit::Write { hyper, .. } => Touched::written(file, views, &HyperRef::of(hyper)),
-            Edit::Resize { path, dims } => {
-                Touched::lost(file, views, path.as_slice(), dims.as_slice())
-            }
+            Edit::Write { hyper, .. } => Touched::written(file, &HyperRef::of(hyper)),
+            Edit::Resize { path, dims } => Touched::lost(file, path.as_slice(), dims.as_slice()),
             Edit::CreateGroup { .. }
             | Edit::CreateDataset { .. }
             | Edit::HardLink { .. }
@@ -42,28 +38,21 @@ impl Touched {
         }
     }
 
-    /// The cells that a write selects, or `None` where the lists are no selection or no view is open.
-    pub(crate) fn written(file: &File, views: &OpenViews, hyper: &HyperRef<'_>) -> Option<Touched>
+    /// The cells that a write selects, or `None` where the lists are no selection.
+    pub(crate) fn written(file: &File, hyper: &HyperRef<'_>) -> Option<Touched>
         ensures { (path : List ℕ) (values : List ℤ)
-            → IsTouchedBy file.now views.now (Write path hyper.now values) result }
+            → IsTouchedBy file.now (Write path hyper.now values) result }
     {
-        if views.is_empty() {
-            return None;
-        }
         // Its arrays are sound.
         let _image = file.image();
         let slab = Slab::new(hyper).ok()?;
         Some(Touched::Written(slab))
     }
 
-    /// The cells that the array at the path may lose where it gets these sizes, or `None` where it can't get them or no
-    /// view is open.
-    pub(crate) fn lost(file: &File, views: &OpenViews, path: &[u8], dims: &[u64]) -> Option<Touched>
-        ensures { IsTouchedBy file.now views.now (Resize path.now dims.now) result }
+    /// The cells that the array at the path may lose where it gets these sizes, or `None` where it can't get them.
+    pub(crate) fn lost(file: &File, path: &[u8], dims: &[u64]) -> Option<Touched>
+        ensures { IsTouchedBy file.now (Resize path.now dims.now) result }
     {
-        if views.is_empty() {
-            return None;
-        }
         // Its arrays are sound.
         let _image = file.image();
         let (_number, array) = array_at(&file.opened, path).ok()?;
@@ -87,11 +76,7 @@ impl Touched {
 
     /// The boxes of an array's grid that hold a cell touched and a cell of the selection. `None` where it is clear at once that there is
     /// none. It takes no memory.
-    pub(crate) fn boxes<'a>(
-        &'a self,
-        grid: &'a Dims,
-        slab: &'a Slab,
-    ) -> Option<MetBoxes<'a>>
+    pub(crate) fn boxes<'a>(&'a self, grid: &'a Dims, slab: &'a Slab) -> Option<MetBoxes<'a>>
         requires { (d : Dataset) × IsGridOf d self.now grid.now slab.now }
         ensures { (d : Dataset) → IsGridOf d self.now grid.now slab.now
             → let met = met_with d self.now slab.now in

@@ -114,13 +114,7 @@ impl KeptView {
 
     /// Follows its array, of which cells were touched: of the kept cells those in each box that is met are set to the array's. Says how many
     /// boxes these are. Where the cells can be lent by now, none is kept any more.
-    fn follow(
-        &mut self,
-        alloc: Global,
-        array: &StoredArray<'_>,
-        grid: &Dims,
-        touched: &Touched,
-    ) -> u64
+    fn follow(&mut self, array: &StoredArray<'_>, grid: &Dims, touched: &Touched) -> u64
         requires array { IsArrayLeft array.now touched.now grid.now }
         requires rank { length self.old.slab ≡ length array.now.sizes }
         requires apart { selects_none self.old.slab ≡ false → AreApart self.old.slab }
@@ -136,7 +130,7 @@ impl KeptView {
             self.kept = None;
             return 0;
         }
-        patch_met(kept, alloc, array, &self.slab, grid, touched)
+        patch_met(kept, array, &self.slab, grid, touched)
     }
 }
 
@@ -174,7 +168,6 @@ fn is_lent(array: &StoredArray<'_>, slab: &Slab) -> bool
 /// what a small edit touches, which a few comparisons tell.
 fn patch_met(
     kept: &mut Kept,
-    alloc: Global,
     array: &StoredArray<'_>,
     slab: &Slab,
     grid: &Dims,
@@ -193,7 +186,7 @@ fn patch_met(
     if slab.cells() == 0 {
         return 0;
     }
-    patch_each(kept, alloc, array, slab, grid, touched)
+    patch_each(kept, array, slab, grid, touched)
 }
 
 /// The same, where each box that one of the two meets is looked at.
@@ -267,7 +260,7 @@ pub(crate) fn follow_all(
     };
     let chunk = array.chunk();
     let grid = box_sizes(&array, &chunk);
-    follow_each(views, by_array, number, file.alloc, &array, grid, touched)
+    follow_each(views, by_array, number, &array, grid, touched)
 }
 
 /// The sizes of a box of the array's grid, where this tells the sizes of its chunks. An array without chunks is one box.
@@ -287,7 +280,6 @@ fn follow_each(
     views: &mut [KeptView],
     by_array: &[ArrayView],
     number: ObjectNo,
-    alloc: Global,
     array: &StoredArray<'_>,
     grid: &Dims,
     touched: &Touched,
@@ -304,7 +296,7 @@ fn follow_each(
     let mut place = first_place(views, own);
     let mut count = 0;
     for view in own {
-        count += follow_one(views, place, view.number, alloc, array, grid, touched);
+        count += follow_one(views, place, view.number, array, grid, touched);
         place = place.saturating_add(1);
     }
     count
@@ -325,7 +317,6 @@ fn follow_one(
     views: &mut [KeptView],
     place: usize,
     number: u32,
-    alloc: Global,
     array: &StoredArray<'_>,
     grid: &Dims,
     touched: &Touched,
@@ -339,5 +330,5 @@ fn follow_one(
     ensures few { result ≤ 2 ^ 40 }
 {
     let at = place_near(views, place, number).unwrap();
-    views[at].follow(alloc, array, grid, touched)
+    views[at].follow(array, grid, touched)
 }

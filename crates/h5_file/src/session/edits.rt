@@ -30,7 +30,18 @@ impl Session {
         ensures edited { MatchResult result (IsSessionEdited self.old edit.now self.new) (λ e.
             IsRefused self.old.file edit.now e × (self.new ≡ self.old)) }
     {
-        let touched = Touched::of(&self.file, &self.views, edit);
+        if self.views.is_empty() {
+            return self.file.edit(edit);
+        }
+        self.edit_with_views(edit)
+    }
+
+    /// The same, where views follow.
+    fn edit_with_views(&mut self, edit: &Edit) -> Result<Edited, EditFault>
+        ensures edited { MatchResult result (IsSessionEdited self.old edit.now self.new) (λ e.
+            IsRefused self.old.file edit.now e × (self.new ≡ self.old)) }
+    {
+        let touched = Touched::of(&self.file, edit);
         let edited = self.file.edit(edit)?;
         Ok(follow(&self.file, &mut self.views, edited, touched))
     }
@@ -130,7 +141,18 @@ impl Session {
         ensures edited { MatchResult result (IsSessionEdited self.old (Resize path.now dims.now) self.new)
             (λ e. IsRefused self.old.file (Resize path.now dims.now) e × (self.new ≡ self.old)) }
     {
-        let touched = Touched::lost(&self.file, &self.views, path, dims);
+        if self.views.is_empty() {
+            return self.file.resize(path, dims);
+        }
+        self.resize_with_views(path, dims)
+    }
+
+    /// The same, where views follow.
+    fn resize_with_views(&mut self, path: &[u8], dims: &[u64]) -> Result<Edited, EditFault>
+        ensures edited { MatchResult result (IsSessionEdited self.old (Resize path.now dims.now) self.new)
+            (λ e. IsRefused self.old.file (Resize path.now dims.now) e × (self.new ≡ self.old)) }
+    {
+        let touched = Touched::lost(&self.file, path, dims);
         let edited = self.file.resize(path, dims)?;
         Ok(follow(&self.file, &mut self.views, edited, touched))
     }
@@ -170,7 +192,24 @@ impl Session {
             (IsSessionEdited self.old (Write path.now hyper.now values.now) self.new)
             (λ e. IsRefused self.old.file (Write path.now hyper.now values.now) e × (self.new ≡ self.old)) }
     {
-        let touched = Touched::written(&self.file, &self.views, hyper);
+        if self.views.is_empty() {
+            return self.file.write_from(path, hyper, values);
+        }
+        self.write_with_views(path, hyper, values)
+    }
+
+    /// The same, where views follow.
+    fn write_with_views(
+        &mut self,
+        path: &[u8],
+        hyper: &HyperRef<'_>,
+        values: &Buffer<'_>,
+    ) -> Result<Edited, EditFault>
+        ensures edited { MatchResult result
+            (IsSessionEdited self.old (Write path.now hyper.now values.now) self.new)
+            (λ e. IsRefused self.old.file (Write path.now hyper.now values.now) e × (self.new ≡ self.old)) }
+    {
+        let touched = Touched::written(&self.file, hyper);
         let edited = self.file.write_from(path, hyper, values)?;
         Ok(follow(&self.file, &mut self.views, edited, touched))
     }

@@ -1,4 +1,4 @@
-use Rattle.std.proofs.Common.{◌≡◌, inr, ◌≤◌, ◌^◌, ℕ, List, Some, None, true, false, sym, ap, ◌∙◌, subst}
+use Rattle.std.proofs.Common.{◌≡◌, ◌≤◌, ◌^◌, ℕ, List, Some, None, true, false, sym, ap, ◌∙◌, subst}
 use Rattle.std.specs.Option.{is_some}
 use Rattle.std.specs.Result.{result_ok}
 use Rattle.h5_model.specs.Edits.Refusal.{first_holding}
@@ -15,7 +15,7 @@ returns-in_err-_number c =
     let none : result_ok c.array_at.result ≡ None = sym c.ok.ensures.value ∙ c.in_err-_number.was in
     let refused = fault_by _ _ c.array_at.result c.array_at.ensures.there none in
     let here : first_holding (dataset_rules f.tree c.args.path.now) ≡ Some refused.0 = (λ i. first_holding (dataset_rules ((sym c.file.view_is i).tree) c.args.path.now)) ∙ refused.1 in
-    rw (c.from_residual.ensures) (inr (λ allowed. absurd (resize_path f.tree f.next c.args.path.now c.args.dims.now allowed refused.0 here)))
+    rw (c.from_residual.ensures) (λ allowed. absurd (resize_path f.tree f.next c.args.path.now c.args.dims.now allowed refused.0 here))
 
 -- the array that stands there
 found : (c : In_ok-_number) → dataset_at c.args.file.now.tree c.args.path.now ≡ Some c.in_ok-_number.array
@@ -28,10 +28,10 @@ pub returns-in_err-kept : goal.returns-in_err-kept
 returns-in_err-kept c =
     let f = c.args.file.now in
     let there = found (goal.at.returns-in_err-kept c).In_ok-_number in
-    rw (c.from_residual-in_err-kept.ensures) (inr (λ allowed.
+    rw (c.from_residual-in_err-kept.ensures) (λ allowed.
     let few = few_dims f c.image-image.ensures.low c.image-image.ensures.sound c.args.path.now c.args.dims.now c.in_ok-_number.array there allowed in
     let some = c.new-2.ensures.exact.1 few in
-    absurd (let never : false ≡ true = sym (ap is_some c.in_err-kept.was) ∙ some in cc)))
+    absurd (let never : false ≡ true = sym (ap is_some c.in_err-kept.was) ∙ some in cc))
 
 pub returns : goal.returns
 returns c =

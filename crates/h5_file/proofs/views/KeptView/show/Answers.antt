@@ -18,9 +18,9 @@ returns-in-Some-kept-clause-shown c =
     kept_there c.args.file.now.tree v c.in-Some.array c.in-Some.ensures within c.fixed-fixed.result c.fixed-fixed.ensures (c.requires.fit.ranked c.in-Some.array c.in-Some.ensures)
     c.axes-axes.ensures.sound.apart c.requires.shown c.in-Some-kept.kept c.in-Some-kept.is c.bytes.result.now c.bytes.ensures
 
-pub returns-clause-shown : goal.returns-clause-shown
-returns-clause-shown c =
-    let within = within-is (goal.at.returns-clause-shown c).After-fixed-fixed in
+pub returns-in-None-clause-shown : goal.returns-in-None-clause-shown
+returns-in-None-clause-shown c =
+    let within = within-is (goal.at.returns-in-None-clause-shown c).After-fixed-fixed in
     let v = c.args.self.now in
     let d = c.in-Some.array in
     let type : IsFixed c.fixed-fixed.result = search rules in
