@@ -141,10 +141,7 @@ fn push_array_head(
 }
 
 /// Appends a line for each attribute.
-fn push_attributes(
-    text: &mut Vec<u8>,
-    attributes: &[AttrRef<'_>],
-) -> Result<(), AllocError>
+fn push_attributes(text: &mut Vec<u8>, attributes: &[AttrRef<'_>]) -> Result<(), AllocError>
     ensures { Appends result text.old.items text.new.items (flat_map attribute_line attributes.now) }
 {
     for attribute in attributes {
@@ -154,10 +151,7 @@ fn push_attributes(
 }
 
 /// Appends the line of an attribute.
-fn push_attribute(
-    text: &mut Vec<u8>,
-    attribute: &AttrRef<'_>,
-) -> Result<(), AllocError>
+fn push_attribute(text: &mut Vec<u8>, attribute: &AttrRef<'_>) -> Result<(), AllocError>
     ensures { Appends result text.old.items text.new.items (attribute_line attribute.now) }
 {
     let dims = attribute.dims();
