@@ -164,7 +164,8 @@ fn write_by_runs(opened: &mut Opened, number: u32, hyper: &HyperRef<'_>, values:
 fn selected_runs(opened: &Opened, number: u32, hyper: &HyperRef<'_>) -> CellRuns
     requires { (d : Dataset) × (dataset_of opened.now.tree number ≡ Some d)
         × (first_holding (hyper_rules d.sizes hyper.now) ≡ None) }
-    ensures { (d : Dataset) → dataset_of opened.now.tree number ≡ Some d → AreSelectedRuns d.sizes hyper.now result }
+    ensures { (d : Dataset) → dataset_of opened.now.tree number ≡ Some d
+        → AreSelectedRuns d.sizes hyper.now result }
 {
     let array = described_of(opened, number);
     let Ok(slab) = slab_within(array.dims(), hyper) else {
