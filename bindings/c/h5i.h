@@ -178,7 +178,7 @@ h5i_status h5i_attribute(h5i_session *session, LIBH5I_BYTES(path), LIBH5I_BYTES(
 h5i_status h5i_attribute_values(h5i_session *session, LIBH5I_BYTES(path), LIBH5I_BYTES(name), uint8_t *room, size_t room_length);
 
 /* Copies the selected cells of the array at the path to `room`, in row-major order, as they are stored: in the type that h5i_stat tells.
- * They are copied once, straight from the image. LIBH5I_WRONG_ROOM where `room` has not just their length. */
+ * They are copied once, straight from the image, and no memory is taken. LIBH5I_WRONG_ROOM where `room` has not just their length. */
 h5i_status h5i_read(h5i_session *session, LIBH5I_BYTES(path), LIBH5I_SLAB, uint8_t *room, size_t room_length);
 
 /* ---- edits */

@@ -1,21 +1,16 @@
 -- What an edit answers where memory was refused before the library was asked, or no edit was asked for.
-use Rattle.std.proofs.Common.{◌≡◌, ℕ, Bool, true, false, Option, Some, None, Result, Ok, Err, List, refl, sym, ap, ◌∙◌, subst, inr}
+use Rattle.std.proofs.Common.{◌≡◌, ℕ, Bool, true, false, Option, Some, None, Result, Ok, Err, List, sym, ap, ◌∙◌, subst, inl, inr}
 use Rattle.h5_model.specs.Format.Fixed.{Fixed}
 use Rattle.h5_model.specs.declared.attribute.AttrSpec.{AttrSpec}
 use Rattle.h5_model.specs.declared.dataset.Spec.{Spec}
 use Rattle.h5_model.specs.declared.dataset.Store.{Store}
 use Rattle.h5_model.specs.declared.edits.Edit.{Edit}
-use Rattle.h5_model.specs.declared.edits.Edit.TheVariants.{CreateDataset}
-use Rattle.h5_model.specs.declared.edit_fault.EditFault.TheVariants as fault
-use Rattle.h5_c.specs.Calls.{HasEdited, IsRefusedEarly}
+use Rattle.h5_model.specs.declared.edits.Edit.TheVariants.{CreateDataset, SetAttr}
+use Rattle.h5_c.specs.Calls.{HasEdited, HasMadeAndEdited, IsRefusedEarly}
 use Rattle.h5_c.specs.Given.{ByTest, IsArrayMadeWith, IsMadeOf, IsMadeWith, IsStorageThere, creating, given_array, given_attribute, is_one, is_whole, number_of, setting}
 use Rattle.h5_c.specs.declared.given.Unmade.{Unmade}
 use Rattle.h5_c.specs.declared.given.Unmade.TheVariants.{NoMemory, NoSuchType, WrongRoom}
 use Rattle.h5_c.specs.declared.held.Held.{Held}
-
--- where memory was refused before the library was asked
-pub unasked : (before : Held) (edit : Edit) → HasEdited before edit before 31
-unasked before edit = record { session = record { answer = Err fault.NoMemory; status_is = refl; says = (refl, inr refl) }; text = refl }
 
 -- ---- what holds where there is such a type and such a storage, by what else holds there
 
@@ -43,35 +38,42 @@ array_made_as {P} {Q} {R} {S} holds refused fixed fill store =
 module _ (before after : Held) (status : ℕ) where
   -- no edit was asked for, for this reason
   module _ {A : Type 0} (u : Unmade) (made : Result A Unmade) (is : made ≡ Err u) (same : after ≡ before) (number : status ≡ number_of u) where
-    short : (edit : Edit) (wanted : A) → IsMadeOf wanted made → HasEdited before edit after status
+    short : (edit : Edit) (wanted : A) → IsMadeOf wanted made → HasMadeAndEdited before edit after status
     short edit wanted of =
         let none : u ≡ NoMemory = subst (IsMadeOf wanted) is of in
-        record {
-          session = record { answer = Err fault.NoMemory; status_is = number ∙ ap number_of none; says = (ap (λ (h : Held). h.session) same, inr refl) };
-          text = ap (λ (h : Held). h.text) same;
-        }
+        inr (same, number ∙ ap number_of none)
 
     early : (v : Unmade) → made ≡ Err v → IsRefusedEarly before after (number_of v) status
     early v other = (same, number ∙ ap number_of (let both = sym is ∙ other in cc))
 
   pub unset : (u : Unmade) (made : Result AttrSpec Unmade) → made ≡ Err u → after ≡ before → status ≡ number_of u → (path name dims bytes : List ℕ) (fixed : Option Fixed)
       → IsMadeWith fixed (is_whole bytes) (λ t. IsMadeOf (given_attribute name t dims bytes) made) (λ v. made ≡ Err v)
-      → IsMadeWith fixed (is_whole bytes) (λ t. HasEdited before (setting path name t dims bytes) after status) (λ v. IsRefusedEarly before after (number_of v) status)
+      → IsMadeWith fixed (is_whole bytes) (λ t. HasMadeAndEdited before (setting path name t dims bytes) after status) (λ v. IsRefusedEarly before after (number_of v) status)
   unset u made is same number path name dims bytes fixed =
       made_as (λ t. short u made is same number (setting path name t dims bytes) (given_attribute name t dims bytes)) (early u made is same number) fixed (is_whole bytes)
+
+  -- an attribute was to be set
+  pub set : (attr : AttrSpec) (made : Result AttrSpec Unmade) → made ≡ Ok attr → (path name dims bytes : List ℕ) (fixed : Option Fixed)
+      → IsMadeWith fixed (is_whole bytes) (λ t. IsMadeOf (given_attribute name t dims bytes) made) (λ v. made ≡ Err v) → HasEdited before (SetAttr path attr) after status
+      → IsMadeWith fixed (is_whole bytes) (λ t. HasMadeAndEdited before (setting path name t dims bytes) after status) (λ v. IsRefusedEarly before after (number_of v) status)
+  set attr made is path name dims bytes fixed asked edited =
+      let gives = λ (t : Fixed) (of : IsMadeOf (given_attribute name t dims bytes) made).
+      inl (subst (λ (x : AttrSpec). HasEdited before (SetAttr path x) after status) (subst (IsMadeOf (given_attribute name t dims bytes)) is of) edited)
+      in
+      made_as gives (λ v no. absurd (let both = sym is ∙ no in cc)) fixed (is_whole bytes) asked
 
   module _ (path dims maxima fill : List ℕ) (fixed : Option Fixed) (store : Option Store) (made : Result Spec Unmade)
       (asked : IsArrayMadeWith fixed fill store (λ t s. IsMadeOf (given_array t dims maxima s fill) made) (λ v. made ≡ Err v)) where
     pub uncreated : (u : Unmade) → made ≡ Err u → after ≡ before → status ≡ number_of u
-        → IsArrayMadeWith fixed fill store (λ t s. HasEdited before (creating path t dims maxima s fill) after status) (λ v. IsRefusedEarly before after (number_of v) status)
+        → IsArrayMadeWith fixed fill store (λ t s. HasMadeAndEdited before (creating path t dims maxima s fill) after status) (λ v. IsRefusedEarly before after (number_of v) status)
     uncreated u is same number =
         array_made_as (λ t s. short u made is same number (creating path t dims maxima s fill) (given_array t dims maxima s fill)) (early u made is same number) fixed fill store asked
 
     -- an array was asked for
     pub created : (spec : Spec) → made ≡ Ok spec → HasEdited before (CreateDataset path spec) after status
-        → IsArrayMadeWith fixed fill store (λ t s. HasEdited before (creating path t dims maxima s fill) after status) (λ v. IsRefusedEarly before after (number_of v) status)
+        → IsArrayMadeWith fixed fill store (λ t s. HasMadeAndEdited before (creating path t dims maxima s fill) after status) (λ v. IsRefusedEarly before after (number_of v) status)
     created spec is edited =
         let gives = λ (t : Fixed) (s : Store) (of : IsMadeOf (given_array t dims maxima s fill) made).
-        subst (λ (x : Spec). HasEdited before (CreateDataset path x) after status) (subst (IsMadeOf (given_array t dims maxima s fill)) is of) edited
+        inl (subst (λ (x : Spec). HasEdited before (CreateDataset path x) after status) (subst (IsMadeOf (given_array t dims maxima s fill)) is of) edited)
         in
         array_made_as gives (λ v no. absurd (let both = sym is ∙ no in cc)) fixed fill store asked

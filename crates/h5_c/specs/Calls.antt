@@ -11,7 +11,6 @@ use Rattle.h5_file.specs.State.{created_state}
 use Rattle.h5_model.specs.Edits.EditFaults.{fault_number}
 use Rattle.h5_model.specs.Faults.Breaches.{cut}
 use Rattle.h5_model.specs.declared.edit_fault.EditFault.{EditFault}
-use Rattle.h5_model.specs.declared.edit_fault.EditFault.TheVariants as fault
 use Rattle.h5_model.specs.declared.edits.Edit.{Edit}
 use Rattle.h5_model.specs.declared.open_fault.Cause.TheVariants as cause
 use Rattle.h5_model.specs.declared.open_fault.OpenFault.{OpenFault}
@@ -79,9 +78,9 @@ pub record HasRunScript (before : Held) (script : List ℕ) (after : Held) (stat
 
 -- ---- edits
 
--- nothing has changed, and the library refuses the edit so, or memory was refused before it was asked
+-- the library refuses the edit so, and nothing has changed
 abbrev pub IsEditRefused : SessionState → Edit → SessionState → EditFault → Type 0
-IsEditRefused before edit after e = (after ≡ before) × (IsRefused before.file edit e ⊎ (e ≡ fault.NoMemory))
+IsEditRefused before edit after e = (after ≡ before) × IsRefused before.file edit e
 
 -- no edit was made of what C gave, and nothing has changed
 abbrev pub IsRefusedEarly : Held → Held → ℕ → ℕ → Type 0
@@ -91,6 +90,10 @@ IsRefusedEarly before after number status = (after ≡ before) × (status ≡ nu
 pub record HasEdited (before : Held) (edit : Edit) (after : Held) (status : ℕ) : Type 0 where
   pub session : HasStatus fault_number (IsSessionEdited before.session edit after.session) (IsEditRefused before.session edit after.session) status
   pub text : after.text ≡ before.text
+
+-- the same of an edit with a description of its own: memory for that may be refused before the library is asked, and then nothing has changed
+abbrev pub HasMadeAndEdited : Held → Edit → Held → ℕ → Type 0
+HasMadeAndEdited before edit after status = HasEdited before edit after status ⊎ IsRefusedEarly before after 31 status
 
 -- the image is written anew, or nothing has changed; the text stays
 pub record HasRepacked (before after : Held) (status : ℕ) : Type 0 where

@@ -1,6 +1,6 @@
 -- What a read of selected cells answers (HDF5 dataspace reference, H5Sselect_hyperslab).
-use Rattle.std.specs.Prelude.{◌≡◌, ◌⊎◌, ℕ, Some, None, List}
-use Rattle.h5_file.specs.Selected.{IsSlabOf}
+use Rattle.std.specs.Prelude.{◌≡◌, ◌⊎◌, ℕ, Bool, Some, None, List}
+use Rattle.h5_file.specs.Selected.{IsSlabOf, hyper_rules}
 use Rattle.h5_model.specs.Edits.EditFaults.{fault_number}
 use Rattle.h5_model.specs.Edits.Refusal.{first_holding}
 use Rattle.h5_model.specs.Format.Plain.{cells_bytes}
@@ -24,9 +24,21 @@ pub record HasSelected (tree : Tree) (path : List ℕ) (hyper : Hyper) (at : Dat
 abbrev pub IsCopiedFrom : Dataset → Slab → List ℕ → List ℕ → ℕ → Type 0
 IsCopiedFrom d slab = IsCopied (cells_bytes d.fixed (selected_values d slab))
 
--- No rule refuses it, and the bytes are copied so. Or the room stays as it was: the lowest rule that holds refuses it, or memory was refused
--- for the lists.
+-- the lowest of these rules that holds refuses it, and the room stays as it was
+abbrev pub IsReadRefused : List (EditFault × Bool) → List ℕ → List ℕ → ℕ → Type 0
+IsReadRefused rules old new status = (new ≡ old) × ((e : EditFault) × (status ≡ fault_number e) × (first_holding rules ≡ Some e))
+
+-- no rule refuses it, and the bytes are copied so; or it is refused
 abbrev pub HasRead : Tree → List ℕ → Hyper → List ℕ → List ℕ → ℕ → Type 0
 HasRead tree path hyper old new status =
-    ((at : Dataset × Slab) × HasSelected tree path hyper at × IsCopiedFrom at.0 at.1 old new status)
-    ⊎ ((new ≡ old) × ((status ≡ 31) ⊎ ((e : EditFault) × (status ≡ fault_number e) × (first_holding (selection_rules tree path hyper) ≡ Some e))))
+    ((at : Dataset × Slab) × HasSelected tree path hyper at × IsCopiedFrom at.0 at.1 old new status) ⊎ IsReadRefused (selection_rules tree path hyper) old new status
+
+-- no rule of the selection refuses it of an array of these sizes
+pub record IsSelectionWithin (sizes : List ℕ) (hyper : Hyper) : Type 0 where
+  pub accepted : first_holding (hyper_rules sizes hyper) ≡ None
+  pub slab : IsSlabOf sizes (axes_of hyper)
+
+-- the same as `HasRead`, of an array that was found
+abbrev pub HasReadOf : Dataset → Hyper → List ℕ → List ℕ → ℕ → Type 0
+HasReadOf d hyper old new status =
+    (IsSelectionWithin d.sizes hyper × IsCopiedFrom d (axes_of hyper) old new status) ⊎ IsReadRefused (hyper_rules d.sizes hyper) old new status

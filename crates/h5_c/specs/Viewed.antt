@@ -1,17 +1,16 @@
 -- What calls do with views.
-use Rattle.std.specs.Prelude.{◌≡◌, ◌⊎◌, ℕ, Result, Ok, Err, List, length as length_of}
+use Rattle.std.specs.Prelude.{◌≡◌, ℕ, Result, Ok, Err, List, length as length_of}
 use Rattle.h5_file.specs.Session.{SessionState, IsViewOpened, IsViewRefused, IsViewClosed, IsViewNotOpen}
 use Rattle.h5_model.specs.Views.Shown.{Shown, shows}
 use Rattle.h5_model.specs.declared.hyperslab.Hyper.{Hyper}
 use Rattle.h5_model.specs.declared.view_fault.ViewFault.{ViewFault}
-use Rattle.h5_model.specs.declared.view_fault.ViewFault.TheVariants as fault
 use Rattle.h5_c.specs.Calls.{IsCopied}
 use Rattle.h5_c.specs.Status.{HasStatus, view_status}
 use Rattle.h5_c.specs.declared.held.Held.{Held}
 
--- nothing has changed: the library refuses the view, or memory was refused before it was asked
+-- the library refuses the view, and nothing has changed
 abbrev pub IsViewUnopened : SessionState → List ℕ → Hyper → SessionState → ViewFault → Type 0
-IsViewUnopened before path hyper after e = (after ≡ before) × (IsViewRefused before path hyper e ⊎ (e ≡ fault.NoMemory))
+IsViewUnopened before path hyper after e = (after ≡ before) × IsViewRefused before path hyper e
 
 -- the view is opened, and its number told; or nothing has changed
 pub record HasViewOpened (before : Held) (path : List ℕ) (hyper : Hyper) (after : Held) (old new status : ℕ) : Type 0 where
