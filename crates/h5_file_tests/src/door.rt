@@ -1,6 +1,6 @@
 //! The lines at the head of `h5_file`'s documentation, run as they stand there.
 
-use h5_file::{Fixed, Hyper, Session, Spec};
+use h5_file::{Fixed, HyperRef, Session, Spec};
 use std::alloc::Global;
 use std::test::Fail;
 
@@ -9,7 +9,7 @@ fn odd_cells(alloc: Global) -> anyhow::Result<(Vec<u8>, i128)> {
     let mut session = Session::create(alloc)?;
     let spec = Spec::contiguous(alloc, Fixed::I32_LE, &[4], -7)?;
     session.create_dataset(b"/d", &spec)?;
-    let odd = Hyper::new(alloc, &[1], &[2], &[2], &[1])?;
+    let odd = HyperRef::new(&[1], &[2], &[2], &[1]);
     session.write(b"/d", &odd, &[1, 3])?;
     let view = session.open_view(b"/d", &odd)?;
     session.write(b"/d", &odd, &[5, 6])?;

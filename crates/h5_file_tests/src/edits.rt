@@ -1,8 +1,7 @@
 //! Edits by calls: what is accepted where there is memory, and the object that is answered.
 
 use crate::given::{line, note};
-use h5_file::{Edited, File, Fixed, Hyper, ObjectNo, Spec};
-use std::alloc::{AllocError, Global};
+use h5_file::{Edited, File, Fixed, HyperRef, ObjectNo, Spec};
 use std::test::Fail;
 
 /// Whether the edit is of the object of this number.
@@ -47,16 +46,12 @@ fn unlinks_and_repacks(rt: HostRuntime) -> Result<(), Fail> {
     Ok(())
 }
 
-/// The first cell of an array of one dimension.
-fn first(alloc: Global) -> Result<Hyper, AllocError> {
-    Hyper::new(alloc, &[0], &[1], &[1], &[1])
-}
-
 #[test]
 fn writes_cells(rt: HostRuntime) -> Result<(), Fail> {
     let mut file = File::create(rt.alloc())?;
     file.create_dataset(b"/d", &line(rt.alloc())?)?;
-    assert!(rt; is_of(file.write(b"/d", &first(rt.alloc())?, &[5])?, 1));
+    let first = HyperRef::new(&[0], &[1], &[1], &[1]);
+    assert!(rt; is_of(file.write(b"/d", &first, &[5])?, 1));
     assert!(rt; file.cell(b"/d", &[0])? == 5);
     Ok(())
 }

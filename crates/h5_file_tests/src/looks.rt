@@ -54,9 +54,9 @@ fn tells_what_stands_at_a_path(rt: HostRuntime) -> Result<(), Fail> {
 }
 
 /// Whether the object at a path has the attribute `note`, of the bytes 7 and 8.
-fn has_note(alloc: Global, file: &File, path: &[u8]) -> bool {
+fn has_note(file: &File, path: &[u8]) -> bool {
     match file.get_attr(path, b"note") {
-        Ok(note) => note.dims(alloc).sizes() == [2].as_slice()
+        Ok(note) => note.dims().sizes() == [2].as_slice()
             && note.stored() == b"\x07\x08".as_slice(),
         Err(_) => false,
     }
@@ -68,7 +68,7 @@ fn tells_attributes(rt: HostRuntime) -> Result<(), Fail> {
     make(rt.alloc(), &mut file)?;
     let names = file.attrs(b"/e")?;
     assert!(rt; names.len() == 1 && names[0] == b"note".as_slice());
-    assert!(rt; has_note(rt.alloc(), &file, b"/e") && !has_note(rt.alloc(), &file, b"/g"));
+    assert!(rt; has_note(&file, b"/e") && !has_note(&file, b"/g"));
     assert!(rt; file.attributes(b"/e")?.len() == 1);
     assert!(rt; file.attrs(b"/")?.is_empty());
     Ok(())
