@@ -252,12 +252,10 @@ class RefusedMemory(Packed):
         self.assertEqual([shown(session, view)[0] for view in range(3)], [0, 0, 201])
         self.assertEqual((len(session.image()), session.taken("text")[:5]), (len(session.image()), b"ok 0\n"))
         self.assertEqual(session.call("close_view", c_uint32(0)), 0)
-        self.assertEqual(self.refusing.asked_for(), before)
-        # A selection that C gives takes the memory of its four lists, whatever the array is.
         for path, lists in ((b"/d", hyper), (b"/c", Hyper((0, 0), (1, 1), (5, 4), (1, 1)))):
-            before = self.refusing.asked_for()
             self.assertEqual(session.read(path, lists, 12 if path == b"/d" else 20)[0], 0)
-            self.assertEqual(self.refusing.asked_for(), before + 4)
+        self.assertEqual(session.edit(Write(b"/d", hyper, (7, 8, 9))), 0)
+        self.assertEqual(self.refusing.asked_for(), before)
         session.close()
 
     def test_a_write_beside_a_view_of_another_array(self):
