@@ -147,17 +147,17 @@ module _ {K B X : Type 0} (sides : Sides K X) (orderly : IsOrderly sides) (Below
           )
 
       -- the node with its end keys moved, and the item between the keys around the child
-      record IsOpen (l h : K) (kb ka : List K) (xs : List T) (c : T) (ys : List T) : Type 0 where
-        left : Ladder sides N (kb ++ l ∷ []) xs
-        right : Ladder sides N (h ∷ ka) ys
-        lies : LieBetween sides l h (N c)
-        after_low : sides.Right l x
-        up_to_high : sides.Left x h
-        before : AllByRecursion (S height) xs
-        here : S height c
-        behind : AllByRecursion (S height) ys
+      pub record IsOpen (l h : K) (kb ka : List K) (xs : List T) (c : T) (ys : List T) : Type 0 where
+        pub left : Ladder sides N (kb ++ l ∷ []) xs
+        pub right : Ladder sides N (h ∷ ka) ys
+        pub lies : LieBetween sides l h (N c)
+        pub after_low : sides.Right l x
+        pub up_to_high : sides.Left x h
+        pub before : AllByRecursion (S height) xs
+        pub here : S height c
+        pub behind : AllByRecursion (S height) ys
 
-      opened : (keys : List K) (children : List T) → S (suc height) (keys, children)
+      pub opened : (keys : List K) (children : List T) → S (suc height) (keys, children)
           → (w : Descends sides x low high T keys children) → IsOpen w.l w.h w.kb w.ka w.xs w.child w.ys
       opened keys children sorted w =
           let ladder = subst (λ (ks : List K). Ladder sides N ks (w.xs ++ w.child ∷ w.ys)) w.keys_are (subst (λ (cs : List T). Ladder sides N keys cs) w.children_are sorted.0) in
@@ -190,7 +190,7 @@ module _ {K B X : Type 0} (sides : Sides K X) (orderly : IsOrderly sides) (Below
         Between y = sides.Right l y × sides.Left y h
 
         -- what is put below the child lies between the keys
-        put_lies : (items' : List X) → IsPut Below x (N c) items' → AllByRecursion Between items'
+        pub put_lies : (items' : List X) → IsPut Below x (N c) items' → AllByRecursion Between items'
         put_lies items' p = put_all Below x Between (N c) items' p o.lies (o.after_low, o.up_to_high)
 
         put_there : (items' : List X) → IsPut Below x (N c) items' → IsPut Below x (flat_map N (xs ++ c ∷ ys)) (flat_map N xs ++ (items' ++ flat_map N ys))

@@ -7,6 +7,7 @@ use Rattle.h5_bytes.proofs.BlockLaws.{all_append, all_left, all_right, all_so}
 use Rattle.h5_laws.specs.Ladders.{Sides, LieBetween, IsLadder, IsOrderly}
 use Rattle.h5_laws.specs.KeyTrees.{KeyTree, items_in, IsSorted}
 use Rattle.h5_laws.specs.KeyEdits.{IsTaken, Enters, IsEmptied, Removes, AreRetired, RetiresKeys, AreAlike, Retires}
+use Rattle.h5_laws.specs.ExactKeys.{EachKey}
 use Rattle.h5_laws.proofs.KeyLadders.{Ladder, around, from_around, without}
 use Rattle.h5_laws.proofs.Ladders.{wider}
 
@@ -200,8 +201,7 @@ module _ {K B X : Type 0} (sides : Sides K X) (orderly : IsOrderly sides) (items
     module _ (safe : hit lowest → ⊥) where
       -- each key of the tree is one of those
       abbrev pub AllKeys : (K → Type 0) → (height : ℕ) → KeyTree K B height → Type 0
-      AllKeys P zero b = Unit {0}
-      AllKeys P (suc height) node = AllByRecursion P node.0 × AllByRecursion (AllKeys P height) node.1
+      AllKeys P height t = EachKey B P height t
 
       abbrev Safe : K → Type 0
       Safe k = hit k → ⊥

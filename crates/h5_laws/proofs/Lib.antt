@@ -52,3 +52,11 @@ pub mod KeyInserts
 pub mod KeyRemoves
 pub mod KeyInstances
 pub mod KeyDepth
+pub mod ExactKeysLast
+pub mod ExactKeysRows
+pub mod ExactKeys
+pub mod ExactKeysLess
+pub mod ExactKeysWays
+pub mod ExactKeysPut
+pub mod ExactKeysMore
+pub mod ExactKeysNames

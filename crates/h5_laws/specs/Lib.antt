@@ -8,3 +8,5 @@ pub mod ChunkLadders
 pub mod Rising
 pub mod KeyTrees
 pub mod KeyEdits
+pub mod ExactKeys
+pub mod ExactWays
