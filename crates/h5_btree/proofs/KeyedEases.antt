@@ -92,7 +92,7 @@ module _ {B X : Type 0} (sides : Sides (List ℕ) X) (orderly : IsOrderly sides)
           ap (trees_below W at m (h ∷ ka)) none ∙ below_none W at m (h ∷ ka) ∙ sym (below_none Y at m (jj ∷ ka)) ∙ ap (trees_below Y at m (jj ∷ ka)) (sym none)
     ]
 
-    new_trees : trees_below W at m (kb ++ l ∷ h ∷ ka) children ≡ ls ++ tree_below W at m l c ∷ rs
+    pub new_trees : trees_below W at m (kb ++ l ∷ h ∷ ka) children ≡ ls ++ tree_below W at m l c ∷ rs
     new_trees =
         ap (trees_below W at m (kb ++ l ∷ h ∷ ka)) (children_cut Y at m keys children i long low)
         ∙ below_append W at m kb (l ∷ h ∷ ka) xs (c ∷ ys) (long_front Y at m keys children i long low)

@@ -43,7 +43,7 @@ module _ {X : Type 0} (sides : Sides (List ℕ) X) (follows : List ℕ → List 
 -- ---- trees whose nodes all have children
 
 module _ {B X : Type 0} (items : B → List X) (k level : ℕ) (some : 1 ≤ k) where
-  few : (m : ℕ) → m ≤ level → least (List ℕ) items k some (suc level) m ≤ 1
+  pub few : (m : ℕ) → m ≤ level → least (List ℕ) items k some (suc level) m ≤ 1
   few m deep = by_test (nat_le (suc level) m) refl where
     by_test : (b : Bool) → nat_le (suc level) m ≡ b → (if b then k else 1) ≤ 1
     by_test true is = let high : suc level ≤ m = grind (arith, nat_tests) in absurd (omega (arith, high, deep))

@@ -53,13 +53,13 @@ module _ {B : Type 0} (s t : Space) (kind : Kind) (root level : ℕ) (way : List
 
   -- ---- what stands at the other children
 
-  list_is : remove list k ≡ next_row Y e.front ++ (remove (Y p).children i ++ next_row Y e.back)
-  list_is =
+  pub off_list : remove list k ≡ next_row Y e.front ++ (remove (Y p).children i ++ next_row Y e.back)
+  off_list =
       let all : list ≡ next_row Y (e.front ++ p ∷ e.back) = e.tree.all ∙ ap (λ (l : ℕ). leaves Y l (root ∷ [])) off_steps ∙ bottom.1 in
       ap₂ (λ (xs : List ℕ) (n : ℕ). remove xs n) all e.number ∙ remove_below Y e.front e.back p i e.place
 
   stands : AllByRecursion (StandsAlike Y W was now) (next_row Y e.front ++ ((take i (Y p).children ++ drop (suc i) (Y p).children) ++ next_row Y e.back))
-  stands = subst (AllByRecursion (StandsAlike Y W was now)) list_is same
+  stands = subst (AllByRecursion (StandsAlike Y W was now)) off_list same
 
   pub off_stands : AllByRecursion (StandsAlike Y W was now) (take i (Y p).children ++ drop (suc i) (Y p).children)
   off_stands = all_left (StandsAlike Y W was now) (take i (Y p).children ++ drop (suc i) (Y p).children) (next_row Y e.back)

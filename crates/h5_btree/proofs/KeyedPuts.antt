@@ -1,32 +1,29 @@
 -- An insertion along a way leaves the keys in order, and the items are the old ones with the new one at its place.
-use Rattle.std.proofs.Common.{◌≡◌, ◌≢◌, ◌⊎◌, inl, inr, ℕ, suc, ◌+◌, ◌≤◌, Bool, true, false, List, [], ◌∷◌, ◌++◌, length, take, drop, get_or, refl, sym, ap, ◌∙◌, subst, arith, add-one}
+use Rattle.std.proofs.Common.{◌≡◌, ◌≢◌, ◌⊎◌, inl, inr, ℕ, suc, ◌+◌, ◌≤◌, Bool, true, List, [], length, take, get_or, refl, sym, ap, ◌∙◌, subst, arith}
 use Rattle.std.specs.Prelude.{if◌then◌else◌}
-use Rattle.std.specs.List.{AllByRecursion, insert, remove}
+use Rattle.std.specs.List.{AllByRecursion, remove}
 use Rattle.h5_bytes.specs.Bytes.{undefined}
-use Rattle.h5_bytes.proofs.BlockLaws.{all_left, all_right}
 use Rattle.h5_model.specs.Format.Rows.{Node, Reading}
 use Rattle.h5_model.specs.Format.Nodes.{Kind, HasTree, entries_in, node_at, node_bytes, reading_of}
 use Rattle.h5_model.proofs.OneTree.{level_is}
 use Rattle.h5_model.proofs.RowLaws.{at_listed}
 use Rattle.h5_laws.specs.Ladders.{Sides, IsOrderly}
 use Rattle.h5_laws.specs.KeyTrees.{KeyTree, items_in, IsSorted}
-use Rattle.h5_laws.specs.KeyEdits.{Grown, One, Two, IsPut, IsHeld, LetIn}
+use Rattle.h5_laws.specs.KeyEdits.{Grown, One, Two, IsPut, LetIn}
 use Rattle.h5_laws.proofs.KeyInserts.{IsGrown, inserts_grown, raised_sorted}
-use Rattle.h5_laws.proofs.KeyLadders.{Ladder, around}
 use Rattle.h5_space.specs.Space.{Space}
 use Rattle.h5_btree.specs.Climb.{IsNoNode}
 use Rattle.h5_btree.specs.Held.{AreHeldKeys}
 use Rattle.h5_btree.specs.Insertion.{IsPutAlong, KeepsEntries, Owns}
-use Rattle.h5_btree.specs.Keyed.{AtChild, trees_below, keys_from, IsInOrder, items_of_tree}
+use Rattle.h5_btree.specs.Keyed.{AtChild, keys_from, IsInOrder, items_of_tree}
 use Rattle.h5_btree.specs.Removal.{EndsInTree}
 use Rattle.h5_btree.specs.declared.way.Step.{Step}
 use Rattle.h5_btree.proofs.NodeLaws.{length-children}
 use Rattle.h5_btree.proofs.TreeReadings.{owned_at, owned_of_level}
-use Rattle.h5_btree.proofs.KeyedTrees.{StandsAlike, IsOffWay}
-use Rattle.h5_btree.proofs.KeyedOwn.{keys_count, keys_own, keys_cut, long_trees, trees_cut}
-use Rattle.h5_btree.proofs.KeyedOff.{off_out, off_steps, off_here, off_stands, off_is}
-use Rattle.h5_btree.proofs.KeyedGrown.{IsWide, wide_behind, wide_before}
-use Rattle.h5_btree.proofs.KeyedClimb.{AreHeld, IsDone, sorted_way, climbs}
+use Rattle.h5_btree.proofs.KeyedOwn.{keys_count, keys_own}
+use Rattle.h5_btree.proofs.KeyedOff.{off_out}
+use Rattle.h5_btree.proofs.KeyedClimb.{AreHeld}
+use Rattle.h5_btree.proofs.KeyedComes.{ComesInAt, done}
 use Rattle.h5_btree.proofs.KeyedHolds.{HasChild, IsTestOf, IsAlways, bushy_row, held_by_test, held_by_items}
 
 module _ {B X : Type 0} (sides : Sides (List ℕ) X) (orderly : IsOrderly sides) (Below : X → X → Type 0)
@@ -39,16 +36,9 @@ module _ {B X : Type 0} (sides : Sides (List ℕ) X) (orderly : IsOrderly sides)
   abbrev Puts : B → Grown (List ℕ) B → Type 0
   Puts = IsGrown sides orderly Below through parts items Base x 0
 
-  -- A new child comes in with this key, behind child i of a node of level 0, where the keys around that child let the item in; or
-  -- before the first one, where the first key does not let it in, and the new key is a lower one that does.
+  -- a new child comes in, where what stood at another one is cut so
   abbrev pub ComesIn : Bool → AtChild B → AtChild B → List (List ℕ) → List ℕ → ℕ → List ℕ → ℕ → Type 0
-  ComesIn true was now keys children i key child =
-      sides.Right (get_or keys i []) x × sides.Left x (get_or keys (suc i) [])
-      × ((u : List ℕ) × IsCutIn (was (get_or keys i []) (get_or children i 0)) (now (get_or keys i []) (get_or children i 0)) u (now key child)
-      × IsHeld sides (get_or keys i []) (get_or keys (suc i) []) u key)
-  ComesIn false was now keys children i key child =
-      (i ≡ 0) × (key ≡ low) × (sides.Right (get_or keys i []) x → ⊥) × sides.Left x (get_or keys (suc i) [])
-      × IsCutIn (was (get_or keys i []) (get_or children i 0)) (now low child) (get_or keys i []) (now (get_or keys i []) (get_or children i 0))
+  ComesIn = ComesInAt sides items Base Puts x low high new follows
 
   module _ (s t : Space) (kind : Kind) (root level : ℕ) (way : List Step) (owned list : List ℕ) (k : ℕ) (e : EndsInTree s kind root level way owned list k)
       (some : 1 ≤ kind.k) (behind : Bool) (keys : List ℕ) (child : ℕ)
@@ -68,12 +58,6 @@ module _ {B X : Type 0} (sides : Sides (List ℕ) X) (orderly : IsOrderly sides)
     abbrev Y : Reading
     Y = reading_of s.bytes kind owned
 
-    abbrev p : ℕ
-    p = e.step.node
-
-    abbrev i : ℕ
-    i = e.step.place
-
     abbrev S : (height : ℕ) → KeyTree (List ℕ) B height → Type 0
     S = IsSorted sides items Base
 
@@ -83,96 +67,30 @@ module _ {B X : Type 0} (sides : Sides (List ℕ) X) (orderly : IsOrderly sides)
     abbrev out : IsNoNode Y undefined
     out = off_out s t kind root level way owned list k e others was now same
 
-    steps : level ≡ length e.above
-    steps = off_steps s t kind root level way owned list k e others was now same
+    abbrev Held : Type 0
+    Held = AreHeld sides items Base Puts x low high follows s.bytes t.bytes kind root level owned out e.tree.low e.tree.formed some was now
 
-    here : Y p ≡ V p
-    here = off_here s t kind root level way owned list k e others was now same
+    has_child : 1 ≤ level → (c : ℕ) → (Y c).level ≤ level → HasChild Y c
+    has_child high' c lower =
+        let top = e.tree.low in
+        let listed = owned_of_level V owned c (omega (arith, lower, top)) in
+        let is = owned_at V owned c listed in
+        let filled = at_listed (λ at. 1 ≤ entries_in (node_bytes s.bytes kind at)) owned c (e.tree.filled high') listed in
+        let n = length-children kind (node_bytes s.bytes kind c) (V c) refl in
+        subst (λ (o : Node). (length o.keys ≡ length o.children + 1) × (1 ≤ length o.children)) (sym is) (keys_count s.bytes kind c, omega (arith, filled, n))
 
-    stands_here : AllByRecursion (StandsAlike Y W was now) (take i (Y p).children ++ drop (suc i) (Y p).children)
-    stands_here = off_stands s t kind root level way owned list k e others was now same
+    hold_items : IsAlways sides follows → ((b : B) → Base b → 1 ≤ length (items b))
+        → Held
+    hold_items always filled = λ m n f bk a b l u h deep rows ordered lies right left goes.
+        held_by_items sides orderly Below through parts items Base filled x low high new follows always kind.k level some (suc m) (keys_from Y was m n) a b l u h
+        (omega (arith, deep)) ordered
+        (bushy_row Y sides items Base filled kind.k level some was m n f bk (omega (arith, deep)) rows (λ c lower. has_child (omega (arith, deep)) c (omega (arith, lower, deep))) ordered)
+        lies right left goes
 
-    off : IsOffWay Y W was now 0 e.above
-    off = off_is s t kind root level way owned list k e others was now same
-
-    module _ (sorted : S (suc level) (keys_from Y was level root)) where
-      -- ---- the node of level 0
-
-      count : length (Y p).keys ≡ length (Y p).children + 1
-      count = subst (λ (o : Node). length o.keys ≡ length o.children + 1) (sym here) (keys_count s.bytes kind p)
-
-      sorted_p : S 1 (keys_from Y was 0 p)
-      sorted_p = sorted_way sides items Base Puts x low high follows s.bytes t.bytes kind root level owned out e.tree.low e.tree.formed some was now e.above 0 p e.front e.back
-          (let h = steps in omega (arith, h)) e.leads sorted
-
-      rise_p : sides.Rise (get_or (Y p).keys i []) (get_or (Y p).keys (suc i) [])
-      rise_p =
-          let K = (Y p).keys in
-          let xs = trees_below Y was 0 (take i K) (take i (Y p).children) in
-          let ys = trees_below Y was 0 (get_or K (suc i) [] ∷ drop (suc (suc i)) K) (drop (suc i) (Y p).children) in
-          let c = was (get_or K i []) (get_or (Y p).children i 0) in
-          let ladder = subst (λ (ts : List B). Ladder sides (I 0) K ts) (trees_cut Y was 0 K (Y p).children i count e.place) sorted_p.0 in
-          (around sides (I 0) (take i K) (get_or K i []) (get_or K (suc i) []) (drop (suc (suc i)) K) xs c ys (long_trees Y was 0 K (Y p).children i count e.place)
-          (subst (λ (ks : List (List ℕ)). Ladder sides (I 0) ks (xs ++ c ∷ ys)) (keys_cut Y was 0 K (Y p).children i count e.place) ladder)).rise
-
-      abbrev Wide : List (List ℕ) → List ℕ → Type 0
-      Wide = IsWide sides Puts kind.k x low high Y W was now 0 (Y p).keys (Y p).children
-
-      abbrev key : List ℕ
-      key = take kind.key_length keys
-
-      wide : (b : Bool) → ComesIn b was now (Y p).keys (Y p).children i key child
-          → Wide (insert (Y p).keys (if b then i + 1 else i) key) (insert (Y p).children (if b then i + 1 else i) child)
-      wide true is =
-          let more : suc i ≡ i + 1 = sym (add-one i) in
-          subst (λ (j : ℕ). Wide (insert (Y p).keys j key) (insert (Y p).children j child)) more
-          (wide_behind sides Puts kind.k x low high Y W was now 0 (Y p).keys (Y p).children i count e.place
-          (all_left (StandsAlike Y W was now) (take i (Y p).children) (drop (suc i) (Y p).children) stands_here)
-          (all_right (StandsAlike Y W was now) (take i (Y p).children) (drop (suc i) (Y p).children) stands_here)
-          is.0 is.1 is.2.0 key child is.2.1 is.2.2)
-      wide false is =
-          subst (λ (v : List ℕ). Wide (insert (Y p).keys i v) (insert (Y p).children i child)) (sym is.1)
-          (wide_before sides Puts kind.k x low high Y W was now 0 (Y p).keys (Y p).children i count e.place
-          (all_left (StandsAlike Y W was now) (take i (Y p).children) (drop (suc i) (Y p).children) stands_here)
-          (all_right (StandsAlike Y W was now) (take i (Y p).children) (drop (suc i) (Y p).children) stands_here)
-          is.0 is.2 is.3 child is.4 (new.lower (get_or (Y p).keys i []) is.2) rise_p)
-
-      within : (b : Bool) → (if b then i + 1 else i) ≤ length (Y p).children
-      within true = let l = e.place in omega (arith, l)
-      within false = let l = e.place in omega (arith, l)
-
-      -- ---- up to the root
-
-      done : AreHeld sides items Base Puts x low high follows s.bytes t.bytes kind root level owned out e.tree.low e.tree.formed some was now
-          → IsDone sides items Base Puts x low high follows s.bytes t.bytes kind root level owned out e.tree.low e.tree.formed some was now
-      done hold = climbs sides items Base Puts x low high follows s.bytes t.bytes kind root level owned out e.tree.low e.tree.formed some was now hold sorted
-          e.above 0 p (if behind then i + 1 else i) keys child e.front e.back (let h = steps in omega (arith, h)) e.leads e.row off admits along held (within behind)
-          (wide behind (subst (λ (o : Node). ComesIn behind was now o.keys o.children i key child) (sym here) comes))
-
-      hold_test : IsTestOf sides follows → AreHeld sides items Base Puts x low high follows s.bytes t.bytes kind root level owned out e.tree.low e.tree.formed some was now
-      hold_test test = λ m n f bk a b l u h deep rows ordered lies right left goes. held_by_test sides follows test l u h
-
-      has_child : 1 ≤ level → (c : ℕ) → (Y c).level ≤ level → HasChild Y c
-      has_child high' c lower =
-          let top = e.tree.low in
-          let listed = owned_of_level V owned c (omega (arith, lower, top)) in
-          let is = owned_at V owned c listed in
-          let filled = at_listed (λ at. 1 ≤ entries_in (node_bytes s.bytes kind at)) owned c (e.tree.filled high') listed in
-          let n = length-children kind (node_bytes s.bytes kind c) (V c) refl in
-          subst (λ (o : Node). (length o.keys ≡ length o.children + 1) × (1 ≤ length o.children)) (sym is) (keys_count s.bytes kind c, omega (arith, filled, n))
-
-      hold_items : IsAlways sides follows → ((b : B) → Base b → 1 ≤ length (items b))
-          → AreHeld sides items Base Puts x low high follows s.bytes t.bytes kind root level owned out e.tree.low e.tree.formed some was now
-      hold_items always filled = λ m n f bk a b l u h deep rows ordered lies right left goes.
-          held_by_items sides orderly Below through parts items Base filled x low high new follows always kind.k level some (suc m) (keys_from Y was m n) a b l u h
-          (omega (arith, deep)) ordered
-          (bushy_row Y sides items Base filled kind.k level some was m n f bk (omega (arith, deep)) rows (λ c lower. has_child (omega (arith, deep)) c (omega (arith, lower, deep))) ordered)
-          lies right left goes
-
-      hold : IsTestOf sides follows ⊎ (IsAlways sides follows × ((b : B) → Base b → 1 ≤ length (items b)))
-          → AreHeld sides items Base Puts x low high follows s.bytes t.bytes kind root level owned out e.tree.low e.tree.formed some was now
-      hold (inl test) = hold_test test
-      hold (inr both) = hold_items both.0 both.1
+    hold : IsTestOf sides follows ⊎ (IsAlways sides follows × ((b : B) → Base b → 1 ≤ length (items b)))
+        → Held
+    hold (inl test) = λ m n f bk a b l u h deep rows ordered lies right left goes. held_by_test sides follows test l u h
+    hold (inr both) = hold_items both.0 both.1
 
     abbrev IsMore : (height : ℕ) → Type 0
     IsMore height = S (suc height) (keys_from W now height root) × IsPut Below x (I (suc level) (keys_from V was level root)) (I (suc height) (keys_from W now height root))
@@ -192,7 +110,8 @@ module _ {B X : Type 0} (sides : Sides (List ℕ) X) (orderly : IsOrderly sides)
           let new_level = level_is t.bytes kind root height all list' tree in
           let back : (h : ℕ) → S (suc h) (keys_from W now h root) × IsPut Below x (I (suc level) Y_in) (I (suc h) (keys_from W now h root)) → IsMore h
           = λ h both. (both.0, subst (λ (t' : KeyTree (List ℕ) B (suc level)). IsPut Below x (I (suc level) t') (I (suc h) (keys_from W now h root))) (sym own) both.1) in
-          elim (done sorted (hold sorted tests)) [
+          elim (done sides items Base Puts x low high new follows s t kind root level way owned list k e some behind keys child along others held was now same comes admits
+          sorted (hold tests)) [
             | inl one ↦
                 subst IsMore (sym old_level ∙ sym one.1 ∙ new_level) (back level (inserts_grown sides orderly Below through parts items Base kind.k x low high new Puts (λ b r base puts. puts)
                 (suc level) Y_in (One (keys_from W now level root)) sorted one.0))

@@ -1,6 +1,6 @@
 -- A removal along a way is one from the tree of keys: so the keys stay in order, and the items are the old ones without what stood at
 -- the child.
-use Rattle.std.proofs.Common.{◌≡◌, ◌≢◌, inl, inr, ℕ, suc, ◌+◌, ◌^◌, ◌<◌, ◌≤◌, List, [], ◌∷◌, ◌++◌, length, take, drop, get_or, refl, sym, ap, ap₂, ◌∙◌, subst, arith}
+use Rattle.std.proofs.Common.{◌≡◌, ◌≢◌, ◌⊎◌, inl, inr, ℕ, suc, ◌+◌, ◌^◌, ◌<◌, ◌≤◌, List, [], ◌∷◌, ◌++◌, length, take, drop, get_or, refl, sym, ap, ap₂, ◌∙◌, subst, arith}
 use Rattle.std.specs.List.{AllByRecursion, remove}
 use Rattle.h5_bytes.specs.Bytes.{undefined}
 use Rattle.h5_bytes.proofs.BlockLaws.{all_left, all_right, all_so}
@@ -30,25 +30,7 @@ use Rattle.h5_btree.proofs.KeyedTrees.{IsAlike, StandsAlike, AreAlike, IsOther, 
 use Rattle.h5_btree.proofs.KeyedOwn.{keys_count, keys_own}
 use Rattle.h5_btree.proofs.KeyedGone.{IsStopped, loses, here_same, sinks, rises}
 
--- Whatever is lost where one thing goes from a tree of keys.
-module _ {B X : Type 0} (sides : Sides (List ℕ) X) (items : B → List X) (Base : B → Type 0) (none : B) (Takes : B → B → Type 0) (Empty : B → Type 0) (Lost : List X → List X → Type 0)
-    (law : (height : ℕ) (old new : KeyTree (List ℕ) B height) → IsSorted sides items Base height old → Removes (List ℕ) Takes Empty height old new
-    → IsSorted sides items Base height new × Lost (items_in (List ℕ) items height old) (items_in (List ℕ) items height new)) where
-  abbrev S : (height : ℕ) → KeyTree (List ℕ) B height → Type 0
-  S = IsSorted sides items Base
-
-  abbrev I : (height : ℕ) → KeyTree (List ℕ) B height → List X
-  I = items_in (List ℕ) items
-
-  abbrev IsLeft : (height : ℕ) → KeyTree (List ℕ) B height → (height' : ℕ) → KeyTree (List ℕ) B height' → Type 0
-  IsLeft height t height' new = S height' new × Lost (I height t) (I height' new)
-
-  -- a root without children is in order at level 0
-  at_level_0 : (height height' : ℕ) (t : KeyTree (List ℕ) B height') (new : KeyTree (List ℕ) B (suc height)) (keys : List (List ℕ)) → new ≡ (keys, []) → IsLeft height' t (suc height) new
-      → IsLeft height' t 1 (keys, [])
-  at_level_0 height height' t new keys same left =
-      let all = subst (λ (n : KeyTree (List ℕ) B (suc height)). IsLeft height' t (suc height) n) same left in ((all.0.0, tt), all.1)
-
+module _ {B : Type 0} (none : B) (Takes : B → B → Type 0) (Empty : B → Type 0) where
   module _ (s t : Space) (kind : Kind) (root level : ℕ) (way : List Step) (owned list : List ℕ) (k : ℕ) (e : EndsInTree s kind root level way owned list k)
       (taken : IsTakenAlong s t kind root way (remove list k) owned) (short : length t.bytes < 2 ^ 64)
       (was now : AtChild B) (same : AllByRecursion (λ c. (key : List ℕ) → now key c ≡ was key c) (remove list k))
@@ -240,11 +222,10 @@ module _ {B X : Type 0} (sides : Sides (List ℕ) X) (items : B → List X) (Bas
       removed = rises Takes Empty Y V now was root (keys_count s.bytes kind) above mp p f bk level high way_new.0 off above_alike
           (subst (Removes (List ℕ) Takes Empty (suc mp) (keys_from V was mp p)) here_new gone_p)
 
-      sorted_as_high : S (suc level) (keys_from V was level root) → IsLeft (suc level) (keys_from V was level root) (suc taken.3) (keys_from W now taken.3 root)
-      sorted_as_high sorted =
-          let left = law (suc level) (keys_from V was level root) (keys_from Y now level root) sorted removed in
-          subst (IsLeft (suc level) (keys_from V was level root) (suc taken.3)) (sym (keys_own t.bytes kind root taken.3 own (remove list k) done.tree now))
-          (subst (λ (l : ℕ). IsLeft (suc level) (keys_from V was level root) (suc l) (keys_from Y now l root)) (sym as_high) left)
+      removed_now : Removes (List ℕ) Takes Empty (suc level) (keys_from V was level root) (keys_from W now level root)
+      removed_now =
+          subst (Removes (List ℕ) Takes Empty (suc level) (keys_from V was level root))
+          (sym (subst (λ (l : ℕ). keys_from W now l root ≡ keys_from Y now l root) as_high (keys_own t.bytes kind root taken.3 own (remove list k) done.tree now))) removed
 
     -- ---- the root has no other child
 
@@ -279,19 +260,57 @@ module _ {B X : Type 0} (sides : Sides (List ℕ) X) (items : B → List X) (Bas
           ap (λ (ts : List B). (remove (V p).keys i, ts)) (sym (below_none W now 0 (remove (V p).keys i)))
           ∙ ap₂ (λ (ks : List (List ℕ)) (cs : List ℕ). (ks, trees_below W now 0 ks cs)) (sym keys) (sym children)
 
-      sorted_emptied : S (suc level) (keys_from V was level root) → IsLeft (suc level) (keys_from V was level root) (suc taken.3) (keys_from W now taken.3 root)
-      sorted_emptied sorted =
-          let left = law (suc level) (keys_from V was level root) empty_root.0 sorted empty_root.1 in
-          let all = at_level_0 level (suc level) (keys_from V was level root) empty_root.0 (remove (V p).keys i) empty_root.2 left in
-          subst (λ (l : ℕ). IsLeft (suc level) (keys_from V was level root) (suc l) (keys_from W now l root)) (sym at_0)
-          (subst (IsLeft (suc level) (keys_from V was level root) 1) root_new all)
+    -- WHAT STOOD AT THE CHILD GOES FROM THE TREE OF KEYS. The tree is as high as before; or it is left without children, at level 0.
+    abbrev pub IsGone : Type 0
+    IsGone =
+        ((taken.3 ≡ level) × Removes (List ℕ) Takes Empty (suc level) (keys_from V was level root) (keys_from W now level root))
+        ⊎ ((taken.3 ≡ 0) × (keys : List (List ℕ)) × Removes (List ℕ) Takes Empty (suc level) (keys_from V was level root) (keys, []) × ((keys, []) ≡ keys_from W now 0 root))
+
+    pub along_gone : IsGone
+    along_gone = elim done.stops [
+      | inl high ↦ let same = high.1 ∙ level_is s.bytes kind root level owned list e.tree in inl (same, removed_now same)
+      | inr low ↦
+          let left = empty_root low.0 low.1 low.2 in
+          inr (low.2, remove (V p).keys i, subst (Removes (List ℕ) Takes Empty (suc level) (keys_from V was level root)) left.2 left.1, root_new low.0 low.1 low.2)
+    ]
+
+-- Whatever is lost where one thing goes from a tree of keys.
+module _ {B X : Type 0} (sides : Sides (List ℕ) X) (items : B → List X) (Base : B → Type 0) (none : B) (Takes : B → B → Type 0) (Empty : B → Type 0) (Lost : List X → List X → Type 0)
+    (law : (height : ℕ) (old new : KeyTree (List ℕ) B height) → IsSorted sides items Base height old → Removes (List ℕ) Takes Empty height old new
+    → IsSorted sides items Base height new × Lost (items_in (List ℕ) items height old) (items_in (List ℕ) items height new)) where
+  abbrev S : (height : ℕ) → KeyTree (List ℕ) B height → Type 0
+  S = IsSorted sides items Base
+
+  abbrev I : (height : ℕ) → KeyTree (List ℕ) B height → List X
+  I = items_in (List ℕ) items
+
+  abbrev IsLeft : (height : ℕ) → KeyTree (List ℕ) B height → (height' : ℕ) → KeyTree (List ℕ) B height' → Type 0
+  IsLeft height t height' new = S height' new × Lost (I height t) (I height' new)
+
+  -- a root without children is in order at level 0
+  at_level_0 : (height height' : ℕ) (t : KeyTree (List ℕ) B height') (new : KeyTree (List ℕ) B (suc height)) (keys : List (List ℕ)) → new ≡ (keys, []) → IsLeft height' t (suc height) new
+      → IsLeft height' t 1 (keys, [])
+  at_level_0 height height' t new keys same left =
+      let all = subst (λ (n : KeyTree (List ℕ) B (suc height)). IsLeft height' t (suc height) n) same left in ((all.0.0, tt), all.1)
+
+  module _ (s t : Space) (kind : Kind) (root level : ℕ) (way : List Step) (owned list : List ℕ) (k : ℕ) (e : EndsInTree s kind root level way owned list k)
+      (taken : IsTakenAlong s t kind root way (remove list k) owned) (short : length t.bytes < 2 ^ 64)
+      (was now : AtChild B) (same : AllByRecursion (λ c. (key : List ℕ) → now key c ≡ was key c) (remove list k))
+      (takes : Takes (was (get_or (node_at s.bytes kind e.step.node).keys e.step.place []) (get_or (node_at s.bytes kind e.step.node).children e.step.place 0)) none) (empty : Empty none) where
+    abbrev Old : KeyTree (List ℕ) B (suc level)
+    Old = keys_from (node_at s.bytes kind) was level root
+
+    abbrev New : (height : ℕ) → KeyTree (List ℕ) B (suc height)
+    New height = keys_from (node_at t.bytes kind) now height root
 
     -- THE KEYS STAY IN ORDER where a child is taken out along a way, and the items are those of before without what is lost.
     pub along_sorted : IsInOrder sides items Base s.bytes kind was level root
         → IsInOrder sides items Base t.bytes kind now taken.3 root × Lost (items_of_tree items s.bytes kind was level root) (items_of_tree items t.bytes kind now taken.3 root)
-    along_sorted sorted = elim done.stops [
-      | inl high ↦ sorted_as_high (high.1 ∙ level_is s.bytes kind root level owned list e.tree) sorted
-      | inr low ↦ sorted_emptied low.0 low.1 low.2 sorted
+    along_sorted sorted = elim (along_gone none Takes Empty s t kind root level way owned list k e taken short was now same takes empty) [
+      | inl high ↦ subst (λ (l : ℕ). IsLeft (suc level) Old (suc l) (New l)) (sym high.0) (law (suc level) Old (New level) sorted high.1)
+      | inr low ↦
+          subst (λ (l : ℕ). IsLeft (suc level) Old (suc l) (New l)) (sym low.0)
+          (subst (IsLeft (suc level) Old 1) low.3 (at_level_0 level (suc level) Old (low.1, []) low.1 refl (law (suc level) Old (low.1, []) sorted low.2)))
     ]
 
 -- An item is lost.

@@ -46,11 +46,16 @@ pub mod KeyedGrown
 pub mod KeyedClimb
 pub mod KeyedHolds
 pub mod KeyedOff
+pub mod KeyedComes
 pub mod KeyedPuts
 pub mod KeyedOrder
 pub mod KeyedFills
 pub mod KeyedEases
 pub mod KeyedRetires
+pub mod KeyedExact
+pub mod KeyedBushy
+pub mod KeyedExactPuts
+pub mod KeyedExactEases
 pub mod KeyedForms
 pub mod KeyedEnds
 pub mod KeyedNames
@@ -58,6 +63,7 @@ pub mod RetiredReads
 pub mod RetiredKeys
 pub mod RetiredNodes
 pub mod RetiredSteps
+pub mod RetiredLooks
 pub mod RetiredTrees
 pub mod RetiredGroups
 pub mod RetiredBeside
@@ -68,3 +74,5 @@ pub mod WaysDown
 pub mod EndKeys
 pub mod EmptyTrees
 pub mod BlocksInside
+pub mod LookedLaws
+pub mod ExactLaws

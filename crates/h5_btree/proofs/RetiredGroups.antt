@@ -10,13 +10,12 @@ use Rattle.h5_model.proofs.RowLaws.{at_listed}
 use Rattle.h5_model.proofs.TextOrder.{before_le, not_after_itself}
 use Rattle.h5_laws.specs.KeyEdits.{AreAlike, Retires}
 use Rattle.h5_laws.specs.KeyTrees.{KeyTree, items_in, IsSorted}
-use Rattle.h5_laws.specs.Ladders.{Sides, LieBetween, IsLadder, IsOrderly}
+use Rattle.h5_laws.specs.Ladders.{LieBetween, IsLadder}
 use Rattle.h5_laws.specs.NameLadders.{key_text, name_sides}
-use Rattle.h5_laws.proofs.KeyInstances.{name_through}
+use Rattle.h5_laws.proofs.ExactKeysNames.{key_order, key_sides, key_through}
 use Rattle.h5_laws.proofs.KeyRemoves.{AreRising, retires_sorted}
-use Rattle.h5_laws.proofs.NameLadders.{name_order}
 use Rattle.h5_space.specs.Space.{Space}
-use Rattle.h5_btree.specs.Keyed.{at_children, keys_from, items_of_tree}
+use Rattle.h5_btree.specs.Keyed.{at_children, keys_from, IsInOrder, items_of_tree}
 use Rattle.h5_btree.specs.Retired.{IsTreeRetired, IsSubtree, lowest_key}
 use Rattle.h5_btree.proofs.KeyedForms.{IsGroupInOrder, names_at_child}
 use Rattle.h5_btree.proofs.KeyedNames.{AreAscending}
@@ -33,23 +32,6 @@ none_before [] = refl
 none_before (n ∷ t) = refl
 
 module _ (text : List ℕ → List ℕ) where
-  -- what may stand beside a key, by the text of its own key
-  abbrev key_sides : Sides (List ℕ) (List ℕ)
-  key_sides = record {
-    Right = λ key y. Before (text key) (text y);
-    Left = λ y key. NotAfter (text y) (text key);
-    Rise = λ key next. NotAfter (text key) (text next);
-  }
-
-  key_order : IsOrderly key_sides
-  key_order = record {
-    itself = λ k. (name_order text).itself k;
-    rises = λ k l m a b. (name_order text).rises k l m a b;
-    right = λ k l y a b. (name_order text).right k l (text y) a b;
-    left = λ y k l a b. (name_order text).left (text y) k l a b;
-    apart = λ k y a b. (name_order text).apart k (text y) a b;
-  }
-
   -- the names are the texts of the keys
   abbrev IsNamed : (height : ℕ) → KeyTree (List ℕ) Names height → KeyTree (List ℕ) Names height → Type 0
   IsNamed zero names keys = names ≡ map text keys
@@ -75,22 +57,22 @@ module _ (text : List ℕ → List ℕ) where
   items_named zero p q is = is
   items_named (suc height) p q is = (flat_named height (items_named height) p.1 q.1 is.1).0
 
-  to_between : (l h : List ℕ) (ys : Names) → LieBetween (name_sides text) l h (map text ys) → LieBetween key_sides l h ys
+  to_between : (l h : List ℕ) (ys : Names) → LieBetween (name_sides text) l h (map text ys) → LieBetween (key_sides text) l h ys
   to_between l h [] all = tt
   to_between l h (y ∷ ys) all = (all.0, to_between l h ys all.1)
 
-  from_between : (l h : List ℕ) (ys : Names) → LieBetween key_sides l h ys → LieBetween (name_sides text) l h (map text ys)
+  from_between : (l h : List ℕ) (ys : Names) → LieBetween (key_sides text) l h ys → LieBetween (name_sides text) l h (map text ys)
   from_between l h [] all = tt
   from_between l h (y ∷ ys) all = (all.0, from_between l h ys all.1)
 
-  to_ladder : (keys : Names) (lists : List Names) → IsLadder (name_sides text) keys (map (map text) lists) → IsLadder key_sides keys lists
+  to_ladder : (keys : Names) (lists : List Names) → IsLadder (name_sides text) keys (map (map text) lists) → IsLadder (key_sides text) keys lists
   to_ladder [] lists is = absurd is
   to_ladder (k ∷ []) [] is = tt
   to_ladder (k ∷ []) (xs ∷ lists) is = absurd is
   to_ladder (k ∷ l ∷ keys) [] is = absurd is
   to_ladder (k ∷ l ∷ keys) (xs ∷ lists) is = (to_between k l xs is.0, is.1, to_ladder (l ∷ keys) lists is.2)
 
-  from_ladder : (keys : Names) (lists : List Names) → IsLadder key_sides keys lists → IsLadder (name_sides text) keys (map (map text) lists)
+  from_ladder : (keys : Names) (lists : List Names) → IsLadder (key_sides text) keys lists → IsLadder (name_sides text) keys (map (map text) lists)
   from_ladder [] lists is = absurd is
   from_ladder (k ∷ []) [] is = tt
   from_ladder (k ∷ []) (xs ∷ lists) is = absurd is
@@ -101,7 +83,7 @@ module _ (text : List ℕ → List ℕ) where
   S = IsSorted (name_sides text) (λ (b : Names). b) (λ (b : Names). ⊤)
 
   abbrev T : (height : ℕ) → KeyTree (List ℕ) Names height → Type 0
-  T = IsSorted key_sides (λ (b : Names). b) (λ (b : Names). ⊤)
+  T = IsSorted (key_sides text) (λ (b : Names). b) (λ (b : Names). ⊤)
 
   each_to : (height : ℕ) (one : (p q : KeyTree (List ℕ) Names height) → IsNamed height p q → S height p → T height q) → (ps qs : List (KeyTree (List ℕ) Names height))
       → AreAlike (IsNamed height) ps qs → AllByRecursion (S height) ps → AllByRecursion (T height) qs
@@ -160,11 +142,8 @@ module _ (text : List ℕ → List ℕ) where
     least : (k : List ℕ) → NotAfter (text lowest) (text k)
     least k = subst (λ (t : List ℕ). NotAfter t (text k)) (sym empty) (none_before (text k))
 
-    through : (l h y : List ℕ) → Before (text l) (text y) → NotAfter (text y) (text h) → NotAfter (text l) (text h)
-    through l h y right left = name_through text l h (text y) right left
-
     abbrev Rising : Names → Type 0
-    Rising = AreRising key_sides key_order (λ (b : Names). b) (λ (b : Names). ⊤) (λ y z. Before (text y) (text z)) through hit (λ (key : List ℕ). key) lowest
+    Rising = AreRising (key_sides text) (key_order text) (λ (b : Names). b) (λ (b : Names). ⊤) (λ y z. Before (text y) (text z)) (key_through text) hit (λ (key : List ℕ). key) lowest
         (λ y. not_after_itself (text y)) (λ y z. before_le (text y) (text z)) (λ y k left. left) least
 
     all_before : (y : List ℕ) (ys : Names) → AllByRecursion (Before (text y)) (map text ys) → AllByRecursion (λ z. Before (text y) (text z)) ys
@@ -178,8 +157,19 @@ module _ (text : List ℕ → List ℕ) where
     keys_sorted : (height : ℕ) (p q : KeyTree (List ℕ) Names height) → T height p → AreAscending (map text (I height p))
         → Retires hit (λ (key : List ℕ). key) lowest (λ (b : Names). b) height p q → T height q × (I height q ≡ I height p)
     keys_sorted height p q sorted ascend retires =
-        retires_sorted key_sides key_order (λ (b : Names). b) (λ (b : Names). ⊤) (λ y z. Before (text y) (text z)) through hit (λ (key : List ℕ). key) lowest
+        retires_sorted (key_sides text) (key_order text) (λ (b : Names). b) (λ (b : Names). ⊤) (λ y z. Before (text y) (text z)) (key_through text) hit (λ (key : List ℕ). key) lowest
         (λ y. not_after_itself (text y)) (λ y z. before_le (text y) (text z)) (λ y k left. left) least height p q sorted (rising (I height p) ascend) retires
+
+-- THE KEYS OF A GROUP'S TREE ARE IN ORDER by the texts that they stand for, where those of its names are
+pub group_key_order : (s : Space) (kind : Kind) (root level : ℕ) (owned list : List ℕ) (has : HasTree s.bytes kind root level owned list) (symbols : Symbols) (segment : List ℕ)
+    (keys : ℕ → List (List ℕ)) → AllByRecursion (λ c. names_in symbols segment (c ∷ []) ≡ map (key_text segment) (keys c)) list
+    → IsGroupInOrder s.bytes kind root level owned list has symbols segment
+    → IsInOrder (key_sides (key_text segment)) (λ (b : List (List ℕ)). b) (λ (b : List (List ℕ)). ⊤) s.bytes kind (λ key c. keys c) level root
+group_key_order s kind root level owned list has symbols segment keys same sorted =
+    let V = node_at s.bytes kind in
+    let names : ℕ → List (List ℕ) = λ c. names_in symbols segment (c ∷ []) in
+    sorted_to (key_text segment) (suc level) (keys_from V (λ key c. names c) level root) (keys_from V (λ key c. keys c) level root)
+    (tree_named (key_text segment) V owned list (keys_count s.bytes kind) names keys same level root (root_under s kind root level owned list has)) sorted
 
 -- ---- a group's tree
 

@@ -33,7 +33,7 @@ pub map_same : (f g : ℕ → List (List ℕ)) (xs : List ℕ) → AllByRecursio
 map_same f g [] all = refl
 map_same f g (x ∷ xs) all = ap₂ (λ (a : List (List ℕ)) (b : List (List (List ℕ))). a ∷ b) all.0 (map_same f g xs all.1)
 
-all_flat : (P : List ℕ → Type 0) (f : ℕ → List (List ℕ)) (xs : List ℕ) → AllByRecursion (λ x. AllByRecursion P (f x)) xs → AllByRecursion P (flat_map f xs)
+pub all_flat : (P : List ℕ → Type 0) (f : ℕ → List (List ℕ)) (xs : List ℕ) → AllByRecursion (λ x. AllByRecursion P (f x)) xs → AllByRecursion P (flat_map f xs)
 all_flat P f [] all = tt
 all_flat P f (x ∷ xs) all = all_append P (f x) (flat_map f xs) all.0 (all_flat P f xs all.1)
 
@@ -44,7 +44,7 @@ all_mapped P f (x ∷ xs) all = (all.0, all_mapped P f xs all.1)
 -- ---- what is so of the items at the bottom is so of those below a node
 
 module _ (P : List ℕ → Type 0) (V : Reading) (keys : ℕ → List (List ℕ)) (owned list : List ℕ) (named : AllByRecursion (λ at. AllByRecursion P (keys at)) list) where
-  under_named : (height at : ℕ) → IsSubtree V owned list height at → AllByRecursion P (keys_below V keys height at)
+  pub under_named : (height at : ℕ) → IsSubtree V owned list height at → AllByRecursion P (keys_below V keys height at)
   under_named zero at is = at_listed (λ at'. AllByRecursion P (keys at')) list at named is
   under_named (suc height) at is =
       all_flat P (keys_below V keys height) (V at).children

@@ -9,7 +9,7 @@ use Rattle.h5_model.proofs.RowLaws.{all_listed, at_listed}
 use Rattle.h5_space.specs.Space.{Space}
 use Rattle.h5_space.proofs.MovesLaws.{moves_none}
 use Rattle.h5_btree.specs.Insertion.{Owns}
-use Rattle.h5_btree.specs.Retired.{AreKeysRetired, AreRetiredBelow, IsKeyRetired, IsNodeRetired, IsNodeRewritten, IsRetirable, IsRetiring, IsSubtree, KeepsRetired, StandsUnder, keys_below}
+use Rattle.h5_btree.specs.Retired.{AreKeysRetired, AreRetiredBelow, AreRetiredFrom, IsKeyRetired, IsNodeRetired, IsNodeRewritten, IsRetirable, IsRetiring, IsSubtree, KeepsRetired, StandsUnder, keys_below}
 use Rattle.h5_btree.specs.Rewritten.{IsRewritten}
 use Rattle.h5_btree.proofs.ClimbSteps.{all_from, at_or}
 use Rattle.h5_btree.proofs.RewriteSteps.{rewritten_then}
@@ -22,11 +22,21 @@ all_two P Q R f [] ps qs = tt
 all_two P Q R f (x ∷ xs) ps qs = (f x ps.0 qs.0, all_two P Q R f xs ps.1 qs.1)
 
 module _ (hit : List ℕ → Bool) (stands : List ℕ → ℕ → Type 0) (keys_at : List ℕ → ℕ → List (List ℕ)) where
+  -- what has given way stays so
+  pub below_kept : (s t u : Space) (kind : Kind) (owned list : List ℕ) → KeepsRetired hit keys_at s t u kind owned → (height at : ℕ) → IsSubtree (node_at s.bytes kind) owned list height at
+      → AreRetiredBelow hit keys_at s t kind height at → AreRetiredBelow hit keys_at s u kind height at
+  below_kept s t u kind owned list keep zero at under is = tt
+  below_kept s t u kind owned list keep (suc height) at under is = (
+    keep at under.0 is.0,
+    all_two (IsSubtree (node_at s.bytes kind) owned list height) (AreRetiredBelow hit keys_at s t kind height) (AreRetiredBelow hit keys_at s u kind height)
+        (below_kept s t u kind owned list keep height) (node_at s.bytes kind at).children under.2 is.1,
+  )
+
   pub retiring_start : (s : Space) (kind : Kind) (root level : ℕ) (owned list : List ℕ) → IsRetirable hit stands keys_at s kind root level owned list
       → IsRetiring hit stands keys_at s s kind root level owned list
   retiring_start s kind root level owned list r = record {
     start = r;
-    nodes = all_from owned (λ n. (node_at s.bytes kind n ≡ node_at s.bytes kind n) ⊎ IsNodeRetired hit keys_at s s kind n) (λ n is. inl refl) owned (all_listed owned);
+    nodes = all_from owned (λ n. (node_at s.bytes kind n ≡ node_at s.bytes kind n) ⊎ AreRetiredFrom hit keys_at s s kind owned list n) (λ n is. inl refl) owned (all_listed owned);
     formed = r.tree.formed;
     moves = moves_none s (tree_blocks kind owned);
   }
@@ -40,9 +50,9 @@ module _ (hit : List ℕ → Bool) (stands : List ℕ → ℕ → Type 0) (keys_
 
     pub retiring_keyed : IsKeyed s t kind owned
     retiring_keyed = record {
-      nodes = λ n is. elim (at_listed (λ m. (node_at t.bytes kind m ≡ V m) ⊎ IsNodeRetired hit keys_at s t kind m) owned n r.nodes is) [
+      nodes = λ n is. elim (at_listed (λ m. (node_at t.bytes kind m ≡ V m) ⊎ AreRetiredFrom hit keys_at s t kind owned list m) owned n r.nodes is) [
         | inl same ↦ ((V n).keys, same)
-        | inr retired ↦ (retired.0, retired.1)
+        | inr retired ↦ (retired.2.0.0, retired.2.0.1)
       ];
       formed = r.formed;
       moves = r.moves;
@@ -118,13 +128,14 @@ module _ (hit : List ℕ → Bool) (stands : List ℕ → ℕ → Type 0) (keys_
           ∙ ap (λ (l : ℕ). map (keys_below V (keys_at s.bytes) l) (V at).children) (sym under.1)) w.1
 
       pub here : IsNodeRetired hit keys_at s u kind at
-      here = elim (at_listed (λ n. (node_at t.bytes kind n ≡ V n) ⊎ IsNodeRetired hit keys_at s t kind n) owned at r.nodes under.0) [
+      here = elim (at_listed (λ n. (node_at t.bytes kind n ≡ V n) ⊎ AreRetiredFrom hit keys_at s t kind owned list n) owned at r.nodes under.0) [
         | inl same ↦ (
           now,
           w.2.says ∙ ap (λ (o : Node). record o { keys = now }) same,
           subst (λ (o : Node). AreKeysRetired hit (lists at) o.keys now) same from_start,
         )
-        | inr retired ↦
+        | inr from ↦
+            let retired = from.2.0 in
             let none = node_unhit at m under t retired in
             let stay : now ≡ (node_at t.bytes kind at).keys = unhit_same hit (lists at) (node_at t.bytes kind at).keys now none from_start in
             let old : (node_at t.bytes kind at).keys ≡ retired.0 = ap (λ (o : Node). o.keys) retired.1 in (
@@ -146,32 +157,37 @@ module _ (hit : List ℕ → Bool) (stands : List ℕ → ℕ → Type 0) (keys_
           (λ same. subst (IsNodeRetired hit keys_at s u kind) (sym same) here)
           (λ far. (retired.0, other n is far ∙ retired.1, retired.2))
 
-      pub retiring_more : IsRetiring hit stands keys_at s u kind root level owned list
-      retiring_more = record {
-        start = r.start;
-        nodes = all_from owned (λ n. (node_at u.bytes kind n ≡ V n) ⊎ IsNodeRetired hit keys_at s u kind n) (λ n is. at_or at n
-            (λ same. inr (subst (IsNodeRetired hit keys_at s u kind) (sym same) here))
-            (λ far. elim (at_listed (λ i. (node_at t.bytes kind i ≡ V i) ⊎ IsNodeRetired hit keys_at s t kind i) owned n r.nodes is) [
-              | inl same ↦ inl (other n is far ∙ same)
-              | inr retired ↦ inr (retired.0, other n is far ∙ retired.1, retired.2)
-            ])) owned (all_listed owned);
-        formed = keyed.formed;
-        moves = keyed.moves;
-      }
+      module _ (below : AllByRecursion (AreRetiredBelow hit keys_at s t kind m) (V at).children) where
+        -- so have those of all nodes below it
+        pub here_below : AreRetiredBelow hit keys_at s u kind (suc m) at
+        here_below = (
+          here,
+          all_two (IsSubtree V owned list m) (AreRetiredBelow hit keys_at s t kind m) (AreRetiredBelow hit keys_at s u kind m) (below_kept s t u kind owned list kept m) (V at).children
+              under.2 below,
+        )
 
-  -- what has given way stays so
-  pub below_kept : (s t u : Space) (kind : Kind) (owned list : List ℕ) → KeepsRetired hit keys_at s t u kind owned → (height at : ℕ) → IsSubtree (node_at s.bytes kind) owned list height at
-      → AreRetiredBelow hit keys_at s t kind height at → AreRetiredBelow hit keys_at s u kind height at
-  below_kept s t u kind owned list keep zero at under is = tt
-  below_kept s t u kind owned list keep (suc height) at under is = (
-    keep at under.0 is.0,
-    all_two (IsSubtree (node_at s.bytes kind) owned list height) (AreRetiredBelow hit keys_at s t kind height) (AreRetiredBelow hit keys_at s u kind height)
-        (below_kept s t u kind owned list keep height) (node_at s.bytes kind at).children under.2 is.1,
-  )
+        pub retiring_more : IsRetiring hit stands keys_at s u kind root level owned list
+        retiring_more = record {
+          start = r.start;
+          nodes = all_from owned (λ n. (node_at u.bytes kind n ≡ V n) ⊎ AreRetiredFrom hit keys_at s u kind owned list n) (λ n is. at_or at n
+              (λ same. inr (subst (AreRetiredFrom hit keys_at s u kind owned list) (sym same) (m, under, here_below)))
+              (λ far. elim (at_listed (λ i. (node_at t.bytes kind i ≡ V i) ⊎ AreRetiredFrom hit keys_at s t kind owned list i) owned n r.nodes is) [
+                | inl same ↦ inl (other n is far ∙ same)
+                | inr from ↦ inr (from.0, from.1, below_kept s t u kind owned list kept (suc from.0) n from.1 from.2)
+              ])) owned (all_listed owned);
+          formed = keyed.formed;
+          moves = keyed.moves;
+        }
 
 -- ---- the children of a node, one after another
 
-take_got : (xs : List ℕ) (i c : ℕ) → slice_get xs i ≡ Some c → take (suc i) xs ≡ take i xs ++ c ∷ []
+pub got_below : (xs : List ℕ) (i c : ℕ) → slice_get xs i ≡ Some c → i < length xs
+got_below [] zero c is = cc
+got_below [] (suc i) c is = cc
+got_below (x ∷ xs) zero c is = omega arith
+got_below (x ∷ xs) (suc i) c is = let low = got_below xs i c is in omega (arith, low)
+
+pub take_got : (xs : List ℕ) (i c : ℕ) → slice_get xs i ≡ Some c → take (suc i) xs ≡ take i xs ++ c ∷ []
 take_got [] zero c is = cc
 take_got [] (suc i) c is = cc
 take_got (x ∷ xs) zero c is = let same : x ≡ c = cc in ap (λ (y : ℕ). y ∷ []) same

@@ -136,10 +136,10 @@ module _ (s : Space) (kind : Kind) (root level : ℕ) (owned list : List ℕ) (h
         (all_with (IsSubtree V owned list (suc h)) (λ d. items_under Y bottom h d ≡ keys_below V keys (suc h) d) (V n).children (items_below h) is.2)
 
 -- Nothing may stand beside a key: keys that give way do so whatever their order is.
-abbrev no_sides : Sides (List ℕ) (List ℕ)
+abbrev pub no_sides : Sides (List ℕ) (List ℕ)
 no_sides = record { Right = λ k x. ⊥; Left = λ x k. ⊤; Rise = λ k l. ⊤ }
 
-no_order : IsOrderly no_sides
+pub no_order : IsOrderly no_sides
 no_order = record {
   itself = λ k. tt;
   rises = λ k l m a b. tt;

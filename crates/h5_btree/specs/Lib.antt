@@ -13,3 +13,5 @@ pub mod Held
 pub mod Widened
 pub mod Keyed
 pub mod Retired
+pub mod Looked
+pub mod Exact

@@ -2,7 +2,7 @@
 -- III.A.1).
 use Rattle.std.specs.Prelude.{ℕ, zero, suc, List, [], ◌∷◌}
 use Rattle.std.specs.List.{AllByRecursion}
-use Rattle.h5_model.specs.Format.Rows.{nodes}
+use Rattle.h5_model.specs.Format.Rows.{Node, Reading, nodes}
 use Rattle.h5_laws.specs.Ladders.{Bottom, IsOrderedBy, Sides}
 use Rattle.h5_btree.specs.Walk.Below.{IsBottom, IsStanding, reading_in}
 use Rattle.h5_btree.specs.Walk.Forms.{TreeForm}
@@ -12,6 +12,11 @@ abbrev pub HasSubtree : List ℕ → TreeForm → ℕ → ℕ → Type 0
 HasSubtree image form zero at = IsBottom image form at
 HasSubtree image form (suc level) at =
     IsStanding image form level at × AllByRecursion (HasSubtree image form level) (reading_in image form at).children
+
+-- this is known of the node, where it is of level 0, and above that of each node of level 0 below it
+abbrev pub IsKnownFrom : (Node → Type 0) → Reading → ℕ → Node → Type 0
+IsKnownFrom Known V zero node = Known node
+IsKnownFrom Known V (suc level) node = AllByRecursion (λ at. IsKnownFrom Known V level (V at)) node.children
 
 -- a node of this level and all nodes below it
 abbrev pub nodes_from : List ℕ → TreeForm → ℕ → ℕ → List ℕ

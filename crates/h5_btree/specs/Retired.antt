@@ -90,11 +90,22 @@ IsNodeRetired hit keys_at s t kind n =
     (keys : List (List ℕ)) × (node_at t.bytes kind n ≡ record (node_at s.bytes kind n) { keys = keys })
     × AreKeysRetired hit (map (keys_below (node_at s.bytes kind) (keys_at s.bytes) (node_at s.bytes kind n).level) (node_at s.bytes kind n).children) (node_at s.bytes kind n).keys keys
 
--- The image t, which has been made of s so far: the keys of some nodes have given way.
+-- the keys of the node and of all below it have given way
+abbrev pub AreRetiredBelow : (List ℕ → Bool) → (List ℕ → ℕ → List (List ℕ)) → Space → Space → Kind → ℕ → ℕ → Type 0
+AreRetiredBelow hit keys_at s t kind zero at = ⊤
+AreRetiredBelow hit keys_at s t kind (suc height) at =
+    IsNodeRetired hit keys_at s t kind at × AllByRecursion (AreRetiredBelow hit keys_at s t kind height) (node_at s.bytes kind at).children
+
+-- the same of a node of the tree, of some level
+abbrev pub AreRetiredFrom : (List ℕ → Bool) → (List ℕ → ℕ → List (List ℕ)) → Space → Space → Kind → List ℕ → List ℕ → ℕ → Type 0
+AreRetiredFrom hit keys_at s t kind owned list n =
+    (level : ℕ) × IsSubtree (node_at s.bytes kind) owned list (suc level) n × AreRetiredBelow hit keys_at s t kind (suc level) n
+
+-- The image t, which has been made of s so far: the keys of some nodes, and of those below them, have given way.
 pub record IsRetiring (hit : List ℕ → Bool) (stands : List ℕ → ℕ → Type 0) (keys_at : List ℕ → ℕ → List (List ℕ)) (s t : Space) (kind : Kind) (root level : ℕ)
     (owned list : List ℕ) : Type 0 where
   pub start : IsRetirable hit stands keys_at s kind root level owned list
-  pub nodes : AllByRecursion (λ n. (node_at t.bytes kind n ≡ node_at s.bytes kind n) ⊎ IsNodeRetired hit keys_at s t kind n) owned
+  pub nodes : AllByRecursion (λ n. (node_at t.bytes kind n ≡ node_at s.bytes kind n) ⊎ AreRetiredFrom hit keys_at s t kind owned list n) owned
   pub formed : AllByRecursion (λ n. IsNode kind (node_bytes t.bytes kind n)) owned
   pub moves : Moves s t (tree_blocks kind owned) (tree_blocks kind owned)
 
@@ -103,12 +114,6 @@ abbrev pub StandsSomewhere : (List ℕ → Bool) → (List ℕ → ℕ → Type 
 StandsSomewhere hit stands keys_at t kind level at =
     (start : Space) × (root : ℕ) × (height : ℕ) × (owned : List ℕ) × (list : List ℕ) × IsRetiring hit stands keys_at start t kind root height owned list
     × IsSubtree (node_at start.bytes kind) owned list (suc level) at
-
--- the keys of the node and of all below it have given way
-abbrev pub AreRetiredBelow : (List ℕ → Bool) → (List ℕ → ℕ → List (List ℕ)) → Space → Space → Kind → ℕ → ℕ → Type 0
-AreRetiredBelow hit keys_at s t kind zero at = ⊤
-AreRetiredBelow hit keys_at s t kind (suc height) at =
-    IsNodeRetired hit keys_at s t kind at × AllByRecursion (AreRetiredBelow hit keys_at s t kind height) (node_at s.bytes kind at).children
 
 -- so have those of each node whose keys had before
 abbrev pub KeepsRetired : (List ℕ → Bool) → (List ℕ → ℕ → List (List ℕ)) → Space → Space → Space → Kind → List ℕ → Type 0

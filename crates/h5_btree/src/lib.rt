@@ -8,6 +8,7 @@
 mod descent;
 mod edit;
 mod ends;
+mod exact;
 mod halves;
 mod held;
 mod insertion;
@@ -35,6 +36,7 @@ pub use edit::{
     set_left, set_level, set_right,
 };
 pub use ends::set_end;
+pub use exact::are_keys_exact;
 pub use held::{Follows, hold_keys};
 pub use insertion::{InsertFault, insert_at, put_at, put_first};
 pub use kind::NodeKind;
@@ -43,7 +45,7 @@ pub use node::Node;
 pub use order::{Ordered, check_keys};
 pub use read::{NodeFault, read_node, read_node_at};
 pub use removal::{remove_at, take_from};
-pub use retirement::{Hits, retire};
+pub use retirement::{Hits, Look, retire};
 pub use sought::{Sought, child_for};
 pub use walk::{Leaves, Tree, Trees, bottom_nodes, read_tree, tree_leaves, tree_node};
 pub use way::{Step, Way, find_way, is_full_way};

@@ -4,7 +4,7 @@ use Rattle.std.specs.List.{AllByRecursion, Contains}
 use Rattle.std.proofs.lemmas.List.Elements.{All-contains, All-contains_itself, All-from_recursion, recursion_from_All}
 use Rattle.h5_bytes.proofs.BlockLaws.{all_append, all_left, all_right}
 use Rattle.h5_model.specs.Format.Rows.{Node, Reading, next_row, nodes}
-use Rattle.h5_btree.specs.Order.{HasSubtree, nodes_from}
+use Rattle.h5_btree.specs.Order.{HasSubtree, IsKnownFrom, nodes_from}
 use Rattle.h5_btree.specs.Walk.Below.{reading_in}
 use Rattle.h5_btree.specs.Walk.Forms.{TreeForm}
 use Rattle.h5_btree.proofs.LeafLaws.{next_row-append}
@@ -88,6 +88,20 @@ module _ (image : List ℕ) (form : TreeForm) (at : ℕ) (node : Node) (is : nod
       let each = from_down (Contains all) level some (recursion_from_All (Contains all) all (All-contains_itself all)) in
       let here = all_at (AllFrom (Contains all) (level - 1)) node.children i child low read each in
       All-contains (Contains all) (nodes_from image form (level - 1) child) x (All-from_recursion (Contains all) (nodes_from image form (level - 1) child) here) has
+
+-- what is known from a node down is known from each child down
+pub known_child : (Known : Node → Type 0) (V : Reading) (node : Node) (level i child : ℕ) → level ≢ 0 → IsKnownFrom Known V level node → i < length node.children
+    → get_or node.children i child ≡ child → IsKnownFrom Known V (level - 1) (V child)
+known_child Known V node zero i child some known low read = absurd (some refl)
+known_child Known V node (suc level) i child some known low read =
+    let less : level ≡ suc level - 1 = omega arith in
+    subst (λ (l : ℕ). IsKnownFrom Known V l (V child)) less
+    (all_at (λ (n : ℕ). IsKnownFrom Known V level (V n)) node.children i child low read known)
+
+pub known_over : (Known : Node → Type 0) (V : Reading) (at : ℕ) (node : Node) → node ≡ V at → (level i child : ℕ) → level ≢ 0 → IsKnownFrom Known V level (V at)
+    → i < length node.children → get_or node.children i child ≡ child → IsKnownFrom Known V (level - 1) (V child)
+known_over Known V at node is level i child some known low read =
+    known_child Known V node level i child some (subst (IsKnownFrom Known V level) (sym is) known) low read
 
 -- the first of them
 pub from_itself : (image : List ℕ) (form : TreeForm) (level at : ℕ) → Contains (nodes_from image form level at) at

@@ -4,7 +4,7 @@ ghost use Rattle.std.specs.Prelude.{◌≡◌, ◌↔◌, ℕ, suc, IsTrue, IfEr
 ghost use Rattle.std.specs.List.{AllByRecursion, Contains};
 ghost use Rattle.h5_model.specs.Format.Superblock.{IsSuperblock};
 ghost use Rattle.h5_laws.specs.Ladders.{IsOrderedBy, LieBetween, items_under};
-ghost use Rattle.h5_btree.specs.Order.{HasSubtree, IsOrderedAt, nodes_from};
+ghost use Rattle.h5_btree.specs.Order.{HasSubtree, IsKnownFrom, IsOrderedAt, nodes_from};
 ghost use Rattle.h5_btree.specs.Walk.Below.{reading_in};
 ghost use Rattle.h5_btree.specs.Walk.Forms.{kind_of};
 
@@ -17,7 +17,8 @@ use h5_space::{Image, fault};
 /// Checks the order of the keys of the node with this level and address, and of the nodes below it, and of what
 /// stands between the keys. Takes no memory.
 ///
-/// That a tree was read from this node down is the caller's condition.
+/// That a tree was read from this node down, and what `known` of the trait says of its nodes of level 0, are the
+/// caller's conditions.
 ///
 /// # Errors
 ///
@@ -27,6 +28,9 @@ use h5_space::{Image, fault};
 pub fn check_keys<O: Ordered>(image: &Image, over: &O, level: u8, at: u64) -> Result<(), OpenFault>
     requires superblock { IsSuperblock image.now.bytes }
     requires subtree { HasSubtree image.now.bytes (O.form over.now) (suc level) at }
+    requires known { IsKnownFrom (O.known over.now image.now.bytes)
+        (reading_in image.now.bytes (O.form over.now)) level
+        (reading_in image.now.bytes (O.form over.now) at) }
     ensures ordered { OnOk result (AllByRecursion (IsOrderedAt (O.sides over.now) image.now.bytes
         (O.form over.now) (O.bottom over.now image.now.bytes))
         (nodes_from image.now.bytes (O.form over.now) level at)) }
@@ -55,6 +59,8 @@ fn is_ordered<O: Ordered>(image: &Image, over: &O, node: &Node) -> bool
         length key ≡ (kind_of image.now.bytes (O.form over.now)).key_length) node.now.keys }
     requires children { AllByRecursion (HasSubtree image.now.bytes (O.form over.now) node.now.level)
         node.now.children }
+    requires known { IsKnownFrom (O.known over.now image.now.bytes)
+        (reading_in image.now.bytes (O.form over.now)) node.now.level node.now }
     ensures { IsTrue result ↔ IsOrderedBy (O.sides over.now) (reading_in image.now.bytes (O.form over.now))
         (O.bottom over.now image.now.bytes) node.now }
 {
@@ -86,6 +92,9 @@ fn are_between<O: Ordered>(
 ) -> bool
     requires superblock { IsSuperblock image.now.bytes }
     requires subtree { HasSubtree image.now.bytes (O.form over.now) (suc level) at }
+    requires known { IsKnownFrom (O.known over.now image.now.bytes)
+        (reading_in image.now.bytes (O.form over.now)) level
+        (reading_in image.now.bytes (O.form over.now) at) }
     requires low { length low.now ≡ (kind_of image.now.bytes (O.form over.now)).key_length }
     requires high { length high.now ≡ (kind_of image.now.bytes (O.form over.now)).key_length }
     ensures { IsTrue result ↔ LieBetween (O.sides over.now) low.now high.now

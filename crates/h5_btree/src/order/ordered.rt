@@ -2,6 +2,7 @@
 
 ghost use Rattle.std.specs.Prelude.{◌≡◌, ◌↔◌, ℕ, IsTrue, List, length};
 ghost use Rattle.std.specs.List.{AllByRecursion};
+ghost use Rattle.h5_model.specs.Format.Rows.{Node};
 ghost use Rattle.h5_model.specs.Format.Superblock.{IsSuperblock};
 ghost use Rattle.h5_laws.specs.Ladders.{Bottom, IsOrderedBy, LieBetween, Sides, all_of};
 ghost use Rattle.h5_btree.specs.Walk.Below.{IsBottom, reading_in};
@@ -24,6 +25,10 @@ pub trait Ordered: Trees {
     /// What stands at each child of a node of level 0.
     ghost bottom: { Self → List ℕ → Bottom Item };
 
+    /// What is known of a node of level 0 before its keys are looked at: names in ascending order need no
+    /// comparison of each with a key.
+    ghost known: { Self → List ℕ → Node → Type 0 };
+
     /// Whether what stands at each child of a node of level 0 is between the keys around it, each of which may be the
     /// next one.
     fn is_ordered(&self, image: &Image, node: &Node<'_>) -> bool
@@ -32,6 +37,7 @@ pub trait Ordered: Trees {
         requires keys { AllByRecursion (λ (key : List ℕ).
             length key ≡ (kind_of image.now.bytes (Self.form self.now)).key_length) node.now.keys }
         requires leaves { AllByRecursion (IsBottom image.now.bytes (Self.form self.now)) node.now.children }
+        requires known { known self.now image.now.bytes node.now }
         ensures { IsTrue result ↔ IsOrderedBy (sides self.now)
             (reading_in image.now.bytes (Self.form self.now)) (bottom self.now image.now.bytes) node.now };
 
@@ -41,6 +47,7 @@ pub trait Ordered: Trees {
         requires keys { AllByRecursion (λ (key : List ℕ).
             length key ≡ (kind_of image.now.bytes (Self.form self.now)).key_length) node.now.keys }
         requires leaves { AllByRecursion (IsBottom image.now.bytes (Self.form self.now)) node.now.children }
+        requires known { known self.now image.now.bytes node.now }
         requires low { length low.now ≡ (kind_of image.now.bytes (Self.form self.now)).key_length }
         requires high { length high.now ≡ (kind_of image.now.bytes (Self.form self.now)).key_length }
         ensures { IsTrue result ↔ LieBetween (sides self.now) low.now high.now

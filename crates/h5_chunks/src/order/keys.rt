@@ -1,6 +1,6 @@
 //! The order of chunks between the keys of their tree (File Format Specification 3.0, section III.A.1).
 
-ghost use Rattle.std.specs.Prelude.{◌≡◌, ◌+◌, ◌*◌, ◌≤◌, ◌↔◌, ◌++◌, ◌∷◌, [], ℕ, IsTrue, List, length};
+ghost use Rattle.std.specs.Prelude.{◌≡◌, ◌+◌, ◌*◌, ◌≤◌, ◌↔◌, ◌++◌, ◌∷◌, [], ℕ, IsTrue, List, length, ⊤};
 ghost use Rattle.h5_model.specs.Format.Links.{Before, NotAfter};
 ghost use Rattle.h5_model.specs.Format.Chunks.{offsets_in};
 ghost use Rattle.h5_laws.specs.ChunkLadders.{chunk_lists, chunk_sides};
@@ -17,6 +17,8 @@ impl Ordered for ChunkShape<'_> {
     ghost sides = { λ s. chunk_sides (length s.sizes) };
 
     ghost bottom = { λ s image. chunk_lists (length s.sizes) };
+
+    ghost known = { λ s image node. ⊤ };
 
     fn is_ordered(&self, _image: &Image, node: &Node<'_>) -> bool {
         let rank = self.sizes.len();

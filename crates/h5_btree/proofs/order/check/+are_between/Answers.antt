@@ -3,7 +3,7 @@ use Rattle.std.proofs.lemmas.Option.{get_or_from_slice_get}
 use Rattle.h5_model.specs.Format.Rows.{Node}
 use Rattle.h5_btree.specs.Walk.Below.{reading_in}
 use Rattle.h5_btree.proofs.OrderLaws.BetweenLaws.{IsBelow, below_down, below_up, keys_stand}
-use Rattle.h5_btree.proofs.OrderLaws.DepthLaws.{child_over}
+use Rattle.h5_btree.proofs.OrderLaws.DepthLaws.{child_over, known_over}
 use Rattle.h5_btree.proofs.OrderLaws.Elements.{all_at, all_more, all_done}
 use Rattle.h5_btree.proofs.order.check.+are_between.Goals as goal
 
@@ -15,11 +15,18 @@ pub lie_between-requires-clause-leaves : goal.lie_between-requires-clause-leaves
 lie_between-requires-clause-leaves g t c =
     rw c.tree_node-node.ensures (rw c.if-level-eq0.true at c.requires.subtree.1)
 
+pub lie_between-requires-clause-known : goal.lie_between-requires-clause-known
+lie_between-requires-clause-known g t c =
+    rw c.tree_node-node.ensures (rw c.if-level-eq0.true at c.requires.known)
+
 pub are_between-requires : goal.are_between-requires
 are_between-requires g t c κs within =
     let node : Node = c.tree_node-node.result in
+    let V = reading_in c.args.image.now.bytes (g.O.Trees.form c.args.over.now) in
+    let Known = g.O.Ordered.known c.args.over.now c.args.image.now.bytes in
     let low : c.loop-i.i < length node.children = omega arith in
-    let read = get_or_from_slice_get node.children c.loop-i.i c.child.result c.child.result c.child.ensures in (
+    let read = get_or_from_slice_get node.children c.loop-i.i c.child.result c.child.result c.child.ensures in
+    let known = known_over Known V c.args.at node c.tree_node-node.ensures c.args.level c.loop-i.i c.child.result c.if-level-eq0.false c.requires.known low read in (
       omega (arith, c.decreases),
       (
         within,
@@ -28,7 +35,7 @@ are_between-requires g t c κs within =
           (
             child_over c.args.image.now.bytes (g.O.Trees.form c.args.over.now) c.args.at node c.tree_node-node.ensures c.args.level c.loop-i.i c.child.result
                 c.if-level-eq0.false c.requires.subtree low read,
-            (c.requires.low, c.requires.high),
+            (known, (c.requires.low, c.requires.high)),
           ),
         ),
       ),

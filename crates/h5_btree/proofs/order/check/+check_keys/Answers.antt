@@ -4,10 +4,10 @@ use Rattle.std.proofs.lemmas.Option.{get_or_from_slice_get}
 use Rattle.std.proofs.lemmas.Result.{err_from_is_err_and}
 use Rattle.h5_model.specs.Format.Rows.{Node}
 use Rattle.h5_laws.specs.Ladders.{IsOrderedBy}
-use Rattle.h5_btree.specs.Order.{HasSubtree, IsOrderedAt}
+use Rattle.h5_btree.specs.Order.{HasSubtree, IsKnownFrom, IsOrderedAt}
 use Rattle.h5_btree.specs.Walk.Below.{reading_in}
 use Rattle.h5_btree.proofs.OrderLaws.BetweenLaws.{children_stand, keys_stand}
-use Rattle.h5_btree.proofs.OrderLaws.DepthLaws.{AllFrom, child_over, from_child, from_itself, from_up}
+use Rattle.h5_btree.proofs.OrderLaws.DepthLaws.{AllFrom, child_over, from_child, from_itself, from_up, known_over}
 use Rattle.h5_btree.proofs.OrderLaws.Elements.{all_more, all_done}
 use Rattle.h5_btree.proofs.order.check.+check_keys.Goals as goal
 
@@ -22,6 +22,15 @@ is_ordered-requires-clause-children g t c =
     let high : c.tree_node-node.result.level ≡ c.args.level = ap (λ (n : Node). n.level) c.tree_node-node.ensures ∙ (c.requires.subtree.0).high in
     subst (λ (l : ℕ). AllByRecursion (HasSubtree image form l) c.tree_node-node.result.children) (sym high)
     (children_stand image form c.args.at c.tree_node-node.result c.tree_node-node.ensures c.args.level c.requires.subtree)
+
+pub is_ordered-requires-clause-known : goal.is_ordered-requires-clause-known
+is_ordered-requires-clause-known g t c =
+    let node : Node = c.tree_node-node.result in
+    let V = reading_in c.args.image.now.bytes (g.O.Trees.form c.args.over.now) in
+    let Known = g.O.Ordered.known c.args.over.now c.args.image.now.bytes in
+    let high : node.level ≡ c.args.level = ap (λ (n : Node). n.level) c.tree_node-node.ensures ∙ (c.requires.subtree.0).high in
+    subst (λ (l : ℕ). IsKnownFrom Known V l node) (sym high)
+    (subst (IsKnownFrom Known V c.args.level) (sym c.tree_node-node.ensures) c.requires.known)
 
 pub returns-then-not-is_ordered-clause-refused : goal.returns-then-not-is_ordered-clause-refused
 returns-then-not-is_ordered-clause-refused g t c =
@@ -41,14 +50,19 @@ pub check_keys-requires : goal.check_keys-requires
 check_keys-requires g t c κs within =
     let node : Node = c.tree_node-node.result in
     let low : c.loop-i.i < length node.children = omega arith in
+    let V = reading_in c.args.image.now.bytes (g.O.Trees.form c.args.over.now) in
+    let Known = g.O.Ordered.known c.args.over.now c.args.image.now.bytes in
     let read = get_or_from_slice_get node.children c.loop-i.i c.child.result c.child.result c.child.ensures in (
       omega (arith, c.decreases),
       (
         within,
         (
           c.requires.superblock,
-          child_over c.args.image.now.bytes (g.O.Trees.form c.args.over.now) c.args.at node c.tree_node-node.ensures c.args.level c.loop-i.i c.child.result
-              c.if-level-eq0.false c.requires.subtree low read,
+          (
+            child_over c.args.image.now.bytes (g.O.Trees.form c.args.over.now) c.args.at node c.tree_node-node.ensures c.args.level c.loop-i.i c.child.result
+                c.if-level-eq0.false c.requires.subtree low read,
+            known_over Known V c.args.at node c.tree_node-node.ensures c.args.level c.loop-i.i c.child.result c.if-level-eq0.false c.requires.known low read,
+          ),
         ),
       ),
     )

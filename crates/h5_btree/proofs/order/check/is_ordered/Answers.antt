@@ -1,10 +1,28 @@
-use Rattle.std.proofs.Common.{◌≡◌, ◌≢◌, ◌+◌, ◌<◌, [], length, refl, ◌∙◌, arith, false, true, below_more}
+use Rattle.std.proofs.Common.{◌≡◌, ◌≢◌, ℕ, ◌+◌, ◌<◌, [], length, refl, sym, subst, ◌∙◌, arith, false, true, below_more}
 use Rattle.std.proofs.lemmas.Option.{get_or_from_slice_get}
 use Rattle.h5_model.specs.Format.Rows.{Node}
+use Rattle.h5_btree.specs.Order.{IsKnownFrom}
 use Rattle.h5_btree.specs.Walk.Below.{reading_in}
 use Rattle.h5_btree.proofs.OrderLaws.NodeOrder.{IsChildOrdered, child_asked, child_ordered, each_ordered}
+use Rattle.h5_btree.proofs.OrderLaws.DepthLaws.{known_child}
 use Rattle.h5_btree.proofs.order.check.is_ordered.Goals as goal
 use Rattle.h5_btree.proofs.order.check.is_ordered.Goals.{then-not-may_follow-via-then-not-may_follow, then-not-may_follow-via-else-not-may_follow+then-not-are_between}
+
+pub is_ordered-requires-clause-known : goal.is_ordered-requires-clause-known
+is_ordered-requires-clause-known g c =
+    let V = reading_in c.args.image.now.bytes (g.O.Trees.form c.args.over.now) in
+    let Known = g.O.Ordered.known c.args.over.now c.args.image.now.bytes in
+    subst (λ (l : ℕ). IsKnownFrom Known V l c.args.node.now) (sym c.level-level.ensures ∙ c.if-level-eq0.true) c.requires.known
+
+pub are_between-requires-clause-known : goal.are_between-requires-clause-known
+are_between-requires-clause-known g c =
+    let V = reading_in c.args.image.now.bytes (g.O.Trees.form c.args.over.now) in
+    let Known = g.O.Ordered.known c.args.over.now c.args.image.now.bytes in
+    let node : Node = c.args.node.now in
+    let low : c.loop-i.i < length node.children = omega arith in
+    let some : node.level ≢ 0 = λ e. c.if-level-eq0.false (c.level-level.ensures ∙ e) in
+    let read = get_or_from_slice_get node.children c.loop-i.i c.child.result c.child.result c.child.ensures in
+    rw c.level-level.ensures (known_child Known V node node.level c.loop-i.i c.child.result some c.requires.known low read)
 
 pub returns-then-not-may_follow : goal.returns-then-not-may_follow
 returns-then-not-may_follow g c = (

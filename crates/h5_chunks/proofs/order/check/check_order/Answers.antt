@@ -1,5 +1,5 @@
-use Rattle.std.proofs.Common.{◌≡◌, List, ℕ, suc, [], ◌∷◌, length, inl, inr, sym, ap, ◌∙◌, subst}
-use Rattle.std.specs.Prelude.{None, T}
+use Rattle.std.proofs.Common.{◌≡◌, List, ℕ, zero, suc, [], ◌∷◌, length, inl, inr, sym, ap, ◌∙◌, subst}
+use Rattle.std.specs.Prelude.{None, T, ⊤}
 use Rattle.std.specs.Ordering.{nat_cmp}
 use Rattle.std.specs.Cmp.Lexicographic.{slice_cmp}
 use Rattle.std.specs.FinMap.{is_sorted}
@@ -14,7 +14,8 @@ use Rattle.h5_model.specs.declared.open_fault.OpenFault.{OpenFault}
 use Rattle.h5_model.specs.declared.open_fault.Cause.TheVariants.{KeyOrder}
 use Rattle.h5_laws.specs.ChunkLadders.{chunk_lists, chunk_sides}
 use Rattle.h5_laws.proofs.ChunkLadders.{by_chunks, chunks_by}
-use Rattle.h5_btree.specs.Order.{HasSubtree, IsOrderedAt, nodes_from}
+use Rattle.h5_laws.proofs.Lists.{all_in}
+use Rattle.h5_btree.specs.Order.{HasSubtree, IsKnownFrom, IsOrderedAt, nodes_from}
 use Rattle.h5_btree.specs.Rising.{RiseFrom}
 use Rattle.h5_btree.specs.Walk.Below.{reading_in}
 use Rattle.h5_btree.specs.Walk.Forms.{OfChunks}
@@ -27,6 +28,11 @@ use Rattle.h5_chunks.specs.Order.{IsChunkOrderRefused}
 use Rattle.h5_chunks.proofs.Ascending.{rise_sorted}
 use Rattle.h5_chunks.proofs.OrderFaults.{bottom_stands, fall_descends, listed_is, nodes_listed, order_fault, rows_stand}
 use Rattle.h5_chunks.proofs.order.check.check_order.Goals as goal
+
+-- of chunks nothing need be known
+nothing_known : (V : Reading) (level : ℕ) (node : Node) → IsKnownFrom (λ _. ⊤) V level node
+nothing_known V zero node = tt
+nothing_known V (suc level) node = all_in (λ (at : ℕ). IsKnownFrom (λ _. ⊤) V level (V at)) node.children (λ at _. nothing_known V level (V at))
 
 pub bottom_row-row-requires-clause-nodes : goal.bottom_row-row-requires-clause-nodes
 bottom_row-row-requires-clause-nodes c =
@@ -72,6 +78,11 @@ check_keys-requires-clause-subtree c =
     let shape : Shape = c.args.shape.now in
     let stands = root_stands image (OfChunks shape) c.args.root c.args.tree.now.nodes.items c.args.tree.now.leaves.items c.requires.tree c.requires.inside in
     subst (λ (l : ℕ). HasSubtree image (OfChunks shape) (suc l) c.args.root) (sym (c.level-level.ensures ∙ ap (λ (n : Node). n.level) c.tree_node.ensures)) stands
+
+pub check_keys-requires-clause-known : goal.check_keys-requires-clause-known
+check_keys-requires-clause-known c =
+    let V : Reading = reading_in c.args.image.now.bytes (OfChunks c.args.shape.now) in
+    nothing_known V c.level-level.result (V c.args.root)
 
 pub returns-clause-ordered : goal.returns-clause-ordered
 returns-clause-ordered c =
