@@ -6,7 +6,7 @@ use Rattle.h5_bytes.specs.Blocks.{cover, holds}
 use Rattle.h5_bytes.specs.declared.Block.{Block}
 use Rattle.h5_model.specs.Format.Addresses.{SymbolTable}
 use Rattle.h5_model.specs.Format.Superblock.{leaf_k}
-use Rattle.h5_model.specs.Format.Heap.{segment_of}
+use Rattle.h5_model.specs.Format.Heap.{heap_header, segment_of}
 use Rattle.h5_model.specs.Format.Nodes.{Kind, IsNode, node_bytes}
 use Rattle.h5_model.specs.Format.Symbols.{Target, symbols_at}
 use Rattle.h5_model.proofs.RowLaws.{at_listed}
@@ -19,9 +19,11 @@ use Rattle.h5_btree.specs.declared.way.Step.{Step}
 use Rattle.h5_btree.proofs.ClimbSteps.{inside_of_apart}
 use Rattle.h5_btree.proofs.WaySteps.{all_at, first_owned}
 use Rattle.h5_group.specs.Edited.{HasGroupMoved, IsGroupIn, entries_below, node_below}
+use Rattle.h5_group.specs.Exact.{AreFilledBut, AreGroupKeys, HasExactKeys}
 use Rattle.h5_group.specs.Nodes.Trees.{kind_in}
 use Rattle.h5_group.specs.Told.{symbol_nodes_told}
-use Rattle.h5_group.proofs.DropLaws.{end_listed, node_dropped, node_held, node_inside, segment_same}
+use Rattle.h5_group.proofs.DropExact.{node_dropped_exact}
+use Rattle.h5_group.proofs.DropLaws.{end_listed, heaps, node_dropped, node_held, node_inside, segment_same}
 use Rattle.h5_group.proofs.EntryWays.{ends_own}
 use Rattle.h5_group.proofs.ToldLaws.{symbol_nodes_are_told}
 
@@ -92,6 +94,9 @@ module _ (s : Space) (table : SymbolTable) (links : List (List ℕ × Target)) (
     pub segment_stays : segment_of u.bytes table.heap ≡ segment_of s.bytes table.heap
     segment_stays = segment_same s u table links spare blocks group way k own_way taken
 
+    pub header_stays : heap_header u.bytes table.heap ≡ heap_header s.bytes table.heap
+    header_stays = (heaps s u table links spare blocks group way k own_way taken).0
+
     module _ (t : Space) where
       abbrev IsGiven : ℕ → ℕ → Type 0
       IsGiven n l = (p : ℕ) → cover p t.free ≡ cover p u.free + holds p n (8 + 80 * l)
@@ -101,3 +106,12 @@ module _ (s : Space) (table : SymbolTable) (links : List (List ℕ × Target)) (
       group_stays bytes given empty size =
           node_dropped s u table links spare blocks group way k own_way taken t bytes (subst (λ n. IsGiven n (leaf_k s.bytes)) (sym at_end) (subst (IsGiven node) leaf_is given))
           (ap (symbols_at s.bytes (leaf_k s.bytes)) own_end.1 ∙ empty own_way.step own_way.above own_way.way_is) size
+
+      pub exact_stays : t.bytes ≡ u.bytes → IsGiven node leaf → ((step : Step) (above : List Step) → way ≡ step ∷ above → entries_below s table step ≡ [])
+          → length u.bytes ≤ length s.bytes → (step : Step) (above : List Step) → way ≡ step ∷ above → AreGroupKeys (λ key. ⊥) s.bytes table
+          → AreFilledBut (node_below s table step) s.bytes table → HasExactKeys t.bytes table
+      exact_stays bytes given empty size step above is exact filled =
+          let there : node_below s table step ≡ get_or own_list k 0 = sym (node_is step above is) ∙ sym at_end in
+          node_dropped_exact s u table links spare blocks group way k own_way taken t bytes (subst (λ n. IsGiven n (leaf_k s.bytes)) (sym at_end) (subst (IsGiven node) leaf_is given))
+          (ap (symbols_at s.bytes (leaf_k s.bytes)) own_end.1 ∙ empty own_way.step own_way.above own_way.way_is) size exact
+          (subst (λ (n : ℕ). AreFilledBut n s.bytes table) there filled)

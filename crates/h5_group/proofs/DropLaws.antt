@@ -158,7 +158,7 @@ module _ (s u : Space) (table : SymbolTable) (links : List (List ℕ × Target))
   done : IsChildTaken s u kind root taken.3 taken.1.node taken.1.place rest owned own
   done = taken.7
 
-  there : (k < length list) × (x ≡ get_or (node_at s.bytes kind e.step.node).children e.step.place 0)
+  pub there : (k < length list) × (x ≡ get_or (node_at s.bytes kind e.step.node).children e.step.place 0)
   there = end_listed s kind root has.level way owned list k e
 
   cut : list ≡ front ++ x ∷ back
@@ -167,7 +167,7 @@ module _ (s u : Space) (table : SymbolTable) (links : List (List ℕ × Target))
   nodes_cut : N ≡ map (symbol_block leaf) front ++ symbol_block leaf x ∷ map (symbol_block leaf) back
   nodes_cut = ap (map (symbol_block leaf)) cut ∙ map-append (symbol_block leaf) front (x ∷ back)
 
-  nodes_cover : (p : ℕ) → cover p N ≡ holds p x len + cover p N'
+  pub nodes_cover : (p : ℕ) → cover p N ≡ holds p x len + cover p N'
   nodes_cover p =
       let all = ap (cover p) nodes_cut in
       let less = ap (cover p) (map-append (symbol_block leaf) front back) in
@@ -203,7 +203,7 @@ module _ (s u : Space) (table : SymbolTable) (links : List (List ℕ × Target))
   pub node_held : (p : ℕ) → cover p u.free + holds p x len ≤ 1
   node_held p = omega (arith, apart_then p, cover-append p T' (N ++ H), cover-append p N H, nodes_cover p, holds-le p 0 (length u.bytes))
 
-  heaps : (heap_header u.bytes table.heap ≡ heap_header s.bytes table.heap) × (segment_of u.bytes table.heap ≡ segment_of s.bytes table.heap)
+  pub heaps : (heap_header u.bytes table.heap ≡ heap_header s.bytes table.heap) × (segment_of u.bytes table.heap ≡ segment_of s.bytes table.heap)
   heaps = heap-same s.bytes u.bytes table.heap (all_right (IsKept s.bytes u.bytes) N H kept)
 
   pub segment_same : segment_of u.bytes table.heap ≡ segment_of s.bytes table.heap
@@ -225,7 +225,7 @@ module _ (s u : Space) (table : SymbolTable) (links : List (List ℕ × Target))
     stays : Keeps s.bytes t.bytes (N ++ H)
     stays = subst (λ (b : List ℕ). Keeps s.bytes b (N ++ H)) (sym bytes) kept
 
-    tree : HasTree t.bytes kind root taken.3 own rest
+    pub tree : HasTree t.bytes kind root taken.3 own rest
     tree = subst (λ (b : List ℕ). HasTree b kind root taken.3 own rest) (sym bytes) done.tree
 
     heads : (heap_header t.bytes table.heap ≡ heap_header s.bytes table.heap) × (segment_of t.bytes table.heap ≡ segs)
@@ -233,7 +233,7 @@ module _ (s u : Space) (table : SymbolTable) (links : List (List ℕ × Target))
 
     -- ---- symbol nodes
 
-    nodes_stay : AllByRecursion (λ n. symbol_bytes t.bytes leaf n ≡ symbol_bytes s.bytes leaf n) list
+    pub nodes_stay : AllByRecursion (λ n. symbol_bytes t.bytes leaf n ≡ symbol_bytes s.bytes leaf n) list
     nodes_stay = kept_each s.bytes t.bytes leaf list (all_left (IsKept s.bytes t.bytes) N H stays)
 
     formed : AllByRecursion (λ n. IsSymbolNode leaf (symbol_bytes t.bytes leaf n)) rest
@@ -367,10 +367,10 @@ module _ (s u : Space) (table : SymbolTable) (links : List (List ℕ × Target))
         (λ p. omega (arith, group.apart p, parted_then p, cover-append p A (N' ++ H)))
         (all_append (λ (b : Block). 1 ≤ b.len) N' H (some_symbols leaf rest) (all_right (λ (b : Block). 1 ≤ b.len) N H some_each))
 
-    leaf_is : leaf_k t.bytes ≡ leaf
+    pub leaf_is : leaf_k t.bytes ≡ leaf
     leaf_is = leaf_kept s t table links spare blocks group A T' (N' ++ H) moved parted_then within_then
 
-    internal_is : internal_k t.bytes ≡ internal_k s.bytes
+    pub internal_is : internal_k t.bytes ≡ internal_k s.bytes
     internal_is = internal_kept s t table links spare blocks group A T' (N' ++ H) moved parted_then within_then
 
     linked : HasSame (leaf_k t.bytes) (internal_k t.bytes)

@@ -51,7 +51,7 @@ module _ (s : Space) (table : SymbolTable) (links : List (List ℕ × Target)) (
   segment = segment_of s.bytes table.heap
 
   -- the offset of a loose text is one in the image
-  loose_low : (offset : ℕ) → In offset (group.linked).listed.loose → offset < 256 ^ 8
+  pub loose_low : (offset : ℕ) → In offset (group.linked).listed.loose → offset < 256 ^ 8
   loose_low offset at =
       let offsets = names_of (all_old) ++ texts_of (all_old) ++ (group.linked).listed.loose in
       let within = in_all (λ n. (span_of segment n).at + (span_of segment n).len ≤ length segment) offset offsets
@@ -142,7 +142,7 @@ module _ (s t : Space) (table : SymbolTable) (node k : ℕ) (e : Entry) (set : I
 
 -- ---- an entry goes
 
-got_cut : {X : Type 0} (xs : List X) (k : ℕ) (x : X) → slice_get xs k ≡ Some x → xs ≡ take k xs ++ x ∷ drop (suc k) xs
+pub got_cut : {X : Type 0} (xs : List X) (k : ℕ) (x : X) → slice_get xs k ≡ Some x → xs ≡ take k xs ++ x ∷ drop (suc k) xs
 got_cut [] k x got = absurd (cc)
 got_cut {X} (y ∷ ys) zero x got = ap (λ (z : X). z ∷ ys) (same_Some y x got)
 got_cut {X} (y ∷ ys) (suc k) x got = ap (λ (zs : List X). y ∷ zs) (got_cut ys k x got)

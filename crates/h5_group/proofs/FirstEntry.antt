@@ -4,6 +4,7 @@ use Rattle.std.proofs.Common.{◌≡◌, inl, inr, ℕ, ◌^◌, ◌<◌, ◌≤
 use Rattle.std.specs.Bool.{⊤}
 use Rattle.std.specs.List.{AllByRecursion, Contains, flat_map}
 use Rattle.h5_bytes.specs.Blocks.{cover, Inside, IsKept, Keeps}
+use Rattle.h5_bytes.specs.Numbers.{word}
 use Rattle.h5_bytes.specs.Texts.{text_at}
 use Rattle.h5_bytes.specs.declared.Block.{Block}
 use Rattle.h5_bytes.proofs.BlockLaws.{all_left, cover-append}
@@ -11,11 +12,13 @@ use Rattle.h5_model.specs.Format.Addresses.{SymbolTable}
 use Rattle.h5_model.specs.Format.Superblock.{leaf_k}
 use Rattle.h5_model.specs.Format.Heap.{KeyNames, heap_blocks, segment_of}
 use Rattle.h5_model.specs.Format.Links.{Before, IsOrdered, key_offsets, names_in, offset_in}
-use Rattle.h5_model.specs.Format.Nodes.{HasTree, Kind, node_at, reading_of, tree_blocks}
+use Rattle.h5_model.specs.Format.Nodes.{HasTree, Kind, group_kind, node_at, reading_of, tree_blocks}
 use Rattle.h5_model.specs.Format.Rows.{Node, blank}
 use Rattle.h5_model.specs.Format.Symbols.{Entry, IsEntry, IsSymbolNode, Target, entries_of, link_of, symbol_block, symbol_bytes, symbols_at, symbols_of, texts_of}
 use Rattle.h5_model.specs.Tree.Paths.{is_name}
 use Rattle.h5_model.proofs.Frames.{tree-same}
+use Rattle.h5_model.proofs.KLaws.{same_internal, same_leaf}
+use Rattle.h5_model.proofs.OneTree.{level_is}
 use Rattle.h5_model.proofs.RowLaws.{only_here}
 use Rattle.h5_heap.proofs.RefusedLaws.{empty_text}
 use Rattle.h5_laws.specs.KeyEdits.{IsPut}
@@ -29,12 +32,16 @@ use Rattle.h5_space.proofs.MovesLaws.{moves_beside, moves_kept, moves_same, move
 use Rattle.h5_btree.specs.Insertion.{IsChildPut, IsEmptyTree}
 use Rattle.h5_btree.proofs.BlocksInside.{inside_held}
 use Rattle.h5_btree.proofs.EmptyTrees.{empty_tree}
+use Rattle.h5_btree.proofs.KeyedExactPuts.{first_exact}
 use Rattle.h5_btree.proofs.KeyedFills.{first_sorted}
 use Rattle.h5_btree.proofs.KeyedForms.{group_ordered, names_at_child}
 use Rattle.h5_group.specs.Edited.{HasGroupMoved, IsGroupIn, IsLinkPut, offsets_of, superblock_block}
+use Rattle.h5_group.specs.Exact.{HasExactKeys}
 use Rattle.h5_group.specs.Nodes.Trees.{group_nodes_blocks, kind_in}
+use Rattle.h5_group.specs.Retired.{entry_keys, name_keys}
 use Rattle.h5_group.specs.Split.{AreNewSymbols}
 use Rattle.h5_group.proofs.EditFrames.{group_apart, rest_kept}
+use Rattle.h5_group.proofs.ExactTrees.{keys_so, told_so}
 use Rattle.h5_group.proofs.GrownGroup.{entry_grown}
 use Rattle.h5_group.proofs.Ways.{all_inside}
 use Rattle.h5_group.proofs.MovedNames.{names_of}
@@ -214,3 +221,18 @@ module _ (s u t : Space) (table : SymbolTable) (links : List (List ℕ × Target
       pub first_put : (links' : List (List ℕ × Target)) × IsLinkPut (link_of segment e) links links' × HasGroupMoved s t table blocks links' spare
       first_put = entry_grown s t table links (offsets_of e ++ spare) blocks group all (new ∷ []) moves 0 put.tree formed (omega (arith, short, grown))
           e spare refl [] [] old_entries all_entries known named name_put ordered keyed
+
+      -- THE GROUP HAS EXACT KEYS, where the last key is that of the name
+      pub first_exact_keys : high ≡ word e.name → HasExactKeys t.bytes table
+      first_exact_keys own =
+          let m = first_put.2 in
+          let leaf_is = same_leaf t.bytes s.bytes m.k in
+          let kind_is : kind_in t.bytes ≡ kind = ap group_kind (same_internal t.bytes s.bytes m.k) in
+          let here : symbols_at t.bytes leaf new ≡ e ∷ [] = ap entries_of new_kept ∙ added.says in
+          record {
+            exact = keys_so (λ key. ⊥) t.bytes table leaf kind 0 leaf_is kind_is (level_is t.bytes kind root 0 all (new ∷ []) put.tree)
+                (first_exact (node_at t.bytes kind) (entry_keys leaf t.bytes) root new low (word e.name)
+                (keys ∙ ap (λ (k : List ℕ). low ∷ k ∷ []) own) children (ap name_keys here));
+            filled = subst (AllByRecursion (λ at. 1 ≤ length (symbols_at t.bytes (leaf_k t.bytes) at))) (sym (told_so t.bytes table kind 0 all (new ∷ []) kind_is put.tree))
+                (subst (λ (l : ℕ). 1 ≤ length (symbols_at t.bytes l new)) (sym leaf_is) (subst (λ (es : List Entry). 1 ≤ length es) (sym here) (omega arith)), tt);
+          }

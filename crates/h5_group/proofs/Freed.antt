@@ -37,3 +37,9 @@ pub two_released : (old between new : List ℕ) (heap : ℕ) (e : SymbolEntry) (
 two_released old between new heap e text read is from first second =
     subst (λ (t : SymbolTarget). AreReleased old new heap (offsets_named (record { name = e.name; target = t }))) (sym is)
     (between, first, (new, subst (λ (o : ℕ). HasReleased between new heap o (span_of (segment_of between heap) o).len) from second, (refl, refl)))
+
+-- what is kept afterwards
+pub released_then : (old between new : List ℕ) (heap : ℕ) (offsets : List ℕ) → heap_header new heap ≡ heap_header between heap → segment_of new heap ≡ segment_of between heap
+    → AreReleased old between heap offsets → AreReleased old new heap offsets
+released_then old between new heap [] header segment is = (header ∙ is.0, segment ∙ is.1)
+released_then old between new heap (offset ∷ offsets) header segment is = (is.0, is.1, released_then is.0 between new heap offsets header segment is.2)

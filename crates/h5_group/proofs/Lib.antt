@@ -42,6 +42,7 @@ mod FirstEntry
 mod SplitFrames
 mod SplitNames
 mod SplitOrder
+mod SplitExact
 mod SplitEntry
 mod SplitCalls
 pub mod PutWays
@@ -53,7 +54,19 @@ pub mod EditTold
 pub mod RoomKept
 pub mod TakeSteps
 pub mod RetiredKeys
+pub mod NameKeys
+pub mod NewKeys
+pub mod FilledExact
+pub mod WidenedExact
 pub mod TreeMoves
 pub mod RetiredGroup
 pub mod EntryKeys
 pub mod Freed
+pub mod ExactTrees
+pub mod KeptWays
+pub mod RetiredExact
+pub mod FreedExact
+pub mod DropExact
+pub mod TakenExact
+pub mod TakeExact
+pub mod ExactWalk

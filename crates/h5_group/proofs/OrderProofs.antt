@@ -1,4 +1,5 @@
 pub mod EntryNames
 pub mod NodeNames
 pub mod AscendLaws
+pub mod NameEnds
 pub mod OrderFaults

@@ -38,6 +38,7 @@ use Rattle.h5_group.specs.Nodes.Trees.{kind_in}
 use Rattle.h5_group.specs.Retired.{StandsAt, is_of, entry_keys, name_keys}
 use Rattle.h5_group.proofs.RetiredKeys.{retired_keys}
 use Rattle.h5_group.proofs.HeapMoves.{keys_there}
+use Rattle.h5_group.proofs.NameKeys.{lowest_empty, lowest_is, offset_is, segment_short, texts_same}
 use Rattle.h5_group.proofs.KeyOffsets.{offsets_joined, offsets_parts}
 use Rattle.h5_group.proofs.TreeMoves.{keys_moved, kind_now}
 use Rattle.h5_group.proofs.Ways.{cover_parts, heap_inside, symbols_inside, trees_apart}
@@ -81,20 +82,6 @@ module _ (segment : List ℕ) (free : List Block) (names texts keys loose : List
       let low = in_all (λ (b : Block). b.at + b.len ≤ length segment) (span_of segment n) (map (span_of segment) (names ++ texts ++ loose)) has.within
       (in_map (span_of segment) n (names ++ texts ++ loose) (in_left n (names ++ texts) loose (in_left n names texts there))) in
       omega (arith, low)
-
--- ---- keys of eight bytes
-
-offset_is : (n : ℕ) → n < 2 ^ 64 → offset_in (word n) ≡ n
-offset_is n low = ap (λ (bytes : List ℕ). number_at bytes 0 8) (sym (append-nil (word n))) ∙ reads_back 8 n [] (omega (arith, low))
-
-lowest_is : offset_in lowest_key ≡ 0
-unfolding number_at
-lowest_is = refl
-
-begins_empty : (segment : List ℕ) → byte_at segment 0 ≡ 0 → text_at segment 0 ≡ []
-unfolding text_at
-begins_empty [] is = refl
-begins_empty (b ∷ bs) is = rw is refl
 
 -- ---- names that ascend
 
@@ -157,13 +144,6 @@ module _ (s : Space) (table : SymbolTable) (links : List (List ℕ × Target)) (
   there : In offset loose
   there = subst (In offset) (sym group.spared) (in_left offset spare group.more (in_contains offset spare spared))
 
-  segment_short : length segment < 2 ^ 63
-  segment_short =
-      let inside = (heap_inside s table links spare blocks group).1.0 in
-      let long = length-part (segment_block s.bytes table.heap).at (segment_block s.bytes table.heap).len s.bytes inside in
-      let short = group.short in
-      omega (arith, inside, long, short)
-
   -- ---- what is so of the names
 
   abbrev IsNameOf : Entry → Type 0
@@ -177,7 +157,7 @@ module _ (s : Space) (table : SymbolTable) (links : List (List ℕ × Target)) (
       let own : symbols_at s.bytes leaf c ≡ S c = in_all (λ n. symbols_at s.bytes leaf n ≡ S n) c symbol_nodes (only_here [] (symbols_at s.bytes leaf) symbol_nodes) in_list in
       let listed : In e.name names = in_map (λ (x : Entry). x.name) e (flat_map S symbol_nodes) (in_flat S c e symbol_nodes in_list (subst (In e) own in_node)) in
       let low = name_low segment (group.linked).listed.free names texts (key_offsets (reading_of s.bytes kind owned) owned) loose has offset there e.name listed in
-      let short = segment_short in (
+      let short = segment_short s table links spare blocks group in (
         offset_is e.name (omega (arith, low, short)),
         not_named segment (group.linked).listed.free names texts (key_offsets (reading_of s.bytes kind owned) owned) loose has offset there e.name listed,
         inr (inl (contains_in e.name (names ++ texts) (in_left e.name names texts listed))),
@@ -231,21 +211,6 @@ module _ (s : Space) (table : SymbolTable) (links : List (List ℕ × Target)) (
     abbrev Z : Reading
     Z = reading_of t.bytes kind owned
 
-    empty : key_text segment lowest_key ≡ []
-    empty = ap (text_at segment) lowest_is ∙ begins_empty segment has.empty
-
-    texts_of_keys : (es : List Entry) → AllByRecursion IsNameOf es → map (λ (e : Entry). text_at segment e.name) es ≡ map (key_text segment) (name_keys es)
-    texts_of_keys [] all = refl
-    texts_of_keys (e ∷ es) all =
-        ap (λ (n : List ℕ). n ∷ map (λ (x : Entry). text_at segment x.name) es) (ap (text_at segment) (sym all.0.0))
-        ∙ ap (λ (ns : List (List ℕ)). key_text segment (word e.name) ∷ ns) (texts_of_keys es all.1)
-
-    same : AllByRecursion (λ c. names_in S segment (c ∷ []) ≡ map (key_text segment) (entry_keys leaf s.bytes c)) symbol_nodes
-    same = all_in (λ c. names_in S segment (c ∷ []) ≡ map (key_text segment) (entry_keys leaf s.bytes c)) symbol_nodes (λ c in_list.
-        let own : symbols_at s.bytes leaf c ≡ S c = in_all (λ n. symbols_at s.bytes leaf n ≡ S n) c symbol_nodes (only_here [] (symbols_at s.bytes leaf) symbol_nodes) in_list in
-        ap (map (λ (e : Entry). text_at segment e.name)) (append-nil (S c) ∙ sym own)
-        ∙ texts_of_keys (symbols_at s.bytes leaf c) (in_all ListedSo c symbol_nodes all_names_so in_list))
-
     all_names : items_of_tree (λ (b : List (List ℕ)). b) s.bytes kind (names_at_child S segment) level table.tree ≡ names_in S segment symbol_nodes
     all_names =
         items-tree (name_sides (key_text segment)) (λ (b : List (List ℕ)). b) (λ (b : List (List ℕ)). ⊤) (names_at_child S segment) s.bytes kind table.tree level owned symbol_nodes
@@ -258,7 +223,7 @@ module _ (s : Space) (table : SymbolTable) (links : List (List ℕ × Target)) (
     ordered_now : AllByRecursion (λ at. IsOrdered Z S segment (Z at)) owned
     ordered_now =
         group_ordered t.bytes kind table.tree level owned symbol_nodes is.tree S segment
-        (group_retired hit (entry_keys leaf) s t kind table.tree level owned symbol_nodes (group.linked).tree is S segment empty same ascend
+        (group_retired hit (entry_keys leaf) s t kind table.tree level owned symbol_nodes (group.linked).tree is S segment (lowest_empty s table links spare blocks group) (texts_same s table links spare blocks group) ascend
         (group_in_order s.bytes kind table.tree level owned symbol_nodes (group.linked).tree S segment (group.linked).listed.ordered)).0
 
     -- ---- each key names a text still

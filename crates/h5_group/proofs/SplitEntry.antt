@@ -3,15 +3,18 @@
 use Rattle.std.proofs.Common.{◌≡◌, ◌≢◌, ◌⊎◌, inl, inr, ℕ, zero, suc, ◌+◌, ◌*◌, ◌^◌, ◌<◌, ◌≤◌, IsTrue, List, [], ◌∷◌, ◌++◌, map, length, get_or, take, drop, refl, sym, ap, ◌∙◌, subst, arith}
 use Rattle.std.specs.List.{AllByRecursion, insert, flat_map}
 use Rattle.std.proofs.lemmas.List.{drop-map, length-map, take-append-drop, take-map}
+use Rattle.h5_bytes.specs.Numbers.{word}
 use Rattle.h5_bytes.specs.Texts.{text_at}
 use Rattle.h5_bytes.specs.declared.Block.{Block}
 use Rattle.h5_model.specs.Format.Addresses.{SymbolTable}
 use Rattle.h5_model.specs.Format.Superblock.{leaf_k}
 use Rattle.h5_model.specs.Format.Heap.{KeyNames, segment_of}
 use Rattle.h5_model.specs.Format.Links.{Before, offset_in}
-use Rattle.h5_model.specs.Format.Nodes.{Kind, node_at}
+use Rattle.h5_model.specs.Format.Nodes.{Kind, group_kind, node_at}
 use Rattle.h5_model.specs.Format.Symbols.{Entry, IsEntry, Target, link_of, symbols_at, symbols_of, texts_of}
 use Rattle.h5_model.specs.Tree.Paths.{is_name}
+use Rattle.h5_model.proofs.KLaws.{same_internal, same_leaf}
+use Rattle.h5_model.proofs.OneTree.{level_is}
 use Rattle.h5_laws.proofs.Lists.{In, contains_in, in_left, in_map, in_right}
 use Rattle.h5_space.specs.Space.{Space}
 use Rattle.h5_btree.specs.Held.{AreHeldKeys}
@@ -22,17 +25,22 @@ use Rattle.h5_btree.proofs.HalfLists.{halves_long, left_bounds}
 use Rattle.h5_btree.proofs.KeyedGrown.{insert_behind}
 use Rattle.h5_snod.specs.Names.{IsPlace, entry_names}
 use Rattle.h5_group.specs.Edited.{HasEntryPut, HasGroupMoved, IsGroupIn, IsLinkPut, IsWayFor, offsets_of}
+use Rattle.h5_group.specs.Exact.{HasExactKeys, HasKeysFor}
 use Rattle.h5_group.specs.Nodes.Trees.{kind_in}
 use Rattle.h5_group.specs.Split.{IsCutInTwo, follows_in}
 use Rattle.h5_group.proofs.EntryWays.{end_is, end_low, ends_own}
 use Rattle.h5_group.proofs.EntryFrames.{entries_cut}
+use Rattle.h5_group.proofs.ExactTrees.{keys_so, told_so}
 use Rattle.h5_group.proofs.GrownGroup.{entry_grown}
 use Rattle.h5_group.proofs.MovedNames.{names_of}
+use Rattle.h5_group.proofs.NameKeys.{name_low, offset_is}
+use Rattle.h5_group.proofs.NewKeys.{new_low}
+use Rattle.h5_group.proofs.SplitExact.{put_or_old, split_exact, split_filled}
 use Rattle.h5_group.proofs.SplitFrames.{ahead, all_formed, all_moves, behind, new_flat, old_flat}
 use Rattle.h5_group.proofs.SplitNames.{with_last}
 use Rattle.h5_group.proofs.SplitOrder.{cut, ends_then, split_keys, split_names, split_ordered}
 
-insert_cut : {X : Type 0} (xs : List X) (j : ℕ) (x : X) → j ≤ length xs → insert xs j x ≡ take j xs ++ x ∷ drop j xs
+pub insert_cut : {X : Type 0} (xs : List X) (j : ℕ) (x : X) → j ≤ length xs → insert xs j x ≡ take j xs ++ x ∷ drop j xs
 insert_cut xs zero x low = refl
 insert_cut [] (suc j) x low = absurd (omega (arith, low))
 insert_cut {X} (y ∷ ys) (suc j) x low = ap (λ (zs : List X). y ∷ zs) (insert_cut ys j x (omega (arith, low)))
@@ -70,7 +78,7 @@ module _ (s u t : Space) (table : SymbolTable) (e : Entry) (j new : ℕ) (way : 
       IsPlace (entry_names (segment_of s.bytes table.heap) (symbols_at s.bytes (leaf_k s.bytes) node)) (text_at (segment_of s.bytes table.heap) e.name) j
       × (length (symbols_at s.bytes (leaf_k s.bytes) node) ≡ 2 * leaf_k s.bytes)
       × IsCutInTwo s u (leaf_k s.bytes) node j e new
-      × ((front : List Entry) (last : Entry) → symbols_at u.bytes (leaf_k s.bytes) node ≡ front ++ last ∷ [] → offset_in (take 8 keys) ≡ last.name)
+      × ((front : List Entry) (last : Entry) → symbols_at u.bytes (leaf_k s.bytes) node ≡ front ++ last ∷ [] → take 8 keys ≡ word last.name)
 
   module _ (links : List (List ℕ × Target)) (spare : List ℕ) (blocks : List Block) (group : IsGroupIn s table links (offsets_of e ++ spare) blocks)
       (own_ends : EndsInTree s (kind_in s.bytes) table.tree (group.linked).level way (group.linked).owned (group.linked).symbol_nodes w.number)
@@ -115,8 +123,30 @@ module _ (s u t : Space) (table : SymbolTable) (e : Entry) (j new : ℕ) (way : 
     last : (front : List Entry) × (o : Entry) × (left ≡ front ++ o ∷ [])
     last = with_last left long_left
 
+    key_word : take 8 keys ≡ word (last.1).name
+    key_word = here.3 last.0 last.1 ((here.2).left_says ∙ last.2)
+
+    long_right : 1 ≤ length right
+    long_right =
+        let bounds = left_bounds l j in
+        let long = (halves_long E l j (left_count l j) e here.1 low bounds.1).1 in
+        let some = group.leaf_some in
+        omega (arith, long, bounds.1, some)
+
+    in_list : In node listed
+    in_list = subst (In node) (sym (cut s u t table links (offsets_of e ++ spare) blocks group way w.number own_ends new left right here.2 short))
+        (in_right node (take w.number listed) (node ∷ drop (suc w.number) listed) (inl refl))
+
+    -- the last entry on the left is the new one, or one of before
+    last_old : (last.1 ≡ e) ⊎ In last.1 (take j E ++ drop j E)
+    last_old = put_or_old last.1 e (take j E) (drop j E) (subst (In last.1) (insert_cut E j e low)
+        (in_part last.1 (insert E j e) (left_count l j) (subst (In last.1) (sym last.2) (in_right last.1 last.0 (last.1 ∷ []) (inl refl)))))
+
     key_is : offset_in (take 8 keys) ≡ (last.1).name
-    key_is = here.3 last.0 last.1 ((here.2).left_says ∙ last.2)
+    key_is = ap offset_in key_word ∙ offset_is (last.1).name (elim last_old [
+      | inl is ↦ subst (λ (n : ℕ). n < 2 ^ 64) (ap (λ (o : Entry). o.name) (sym is)) (new_low s table links (offsets_of e ++ spare) blocks group e (inl refl) named)
+      | inr old ↦ name_low s table links (offsets_of e ++ spare) blocks group node in_list last.1 (subst (In last.1) (sym was) old)
+    ])
 
     above : AllByRecursion (λ other. Before other (text_at segment e.name)) (map name_of (take j E))
     above = subst (AllByRecursion (λ other. Before other (text_at segment e.name))) (take-map name_of j E) (here.0).above
@@ -163,16 +193,6 @@ module _ (s u t : Space) (table : SymbolTable) (e : Entry) (j new : ℕ) (way : 
     flat_is = old_flat s u table links (offsets_of e ++ spare) blocks group node new (take w.number listed) (drop (suc w.number) listed)
         (cut s u t table links (offsets_of e ++ spare) blocks group way w.number own_ends new left right here.2 short) left right here.2 t height all child_put e (take j E) (drop j E) was halved
 
-    -- the last entry on the left is the new one, or one of before
-    in_left_part : In (last.1) left
-    in_left_part = subst (In last.1) (sym last.2) (in_right last.1 last.0 (last.1 ∷ []) (inl refl))
-
-    put_or_old : (o : Entry) (fs gs : List Entry) → In o (fs ++ e ∷ gs) → (o ≡ e) ⊎ In o (fs ++ gs)
-    put_or_old o [] gs (inl is) = inl (sym is)
-    put_or_old o [] gs (inr at) = inr at
-    put_or_old o (f ∷ fs) gs (inl is) = inr (inl is)
-    put_or_old o (f ∷ fs) gs (inr at) = elim (put_or_old o fs gs at) [ inl is ↦ inl is | inr at' ↦ inr (inr at') ]
-
     in_flat_of : (o : Entry) → In o E → In o flat
     in_flat_of o at =
         let F = flat_map (symbols_at s.bytes l) (take w.number listed) in
@@ -183,8 +203,7 @@ module _ (s u t : Space) (table : SymbolTable) (e : Entry) (j new : ℕ) (way : 
 
     last_may : May (last.1).name
     last_may =
-        let at : In last.1 (take j E ++ e ∷ drop j E) = subst (In last.1) (insert_cut E j e low) (in_part last.1 (insert E j e) (left_count l j) in_left_part) in
-        elim (put_or_old last.1 (take j E) (drop j E) at) [
+        elim last_old [
           | inl is ↦ inr (inr (contains_in (last.1).name (group.linked).listed.loose
               (subst (In (last.1).name) (sym group.spared) (inl (sym (ap (λ (o : Entry). o.name) is))))))
           | inr old ↦ inr (inl (contains_in (last.1).name (names_of flat ++ texts_of flat)
@@ -216,8 +235,35 @@ module _ (s u t : Space) (table : SymbolTable) (e : Entry) (j new : ℕ) (way : 
         (split_keys s u t table links g blocks group way w.number own_ends new left right here.2 short height all child_put keys al ot he e (take j E) (drop j E) last.0 last.1
         was halved last.2 key_is above below w.between May last_may (group.linked).listed.spans.keyed)
 
+    -- AND THE KEYS ARE EXACT
+    pub split_exact_keys : HasKeysFor e.name s.bytes table → HasExactKeys t.bytes table
+    split_exact_keys has =
+        let g = offsets_of e ++ spare in
+        let al = along (own_ends.step) own_ends.above own_ends.way_is in
+        let ot = others table.tree (group.linked).level w.number own listed then_ends in
+        let he = held (own_ends.step) own_ends.above own_ends.way_is in
+        let m = split_put.2 in
+        let leaf_is = same_leaf t.bytes s.bytes m.k in
+        let kind_is : kind_in t.bytes ≡ kind = ap group_kind (same_internal t.bytes s.bytes m.k) in
+        let filled = split_filled s u t table links g blocks group way w.number own_ends new left right here.2 short height all child_put keys al ot he e (take j E) (drop j E) last.0 last.1
+        was halved last.2 key_is above below w.between key_word long_right (inl refl) named long_left has.filled in
+        record {
+          exact = keys_so (λ key. ⊥) t.bytes table l kind height leaf_is kind_is (level_is t.bytes kind table.tree height all nodes child_put.tree)
+              (split_exact s u t table links g blocks group way w.number own_ends new left right here.2 short height all child_put keys al ot he e (take j E) (drop j E) last.0 last.1
+              was halved last.2 key_is above below w.between key_word long_right (inl refl) named has);
+          filled = subst (AllByRecursion (λ at. 1 ≤ length (symbols_at t.bytes (leaf_k t.bytes) at))) (sym (told_so t.bytes table kind height all nodes kind_is child_put.tree))
+              (subst (λ (n : ℕ). AllByRecursion (λ at. 1 ≤ length (symbols_at t.bytes n at)) nodes) (sym leaf_is) filled);
+        }
+
   pub split_all : (at : ℕ) → ((step : Step) (above : List Step) → way ≡ step ∷ above → at ≡ get_or (node_at s.bytes (kind_in s.bytes) step.node).children step.place 0)
       → IsSplitAt at → HasEntryPut s t table e
   split_all at at_end split links spare blocks group new_name =
       let own_ends = ends_own s table links (offsets_of e ++ spare) blocks group w.level way w.owned w.symbol_nodes w.number w.ends in
       split_put links spare blocks group own_ends (subst IsSplitAt (at_end own_ends.step own_ends.above own_ends.way_is) split)
+
+  pub split_all_exact : (at : ℕ) → ((step : Step) (above : List Step) → way ≡ step ∷ above → at ≡ get_or (node_at s.bytes (kind_in s.bytes) step.node).children step.place 0)
+      → IsSplitAt at → (links : List (List ℕ × Target)) (spare : List ℕ) (blocks : List Block) → IsGroupIn s table links (offsets_of e ++ spare) blocks
+      → HasKeysFor e.name s.bytes table → HasExactKeys t.bytes table
+  split_all_exact at at_end split links spare blocks group =
+      let own_ends = ends_own s table links (offsets_of e ++ spare) blocks group w.level way w.owned w.symbol_nodes w.number w.ends in
+      split_exact_keys links spare blocks group own_ends (subst IsSplitAt (at_end own_ends.step own_ends.above own_ends.way_is) split)

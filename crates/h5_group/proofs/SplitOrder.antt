@@ -19,7 +19,7 @@ use Rattle.h5_model.specs.Format.Rows.{Node, Reading}
 use Rattle.h5_model.specs.Format.Symbols.{Entry, Target, symbols_at, symbols_of}
 use Rattle.h5_model.proofs.Frames.{reading-same}
 use Rattle.h5_model.proofs.RowLaws.{at_listed, only_here}
-use Rattle.h5_laws.specs.KeyEdits.{IsPut, IsHeld, LetIn}
+use Rattle.h5_laws.specs.KeyEdits.{IsPut, IsHeld, LetIn, Two}
 use Rattle.h5_laws.specs.NameLadders.{key_text, name_lists, name_sides}
 use Rattle.h5_laws.proofs.KeyInstances.{name_parts, name_through}
 use Rattle.h5_laws.proofs.NameLadders.{name_order, names_under}
@@ -32,7 +32,7 @@ use Rattle.h5_btree.specs.declared.way.Step.{Step}
 use Rattle.h5_btree.proofs.ClimbSteps.{undefined_free}
 use Rattle.h5_btree.proofs.KeyedForms.{group_in_order, group_ordered, names_at_child, names_bottom}
 use Rattle.h5_btree.proofs.KeyedKeys.{put_known}
-use Rattle.h5_btree.proofs.KeyedNames.{AreAscending, ascending_left, ascending_right}
+use Rattle.h5_btree.proofs.KeyedNames.{AreAscending, IsNameGrown, ascending_left, ascending_right}
 use Rattle.h5_btree.proofs.KeyedOrder.{items-tree}
 use Rattle.h5_btree.proofs.KeyedOwn.{keys_count}
 use Rattle.h5_btree.proofs.KeyedPuts.{ComesIn, IsCutIn, put_sorted}
@@ -261,15 +261,15 @@ module _ (s u t : Space) (table : SymbolTable) (links : List (List ℕ × Target
     own_between : AllByRecursion (λ (step : Step). IsBetween segment (node_at s.bytes kind step.node) step.place x) (ends.step ∷ ends.above)
     own_between = subst (AllByRecursion (λ (step : Step). IsBetween segment (node_at s.bytes kind step.node) step.place x)) ends.way_is between
 
-    x_lies : Lies x
+    pub x_lies : Lies x
     x_lies = lies_here x own_between.0
 
-    key_lies : NotAfter (text kk) (text key) × NotAfter (text key) (text jj)
+    pub key_lies : NotAfter (text kk) (text key) × NotAfter (text key) (text jj)
     key_lies = key_between segment e xs ys lf le left right halved last above below key key_is kk jj old_between x_lies
 
     -- ---- the nodes on the way read as before the cut
 
-    way_same : AllByRecursion (λ (step : Step). node_at u.bytes kind step.node ≡ node_at s.bytes kind step.node) (ends.step ∷ ends.above)
+    pub way_same : AllByRecursion (λ (step : Step). node_at u.bytes kind step.node ≡ node_at s.bytes kind step.node) (ends.step ∷ ends.above)
     way_same = subst (AllByRecursion (λ (step : Step). node_at u.bytes kind step.node ≡ node_at s.bytes kind step.node)) ends.way_is
         (below_kept s kind root level way own listed k ends u (nodes_kept s u table links spare blocks group end_node new end_front end_back cut left right halves))
 
@@ -286,7 +286,7 @@ module _ (s u t : Space) (table : SymbolTable) (links : List (List ℕ × Target
     all_top [] = tt
     all_top (st ∷ steps) = (tt, all_top steps)
 
-    admits : AllByRecursion Admits (ends.step ∷ ends.above)
+    pub admits : AllByRecursion Admits (ends.step ∷ ends.above)
     admits = all_three (λ (st : Step). IsBetween segment (node_at s.bytes kind st.node) st.place x) (λ (st : Step). node_at u.bytes kind st.node ≡ node_at s.bytes kind st.node)
         (λ (st : Step). ⊤) Admits admit (ends.step ∷ ends.above) own_between way_same (all_top (ends.step ∷ ends.above))
 
@@ -304,9 +304,13 @@ module _ (s u t : Space) (table : SymbolTable) (links : List (List ℕ × Target
     abbrev Cut : List (List ℕ) → List (List ℕ) → List (List ℕ) → Type 0
     Cut b a c = IsCutIn (name_sides text) (name_order text) Before (name_through text) (name_parts text) Id Top x kk jj lets follows b a key c
 
+    -- the names left and right of the key between the halves
+    pub halves_grown : IsNameGrown text x (map name_of (xs ++ ys)) (Two (map name_of left) key (map name_of right))
+    halves_grown = cut_grown segment e xs ys lf le left right halved last above below key key_is here_rising
+
     is_cut : Cut (names_in F segment (end_node ∷ [])) (names_in G segment (end_node ∷ [])) (names_in G segment (new ∷ []))
     is_cut =
-        let grown = cut_grown segment e xs ys lf le left right halved last above below key key_is here_rising in
+        let grown = halves_grown in
         subst (λ (b : List (List ℕ)). Cut b (names_in G segment (end_node ∷ [])) (names_in G segment (new ∷ []))) (sym at_old)
         (subst (λ (a : List (List ℕ)). Cut (map name_of (xs ++ ys)) a (names_in G segment (new ∷ []))) (sym at_left)
         (subst (λ (c : List (List ℕ)). Cut (map name_of (xs ++ ys)) (map name_of left) c) (sym at_right) (tt, tt, grown.2, grown.3, grown.4)))

@@ -15,7 +15,6 @@ use Rattle.h5_model.specs.Format.Symbols.{Entry, Target, link_of, symbols_at}
 use Rattle.h5_model.specs.Format.Superblock.{leaf_k}
 use Rattle.h5_space.specs.Space.{Space}
 use Rattle.h5_space.specs.Moves.{Spends}
-use Rattle.h5_space.proofs.MovesLaws.{moves_none}
 use Rattle.h5_btree.specs.Removal.{EndsInTree}
 use Rattle.h5_btree.specs.declared.way.Step.{Step}
 use Rattle.h5_btree.proofs.WaySteps.{way_low}
@@ -112,44 +111,35 @@ pub way_short : (s : Space) (kind : Kind) (root level : ℕ) (way : List Step) (
 way_short s kind root level way owned list k e =
     subst (λ (w : List Step). length w ≤ 16) (sym e.way_is) (let low = way_low s kind root level way owned list k e in omega (arith, low))
 
--- ---- nothing happens to a group
+-- ---- an entry goes, its texts are freed, and what is left stays
 
-pub stays_here : (s : Space) (table : SymbolTable) → HasGroupStayed s s table
-stays_here s table links spare blocks g = record {
-  blocks = blocks;
-  group = g;
-  moves = moves_none s blocks;
-  k = refl;
-}
-
--- ---- an entry goes, what is left stays, and its texts are freed
-
-module _ (s t u : Space) (table : SymbolTable) (e : Entry) (r : SymbolEntry) (is : symbol_from e ≡ r) (taken : HasEntryTaken s t table e) (stayed : HasGroupStayed t u table) where
+module _ (s t : Space) (table : SymbolTable) (e : Entry) (r : SymbolEntry) (is : symbol_from e ≡ r) (taken : HasEntryTaken s t table e) where
   abbrev link : List ℕ × Target
   link = link_of (segment_of s.bytes table.heap) e
 
   pub loosened : (links : List (List ℕ × Target)) (spare : List ℕ) (blocks : List Block) → IsGroupIn s table links spare blocks
-      → (links' : List (List ℕ × Target)) × IsLinkPut link links' links × HasGroupMoved s u table blocks links' (offsets_named r ++ spare)
+      → (links' : List (List ℕ × Target)) × IsLinkPut link links' links × HasGroupMoved s t table blocks links' (offsets_named r ++ spare)
   loosened links spare blocks g =
       let first = taken links spare blocks g in
-      let m = first.2 in
-      let second = stayed first.0 (offsets_of e ++ spare) m.blocks m.group in (
-        first.0,
-        first.1,
-        subst (HasGroupMoved s u table blocks first.0) (read_offsets e r spare is)
-            (moved_then s t u table blocks first.0 first.0 (offsets_of e ++ spare) (offsets_of e ++ spare) m second),
-      )
+      (first.0, first.1, subst (HasGroupMoved s t table blocks first.0) (read_offsets e r spare is) first.2)
 
-  pub gone : (v : Space)
-      → ((links : List (List ℕ × Target)) (spare : List ℕ) (blocks : List Block) → IsGroupIn u table links (offsets_named r ++ spare) blocks → HasGroupMoved u v table blocks links spare)
-      → (links : List (List ℕ × Target)) (blocks : List Block) → IsGroupIn s table links [] blocks
-      → (links' : List (List ℕ × Target)) × IsLinkPut link links' links × HasGroupMoved s v table blocks links' []
-  gone v freed links blocks g =
-      let first = loosened links [] blocks g in
-      let m = first.2 in
-      (first.0, first.1, moved_then s u v table blocks first.0 first.0 (offsets_named r ++ []) [] m (freed first.0 [] m.blocks m.group))
+  module _ (u : Space)
+      (freed : (links : List (List ℕ × Target)) (spare : List ℕ) (blocks : List Block) → IsGroupIn t table links (offsets_named r ++ spare) blocks → HasGroupMoved t u table blocks links spare) where
+    pub unnamed : (links : List (List ℕ × Target)) (blocks : List Block) → IsGroupIn s table links [] blocks
+        → (links' : List (List ℕ × Target)) × IsLinkPut link links' links × HasGroupMoved s u table blocks links' []
+    unnamed links blocks g =
+        let first = loosened links [] blocks g in
+        let m = first.2 in
+        (first.0, first.1, moved_then s t u table blocks first.0 first.0 (offsets_named r ++ []) [] m (freed first.0 [] m.blocks m.group))
 
-pub spent_in_turn : (s t u v : Space) (n m : ℕ) → n ≤ m → Spends s t 0 0 → Spends t u 0 n → Spends u v 0 0 → Spends s v 0 m
+    pub gone : (v : Space) → HasGroupStayed u v table → (links : List (List ℕ × Target)) (blocks : List Block) → IsGroupIn s table links [] blocks
+        → (links' : List (List ℕ × Target)) × IsLinkPut link links' links × HasGroupMoved s v table blocks links' []
+    gone v stayed links blocks g =
+        let first = unnamed links blocks g in
+        let m = first.2 in
+        (first.0, first.1, moved_then s u v table blocks first.0 first.0 [] [] m (stayed first.0 [] m.blocks m.group))
+
+pub spent_in_turn : (s t u v : Space) (n m : ℕ) → n ≤ m → Spends s t 0 0 → Spends t u 0 0 → Spends u v 0 n → Spends s v 0 m
 spent_in_turn s t u v n m low first second third = record {
   grown = omega (arith, first.grown, second.grown, third.grown);
   bytes_left = omega (arith, first.bytes_left, second.bytes_left, third.bytes_left);

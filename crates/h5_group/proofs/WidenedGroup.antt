@@ -49,7 +49,7 @@ use Rattle.h5_group.proofs.WidenedKeys.{between_now, empty_text, gives_way, high
 
 -- ---- lists
 
-all_both : {X : Type 0} (P Q R : X → Type 0) (xs : List X) → ((x : X) → P x → Q x → R x) → AllByRecursion P xs → AllByRecursion Q xs → AllByRecursion R xs
+pub all_both : {X : Type 0} (P Q R : X → Type 0) (xs : List X) → ((x : X) → P x → Q x → R x) → AllByRecursion P xs → AllByRecursion Q xs → AllByRecursion R xs
 all_both P Q R [] both ps qs = tt
 all_both P Q R (x ∷ xs) both ps qs = (both x ps.0 qs.0, all_both P Q R xs both ps.1 qs.1)
 
@@ -83,7 +83,7 @@ way_covered kind owned (step ∷ way) listed p none =
 -- ---- the nodes on the way
 
 module _ (V : Reading) (new : List ℕ) (kind : Kind) (behind : List ℕ → Bool) (low high : List ℕ) where
-  abbrev IsWide : Step → Type 0
+  abbrev pub IsWide : Step → Type 0
   IsWide step = node_at new kind step.node ≡ widened (end_at V behind true step) low high (V step.node)
 
   -- one of them, or another node
@@ -155,22 +155,22 @@ module _ (s t : Space) (table : SymbolTable) (name : List ℕ) (way : List Step)
 
   -- ---- the way ends in the group's own tree
 
-  e : EndsInTree s kind table.tree level way owned symbol_nodes w.number
+  pub e : EndsInTree s kind table.tree level way owned symbol_nodes w.number
   e = ends_own s table links spare blocks group w.level way w.owned w.symbol_nodes w.number w.ends
 
-  ends_now : EndsInTree t kind table.tree level way owned symbol_nodes w.number
+  pub ends_now : EndsInTree t kind table.tree level way owned symbol_nodes w.number
   ends_now = tree table.tree level w.number owned symbol_nodes e
 
-  each : AllByRecursion (IsWide V t.bytes kind behind low high) way
+  pub each : AllByRecursion (IsWide V t.bytes kind behind low high) way
   each = wide_each s.bytes t.bytes kind behind low high way wide.keys
 
-  chosen : AllByRecursion (IsChosen V behind) way
+  pub chosen : AllByRecursion (IsChosen V behind) way
   chosen = way_chosen V behind w.level table.tree way w.sought
 
   empty : key_text segment low ≡ []
   empty = ap (text_at segment) low_is ∙ empty_text segment (group.linked).listed.spans.empty
 
-  own : key_text segment high ≡ name
+  pub own : key_text segment high ≡ name
   own = ap (text_at segment) high_is ∙ text
 
   -- ---- the keys are in order still
@@ -184,7 +184,7 @@ module _ (s t : Space) (table : SymbolTable) (name : List ℕ) (way : List Step)
   abbrev Base : Bottoms → Type 0
   Base b = ⊤
 
-  keeps : (n : ℕ) → Owns owned n → AllByRecursion (λ (step : Step). n ≢ step.node) way → KeepsEntries s.bytes t.bytes kind n
+  pub keeps : (n : ℕ) → Owns owned n → AllByRecursion (λ (step : Step). n ≢ step.node) way → KeepsEntries s.bytes t.bytes kind n
   keeps n owns apart =
       let same = others table.tree level w.number owned symbol_nodes e n owns apart in
       (ap (λ (o : Node). o.keys) same, ap (λ (o : Node). o.children) same, ap (λ (o : Node). o.level) same)
@@ -218,16 +218,16 @@ module _ (s t : Space) (table : SymbolTable) (name : List ℕ) (way : List Step)
   abbrev trees : List Block
   trees = tree_blocks kind owned
 
-  moved : Moves s t trees trees
+  pub moved : Moves s t trees trees
   moved = moves_wider s t (way_blocks kind way) trees (way_covered kind owned way (way_owned s kind table.tree level way owned symbol_nodes w.number e)) wide.moves
 
-  leaf_same : leaf_k t.bytes ≡ leaf_k s.bytes
+  pub leaf_same : leaf_k t.bytes ≡ leaf_k s.bytes
   leaf_same = leaf_now s t table links spare blocks group moved
 
-  kind_same : kind_in t.bytes ≡ kind
+  pub kind_same : kind_in t.bytes ≡ kind
   kind_same = kind_now s t table links spare blocks group moved
 
-  segment_same : segment_of t.bytes table.heap ≡ segment
+  pub segment_same : segment_of t.bytes table.heap ≡ segment
   segment_same = (heap_kept s t table links spare blocks group moved).1
 
   -- ---- each key names a text still

@@ -1,6 +1,6 @@
 -- The keys around a child to which the way to a name goes, where the first key of its node falls to the empty name and the last one rises to
 -- the name, if these do not let it in: then the name lies between them.
-use Rattle.std.proofs.Common.{◌≡◌, ℕ, suc, ◌+◌, Bool, true, false, List, [], ◌∷◌, ◌++◌, length, take, drop, get_or, refl, sym, ap, ◌∙◌, subst, arith, Ordering, Less, Equal, Greater}
+use Rattle.std.proofs.Common.{◌≡◌, ◌⊎◌, inl, inr, ℕ, suc, ◌+◌, Bool, true, false, List, [], ◌∷◌, ◌++◌, length, take, drop, get_or, refl, sym, ap, ◌∙◌, subst, arith, Ordering, Less, Equal, Greater}
 use Rattle.std.specs.Prelude.{IsTrue, if◌then◌else◌}
 use Rattle.std.specs.Ordering.{nat_cmp, is_lt, is_le, ordering_reverse}
 use Rattle.std.specs.Cmp.Lexicographic.{slice_cmp, nat_list_cmp_total}
@@ -15,7 +15,7 @@ use Rattle.h5_laws.proofs.NameLadders.{name_order}
 use Rattle.h5_btree.specs.Descent.{IsChildFor}
 use Rattle.h5_btree.specs.Widened.{widened}
 use Rattle.h5_btree.proofs.KeyedEases.{GivesWay}
-use Rattle.h5_btree.proofs.EndKeys.{end_keys, first_gives, first_place, high_kept, high_key, high_stands, last_gives, last_on, last_place, low_kept, low_key, low_stands}
+use Rattle.h5_btree.proofs.EndKeys.{end_keys, first_gives, first_off, first_place, high_kept, high_key, high_stands, last_gives, last_on, last_place, low_kept, low_key, low_stands}
 use Rattle.h5_btree.proofs.KeyedEnds.{ends_give}
 use Rattle.h5_btree.proofs.NameFound.{name_behind}
 
@@ -106,3 +106,26 @@ module _ (segment name : List ℕ) (node : Node) (i : ℕ) (chosen : IsChildFor 
         subst (λ (k : List ℕ). Before (key_text segment k) name) (sym (low_stands behind node i true low high chosen long new is)) right,
         subst (λ (k : List ℕ). NotAfter name (key_text segment k)) (sym next) left,
       )
+
+  -- an end key gives way only where it does not let the name in
+  pub lets_now : ((low_now ≡ get_or node.keys i []) ⊎ ((i ≡ 0) × (low_now ≡ low) × (Before (key_text segment (get_or node.keys i [])) (key_text segment high) → ⊥)))
+      × ((high_now ≡ get_or node.keys (suc i) []) ⊎ ((suc i ≡ length node.children) × (high_now ≡ high)))
+      × Before (key_text segment low_now) (key_text segment high) × NotAfter (key_text segment high) (key_text segment high_now)
+  lets_now = (
+    at_first first refl,
+    at_last last refl,
+    subst (Before (key_text segment low_now)) (sym own) right,
+    subst (λ (t : List ℕ). NotAfter t (key_text segment high_now)) (sym own) left,
+  ) where
+    at_first : (b : Bool) → first ≡ b
+        → ((if b then low else kk) ≡ kk) ⊎ ((i ≡ 0) × ((if b then low else kk) ≡ low) × (Before (key_text segment kk) (key_text segment high) → ⊥))
+    at_first true is = inr (
+      first_place behind node i true low high is,
+      refl,
+      λ before. let on : behind kk ≡ true = subst (Before (key_text segment kk)) own before in let never : true ≡ false = sym on ∙ first_off behind node i true low high is in cc,
+    )
+    at_first false is = inl refl
+
+    at_last : (b : Bool) → last ≡ b → ((if b then high else jj) ≡ jj) ⊎ ((suc i ≡ length node.children) × ((if b then high else jj) ≡ high))
+    at_last true is = inr (last_place behind node i true low high is, refl)
+    at_last false is = inl refl

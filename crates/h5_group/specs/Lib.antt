@@ -15,3 +15,4 @@ pub mod Writing
 pub use Rattle.h5_heap.specs.Writing as Heap
 pub mod Split
 pub mod Retired
+pub mod Exact

@@ -1,5 +1,5 @@
 -- The way to a name in the tree of a group (File Format Specification 3.0, section III.A.1).
-use Rattle.std.specs.Prelude.{ℕ, Bool, List}
+use Rattle.std.specs.Prelude.{◌≡◌, ℕ, Bool, List, ◌∷◌}
 use Rattle.std.specs.Cmp.Lexicographic.{slice_cmp}
 use Rattle.std.specs.List.{Contains}
 use Rattle.std.specs.Ordering.{is_lt, nat_cmp}
@@ -14,8 +14,10 @@ use Rattle.h5_space.specs.Space.{Space}
 use Rattle.h5_btree.specs.Descent.{IsWayTo}
 use Rattle.h5_btree.specs.Removal.{EndsInTree}
 use Rattle.h5_btree.specs.declared.way.Step.{Step}
-use Rattle.h5_group.specs.Edited.{IsGroupIn}
+use Rattle.h5_group.specs.Edited.{IsGroupIn, node_below}
+use Rattle.h5_group.specs.Nodes.Stands.{entries_at}
 use Rattle.h5_group.specs.Nodes.Trees.{kind_in}
+use Rattle.h5_group.specs.Told.{symbol_nodes_told}
 
 -- whether a name stands behind a key of the group's tree
 abbrev pub behind_in : List ℕ → SymbolTable → List ℕ → List ℕ → Bool
@@ -37,3 +39,12 @@ pub record IsWayOf (s : Space) (table : SymbolTable) (name : List ℕ) (way : Li
 abbrev pub HasSpare : Space → SymbolTable → ℕ → Type 0
 HasSpare s table offset =
     (links : List (List ℕ × Target)) × (spare : List ℕ) × (blocks : List Block) × IsGroupIn s table links spare blocks × Contains spare offset
+
+-- Each way down the group's tree is one still, and leads to the same symbol node; and all symbol nodes have the entries that they had.
+pub record AreWaysKept (old new : Space) (table : SymbolTable) : Type 0 where
+  pub ways : (way : List Step) (level : ℕ) (owned list : List ℕ) (number : ℕ) → EndsInTree old (kind_in old.bytes) table.tree level way owned list number
+      → EndsInTree new (kind_in new.bytes) table.tree level way owned list number
+  pub below : (step : Step) (above : List Step) (level : ℕ) (owned list : List ℕ) (number : ℕ)
+      → EndsInTree old (kind_in old.bytes) table.tree level (step ∷ above) owned list number → node_below new table step ≡ node_below old table step
+  pub told : symbol_nodes_told new.bytes table ≡ symbol_nodes_told old.bytes table
+  pub entries : (node : ℕ) → Contains (symbol_nodes_told old.bytes table) node → entries_at new.bytes node ≡ entries_at old.bytes node

@@ -10,4 +10,5 @@ mod texts;
 mod way;
 
 pub use put::{is_too_deep, put_link, put_reserved, reserve_link};
+pub(crate) use retire::KeysOf;
 pub use take::remove_link;

@@ -5,6 +5,7 @@
 #![tactic(auto)]
 
 mod edit;
+mod exact;
 mod group;
 mod link;
 mod list;
@@ -16,6 +17,7 @@ mod texts;
 mod write;
 
 pub use edit::{is_too_deep, put_link, put_reserved, remove_link, reserve_link};
+pub use exact::has_exact_keys;
 pub use group::read_group;
 pub use h5_btree::InsertFault;
 pub use h5_msg::{SymbolTable, read_symbol_table};

@@ -8,7 +8,7 @@ use Rattle.h5_bytes.specs.declared.Block.{Block}
 use Rattle.h5_bytes.proofs.BlockLaws.{all_so}
 use Rattle.h5_model.specs.Format.Addresses.{SymbolTable}
 use Rattle.h5_model.specs.Format.Heap.{heap_blocks}
-use Rattle.h5_model.specs.Format.Nodes.{group_kind, tree_blocks}
+use Rattle.h5_model.specs.Format.Nodes.{HasTree, group_kind, tree_blocks}
 use Rattle.h5_model.specs.Format.PlainLength.{nodes_over}
 use Rattle.h5_model.specs.Format.Sizes.{group_node, symbol_node}
 use Rattle.h5_model.specs.Format.Superblock.{AreK, internal_k, leaf_k}
@@ -19,10 +19,13 @@ use Rattle.h5_btree.specs.Writing.Laws.{HasPlainNodes}
 use Rattle.h5_btree.specs.Writing.Written.{root_level}
 use Rattle.h5_heap.proofs.WriteLaws.Lengths.{segment_length_is}
 use Rattle.h5_heap.specs.Writing.Written.{written_segment}
+use Rattle.h5_group.specs.Exact.{HasExactKeys}
 use Rattle.h5_group.specs.Links.{IsGroupRead}
+use Rattle.h5_group.specs.Nodes.Trees.{kind_in}
 use Rattle.h5_group.specs.Told.{blocks_told, links_told, nodes_told, symbol_nodes_told}
 use Rattle.h5_group.specs.Writing.Laws.{ArePlainLinks, IsPlainGroup}
 use Rattle.h5_group.specs.Writing.Written.{heap_place, links_bytes, links_length, symbol_nodes, tree_level}
+use Rattle.h5_group.proofs.ExactTrees.{bare_keys}
 use Rattle.h5_group.proofs.ToldLaws.{blocks_are_told, links_are_told, nodes_are_told, symbol_nodes_are_told, told_linked}
 use Rattle.h5_group.proofs.WriteLaws.GroupReads.{links_read, plain_tree, whole_run}
 use Rattle.h5_group.proofs.WriteLaws.Lengths.{links_length_is}
@@ -32,11 +35,12 @@ use Rattle.h5_group.proofs.WriteLaws.Runs.{length-runs}
 abbrev pub bare_table : ℕ → ℕ → SymbolTable
 bare_table internal at = record { tree = at; heap = at + group_node internal }
 
--- The group at this place is read, has no links, and has its blocks one behind another.
+-- The group at this place is read, has no links and exact keys, and has its blocks one behind another.
 pub record IsBareGroup (image : List ℕ) (internal at : ℕ) : Type 0 where
   pub read : IsGroupRead image (bare_table internal at)
   pub none : links_told image (bare_table internal at) ≡ []
   pub run : Run at (blocks_told image (bare_table internal at)) (at + (group_node internal + 120))
+  pub exact : HasExactKeys image (bare_table internal at)
 
 -- what is taken whole ends within the list
 part_ends : (at len : ℕ) (bytes : List ℕ) → 1 ≤ len → length (part at len bytes) ≡ len → at + len ≤ length bytes
@@ -137,6 +141,9 @@ module _ (image : List ℕ) (at : ℕ) (k : AreK (leaf_k image) (internal_k imag
       (subst (λ (n : ℕ). Run at (tree_blocks (group_kind internal) tree.owned ++ (heap_blocks image heap ++ [])) (at + n)) (bare_length leaf internal k)
       (whole_run image leaf internal at [] plain short stands))
 
+  no_levels : HasTree image (kind_in image) at 0 tree.owned []
+  no_levels = subst (λ (l : ℕ). HasTree image (kind_in image) at l tree.owned []) (root_level_is internal 0 ∙ level_one 64 (2 * internal) 0 (omega arith)) tree.tree
+
   bare_read : IsBareGroup image internal at
   bare_read =
       let place = bare_heap leaf internal k at in
@@ -144,6 +151,7 @@ module _ (image : List ℕ) (at : ℕ) (k : AreK (leaf_k image) (internal_k imag
         read = subst (λ (h : ℕ). IsGroupRead image (record { tree = at; heap = h })) place read;
         none = subst (λ (h : ℕ). links_told image (record { tree = at; heap = h }) ≡ []) place (sym (links_are_told image table [] group.blocks group.linked));
         run = subst (λ (h : ℕ). Run at (blocks_told image (record { tree = at; heap = h })) (at + (group_node internal + 120))) place run;
+        exact = bare_keys image (bare_table internal at) tree.owned no_levels;
       }
 
 -- the same by numbers that are these K

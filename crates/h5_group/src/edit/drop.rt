@@ -1,11 +1,12 @@
 //! A symbol node without entries, taken out of a group's tree (File Format Specification 3.0, sections III.A.1 and III.B).
 
 ghost use Rattle.std.specs.Prelude.{◌≡◌, ℕ, ◌≤◌, List, [], ◌∷◌, length};
-ghost use Rattle.h5_model.specs.Format.Heap.{segment_of};
+ghost use Rattle.h5_model.specs.Format.Heap.{heap_header, segment_of};
 ghost use Rattle.h5_space.specs.Moves.{Spends};
 ghost use Rattle.h5_btree.specs.Removal.{EndsInTree};
 ghost use Rattle.h5_btree.specs.declared.way.Step.{Step};
-ghost use Rattle.h5_group.specs.Edited.{HasGroupStayed, IsSomeGroup, entries_below};
+ghost use Rattle.h5_group.specs.Edited.{HasGroupStayed, IsSomeGroup, entries_below, node_below};
+ghost use Rattle.h5_group.specs.Exact.{AreFilledBut, AreGroupKeys, HasExactKeys};
 ghost use Rattle.h5_group.specs.Nodes.Trees.{kind_in};
 
 use crate::edit::way::node_at_end;
@@ -27,6 +28,11 @@ pub(crate) fn drop_symbol_node(image: &mut Image, table: SymbolTable, way: &Way)
         → entries_below image.old table step ≡ [] }
     requires blocks { length way.now ≤ image.old.room_blocks }
     ensures stayed { HasGroupStayed image.old image.new table }
+    ensures exact { (step : Step) (above : List Step) → way.now ≡ step ∷ above
+        → AreGroupKeys (λ key. ⊥) image.old.bytes table
+        → AreFilledBut (node_below image.old table step) image.old.bytes table
+        → HasExactKeys image.new.bytes table }
+    ensures header { heap_header image.new.bytes table.heap ≡ heap_header image.old.bytes table.heap }
     ensures segment { segment_of image.new.bytes table.heap ≡ segment_of image.old.bytes table.heap }
     ensures spends { Spends image.old image.new 0 (length way.now) }
 {

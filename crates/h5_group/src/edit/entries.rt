@@ -12,6 +12,7 @@ ghost use Rattle.h5_btree.specs.declared.way.Step.{Step};
 ghost use Rattle.h5_snod.specs.Names.{IsPlace, entry_names};
 ghost use Rattle.h5_snod.specs.Written.{entry_from};
 ghost use Rattle.h5_group.specs.Edited.{HasEntryPut, HasEntryTaken, IsEntryFor, IsGroupIn, IsNewName, IsSomeGroup, IsWayFor, entries_below, heap_text, node_below};
+ghost use Rattle.h5_group.specs.Exact.{AreExactBut, AreFilledBut, AreKeysLooked, HasExactKeys, HasKeysFor};
 ghost use Rattle.h5_group.specs.Nodes.Trees.{kind_in};
 ghost use Rattle.h5_group.specs.Told.{symbol_nodes_told};
 
@@ -34,6 +35,7 @@ pub(crate) fn put_entry(image: &mut Image, table: SymbolTable, way: &Way, symbol
     requires room { (step : Step) (above : List Step) → way.now ≡ step ∷ above
         → length (entries_below image.old table step) < 2 * leaf_of image.old.bytes }
     ensures put { HasEntryPut image.old image.new table (entry_from symbol) }
+    ensures exact { HasKeysFor symbol.name image.old.bytes table → HasExactKeys image.new.bytes table }
     ensures segment { segment_of image.new.bytes table.heap ≡ segment_of image.old.bytes table.heap }
     ensures spends { Spends image.old image.new 0 0 }
 {
@@ -51,6 +53,14 @@ pub(crate) fn take_entry(image: &mut Image, table: SymbolTable, node: u64, k: us
     ensures taken { (e : Entry)
         → slice_get (symbols_at image.old.bytes (leaf_of image.old.bytes) node) k ≡ Some e
         → HasEntryTaken image.old image.new table e }
+    ensures exact { (e : Entry)
+        → slice_get (symbols_at image.old.bytes (leaf_of image.old.bytes) node) k ≡ Some e
+        → HasExactKeys image.old.bytes table
+        → (way : List Step) (level : ℕ) (owned list : List ℕ) (number : ℕ)
+        → EndsInTree image.old (kind_in image.old.bytes) table.tree level way owned list number
+        → ((step : Step) (above : List Step) → way ≡ step ∷ above → node ≡ node_below image.old table step)
+        → AreExactBut e.name image.new.bytes table × AreKeysLooked e.name (Some way) image.new.bytes table
+        × AreFilledBut node image.new.bytes table }
     ensures ways { (way : List Step) (level : ℕ) (owned list : List ℕ) (number : ℕ)
         → EndsInTree image.old (kind_in image.old.bytes) table.tree level way owned list number
         → EndsInTree image.new (kind_in image.new.bytes) table.tree level way owned list number }

@@ -18,6 +18,7 @@ ghost use Rattle.h5_btree.specs.Removal.{EndsInTree};
 ghost use Rattle.h5_btree.specs.declared.way.Step.{Step};
 ghost use Rattle.h5_snod.specs.Written.{entry_from};
 ghost use Rattle.h5_group.specs.Edited.{HasEntryPut, HasGroupMoved, IsEntryFor, IsGroupIn, IsLinkPut, IsNewName, IsSomeGroup, entries_below, heap_text, offsets_of};
+ghost use Rattle.h5_group.specs.Exact.{HasExactKeys};
 ghost use Rattle.h5_group.specs.KeptNodes.{AreNodesKept};
 ghost use Rattle.h5_group.specs.LinkEdits.{IsFullFor, IsGroupApart, IsPlainLead, link_room as room_of, place_target};
 ghost use Rattle.h5_group.specs.Links.{HasNone};
@@ -73,6 +74,8 @@ pub fn put_link(
     ensures moves { OnOk result (Moves image.old image.new (blocks_told image.old.bytes table)
         (blocks_told image.new.bytes table)) }
     ensures k { OnOk result (k_values image.new.bytes ≡ k_values image.old.bytes) }
+    ensures exact { OnOk result (HasExactKeys image.old.bytes table
+        → HasExactKeys image.new.bytes table) }
     ensures spends { OnOk result (Spends image.old image.new
         (room_of image.old.bytes table (span (name_and_leads link.now))) 20) }
     ensures deep { (result ≡ Err InsertFault.TreeTooDeep)
@@ -159,6 +162,7 @@ pub fn put_reserved(image: &mut Image, table: SymbolTable, link: &Link<'_, Objec
     ensures moves { Moves image.old image.new (blocks_told image.old.bytes table)
         (blocks_told image.new.bytes table) }
     ensures k { k_values image.new.bytes ≡ k_values image.old.bytes }
+    ensures exact { HasExactKeys image.old.bytes table → HasExactKeys image.new.bytes table }
     ensures spends { Spends image.old image.new
         (room_of image.old.bytes table (span (name_and_leads link.now))) 20 }
 {
@@ -234,6 +238,7 @@ fn put_in_room(image: &mut Image, table: SymbolTable, link: &Link<'_, ObjectPlac
         → (links' : List (List ℕ × Target))
         × IsLinkPut (target_link (name_and_leads link.now)) links links'
         × HasGroupMoved image.old image.new table blocks links' [] }
+    ensures exact { HasExactKeys image.old.bytes table → HasExactKeys image.new.bytes table }
     ensures spends { Spends image.old image.new (room_of image.old.bytes table (span (name_and_leads
         link.now)))
         20 }
@@ -348,6 +353,7 @@ fn put_below(image: &mut Image, table: SymbolTable, way: &Way, name: &[u8], symb
         + (symbol_length (leaf_k image.old.bytes) + (length way.now
         + 1) * node_length (kind_in image.old.bytes)) ≤ 2 ^ 31 }
     ensures put { HasEntryPut image.old image.new table (entry_from symbol) }
+    ensures exact { HasExactKeys image.old.bytes table → HasExactKeys image.new.bytes table }
     ensures spends { Spends image.old image.new
         (symbol_length (leaf_k image.old.bytes) + (length way.now
         + 1) * node_length (kind_in image.old.bytes))

@@ -2,8 +2,8 @@
 
 ghost use Rattle.std.specs.Prelude.{◌≡◌, ℕ, ◌+◌, ◌*◌, ◌^◌, ◌<◌, ◌≤◌, List, [], ◌∷◌, ◌++◌, drop, length, take};
 ghost use Rattle.h5_bytes.specs.Blocks.{Inside};
+ghost use Rattle.h5_bytes.specs.Numbers.{word};
 ghost use Rattle.h5_model.specs.Format.Heap.{heap_blocks, segment_of};
-ghost use Rattle.h5_model.specs.Format.Links.{offset_in};
 ghost use Rattle.h5_model.specs.Format.Nodes.{node_at, node_length};
 ghost use Rattle.h5_model.specs.Format.Superblock.{leaf_k as leaf_of};
 ghost use Rattle.h5_model.specs.Format.Symbols.{Entry, IsSymbolNode, symbol_block, symbol_bytes, symbols_at};
@@ -15,6 +15,7 @@ ghost use Rattle.h5_btree.specs.Insertion.{IsFullWay};
 ghost use Rattle.h5_btree.specs.Removal.{EndsSomewhere};
 ghost use Rattle.h5_btree.specs.declared.way.Step.{Step};
 ghost use Rattle.h5_group.specs.Edited.{HasEntryPut, IsEntryFor, IsWayFor, entries_below, heap_text};
+ghost use Rattle.h5_group.specs.Exact.{HasExactKeys, HasKeysFor};
 ghost use Rattle.h5_group.specs.Nodes.Trees.{kind_in};
 ghost use Rattle.h5_group.specs.Split.{AreHalves, AreNewSymbols, IsCutInTwo, follows_in};
 
@@ -44,12 +45,13 @@ pub(crate) fn put_first_entry(image: &mut Image, table: SymbolTable, symbol: New
     requires blocks { 1 ≤ image.old.room_blocks }
     requires short { length image.old.bytes + (8 + 80 * leaf_of image.old.bytes) < 2 ^ 63 }
     ensures put { HasEntryPut image.old image.new table (entry_from symbol) }
+    ensures exact { HasExactKeys image.new.bytes table }
     ensures spends { Spends image.old image.new (8 + 80 * leaf_of image.old.bytes) 1 }
 {
     let kind = group_kind(image);
     let leaf = leaf_k(image.bytes());
     let new = new_symbols(image, leaf, symbol);
-    let name = key_of(symbol.name);
+    let name = symbol.name.to_le_bytes();
     put_first(image, kind, table.tree(), &[0; 8], &name, new);
 }
 
@@ -71,6 +73,7 @@ pub(crate) fn split_entry(image: &mut Image, table: SymbolTable, way: &Way, symb
     requires short { length image.old.bytes + ((8 + 80 * leaf_of image.old.bytes)
         + (length way.now + 1) * node_length (kind_in image.old.bytes)) < 2 ^ 63 }
     ensures put { HasEntryPut image.old image.new table (entry_from symbol) }
+    ensures exact { HasKeysFor symbol.name image.old.bytes table → HasExactKeys image.new.bytes table }
     ensures spends { Spends image.old image.new ((8 + 80 * leaf_of image.old.bytes)
         + (length way.now + 1) * node_length (kind_in image.old.bytes)) (length way.now + 2) }
 {
@@ -101,7 +104,7 @@ fn keys_behind(
     requires heap { Inside (length image.now.bytes) (heap_blocks image.now.bytes table.heap) }
     ensures first { (front : List Entry) (last : Entry)
         → symbols_at image.now.bytes leaf node ≡ front ++ last ∷ []
-        → offset_in (take 8 result) ≡ last.name }
+        → take 8 result ≡ word last.name }
     ensures held { (step : Step) (above : List Step) → way.now ≡ step ∷ above
         → AreHeldKeys image.now.bytes kind (follows_in (segment_of image.now.bytes table.heap)) step.node
         above
@@ -128,15 +131,6 @@ fn last_name(image: &Image, leaf: u16, node: u64) -> u64
     let bytes = image.part(node, 8 + 80 * u64::from(leaf)).unwrap();
     let symbols = known_symbol_node(leaf, bytes);
     symbols.entry(symbols.len() - 1).name
-}
-
-/// The key that names the text at an offset of the heap.
-fn key_of(offset: u64) -> [u8; 8]
-    ensures { offset_in result ≡ offset }
-{
-    let mut key = [0; 8];
-    put_u64(&mut key, 0, offset);
-    key
 }
 
 /// Takes a block for a symbol node of this entry alone, and gives its address.

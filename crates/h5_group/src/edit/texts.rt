@@ -14,6 +14,7 @@ ghost use Rattle.h5_heap.specs.Inserted.{HasInserted, grown_length, needed, need
 ghost use Rattle.h5_group.specs.Edited.{IsGroupIn, IsSomeGroup, IsNamedByNoKey, HasGroupMoved, heap_text};
 ghost use Rattle.h5_group.specs.KeptNodes.{AreNodesKept, keys_told};
 ghost use Rattle.h5_group.specs.Told.{symbol_nodes_told};
+ghost use Rattle.h5_group.specs.Ways.{AreWaysKept};
 
 use h5_heap::{free, insert_in_room};
 use h5_msg::SymbolTable;
@@ -84,6 +85,7 @@ pub(crate) fn free_text(image: &mut Image, table: SymbolTable, offset: u64)
         → IsNamedByNoKey image.old table links (offset ∷ spare) blocks group offset
         → AreNodesKept image.old image.new table (group.linked).owned }
     ensures keys { keys_told image.new.bytes table ≡ keys_told image.old.bytes table }
+    ensures ways { AreWaysKept image.old image.new table }
     ensures released { HasReleased image.old.bytes image.new.bytes table.heap offset
         (span_of (segment_of image.old.bytes table.heap) offset).len }
     ensures spends { Spends image.old image.new 0 0 }

@@ -18,6 +18,7 @@ ghost use Rattle.h5_btree.specs.Removal.{EndsInTree};
 ghost use Rattle.h5_btree.specs.Widened.{ends_along};
 ghost use Rattle.h5_btree.specs.declared.way.Step.{Step};
 ghost use Rattle.h5_group.specs.Edited.{HasGroupMoved, IsGroupIn, IsSomeGroup, IsWayFor, entries_below, heap_text, node_below};
+ghost use Rattle.h5_group.specs.Exact.{HasExactKeys, HasKeysFor};
 ghost use Rattle.h5_group.specs.Nodes.Trees.{kind_in};
 ghost use Rattle.h5_group.specs.Told.{symbol_nodes_told};
 ghost use Rattle.h5_group.specs.Ways.{HasSpare, IsWayOf, behind_of};
@@ -103,6 +104,7 @@ pub(crate) fn widen_for(image: &mut Image, table: SymbolTable, way: &Way, name: 
     ensures group { (links : List (List ℕ × Target)) (spare : List ℕ) (blocks : List Block)
         → IsGroupIn image.old table links spare blocks → Contains spare offset
         → HasGroupMoved image.old image.new table blocks links spare }
+    ensures exact { HasExactKeys image.old.bytes table → HasKeysFor offset image.new.bytes table }
     ensures below { (step : Step) (above : List Step) → way.now ≡ step ∷ above
         → (node_below image.new table step ≡ node_below image.old table step)
         × (entries_below image.new table step ≡ entries_below image.old table step) }

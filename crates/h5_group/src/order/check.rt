@@ -45,6 +45,7 @@ pub fn check_order(
         IsOrderRefused image.now.bytes table tree.now.nodes.items tree.now.leaves.items fault.cause
         fault.address) }
 {
+    // That names ascend is known below, where the first and the last of a node are compared for all of them.
     check_names(image, segment, &tree.leaves)?;
     let root = table.tree();
     let level = tree_node(image, root).level();

@@ -4,12 +4,12 @@ ghost use Rattle.std.specs.Prelude.{◌≡◌, ◌↔◌, ℕ, IsTrue, List, [],
 ghost use Rattle.std.specs.List.{AllByRecursion};
 ghost use Rattle.h5_model.specs.Format.Superblock.{IsSuperblock, leaf_k};
 ghost use Rattle.h5_model.specs.Format.Symbols.{symbols_at};
-ghost use Rattle.h5_model.specs.Format.Links.{NotAfter, offset_in};
+ghost use Rattle.h5_model.specs.Format.Links.{Before, NotAfter, offset_in};
 ghost use Rattle.h5_laws.specs.Ladders.{IsOrderedBy, LieBetween, all_of};
 ghost use Rattle.h5_laws.specs.NameLadders.{key_text, name_lists, name_sides};
 ghost use Rattle.h5_btree.specs.Walk.Below.{IsBottom, reading_in};
 ghost use Rattle.h5_btree.specs.Walk.Forms.{OfGroup};
-ghost use Rattle.h5_group.specs.Order.Between.{LiesBetween, names_at};
+ghost use Rattle.h5_group.specs.Order.Between.{LiesBetween, NamesAscend, names_at};
 
 use crate::nodes::{group_kind, symbol_node};
 use crate::order::text::{is_before, is_not_after};
@@ -45,6 +45,8 @@ impl Ordered for Names<'_> {
 
     ghost bottom = { λ s image. name_lists (symbols_at image (leaf_k image)) s.segment.now };
 
+    ghost known = { λ s image node. NamesAscend image s.segment.now node.children };
+
     fn is_ordered(&self, image: &Image, node: &Node<'_>) -> bool {
         are_ordered(image, self.segment, node)
     }
@@ -64,10 +66,12 @@ impl Ordered for Names<'_> {
 }
 
 /// Whether the keys of a node of level 0 do not fall, and the names of each symbol node lie between those around it.
+/// All its names ascend.
 fn are_ordered(image: &Image, segment: &[u8], node: &Node) -> bool
     requires superblock { IsSuperblock image.now.bytes }
     requires level { node.now.level ≡ 0 }
     requires leaves { AllByRecursion (IsBottom image.now.bytes OfGroup) node.now.children }
+    requires ascend { NamesAscend image.now.bytes segment.now node.now.children }
     ensures { IsTrue result ↔ IsOrderedBy (name_sides (key_text segment.now))
         (reading_in image.now.bytes OfGroup)
         (name_lists (symbols_at image.now.bytes (leaf_k image.now.bytes)) segment.now) node.now }
@@ -84,10 +88,11 @@ fn are_ordered(image: &Image, segment: &[u8], node: &Node) -> bool
     true
 }
 
-/// Whether the bounds do not fall, and the names of the symbol node at this address lie between them.
+/// Whether the bounds do not fall, and the names of the symbol node at this address, which ascend, lie between them.
 fn is_child_ordered(image: &Image, segment: &[u8], bounds: &Bounds, at: u64) -> bool
     requires superblock { IsSuperblock image.now.bytes }
     requires symbols { IsBottom image.now.bytes OfGroup at }
+    requires ascend { NamesAscend image.now.bytes segment.now (at ∷ []) }
     ensures { IsTrue result ↔
         (NotAfter bounds.now.low.now bounds.now.high.now
         × AllByRecursion (LiesBetween bounds.now.low.now bounds.now.high.now)
@@ -96,40 +101,68 @@ fn is_child_ordered(image: &Image, segment: &[u8], bounds: &Bounds, at: u64) -> 
     is_not_after(bounds.low, bounds.high) && holds_between(image, segment, bounds, at)
 }
 
-/// Whether the names of all symbol nodes below a node of level 0 lie between the bounds.
-fn are_between(image: &Image, segment: &[u8], node: &Node, bounds: &Bounds) -> bool
-    requires superblock { IsSuperblock image.now.bytes }
-    requires leaves { AllByRecursion (IsBottom image.now.bytes OfGroup) node.now.children }
-    ensures { IsTrue result ↔ AllByRecursion (LiesBetween bounds.now.low.now bounds.now.high.now)
-        (all_of (name_lists (symbols_at image.now.bytes (leaf_k image.now.bytes)) segment.now node.now)) }
-{
-    for i in 0..node.len() {
-        if !holds_between(image, segment, bounds, node.child(i)) {
-            return false;
-        }
-    }
-    true
-}
-
-/// Whether the names of a symbol node lie between the bounds.
+/// Whether the names of a symbol node, which ascend, lie between the bounds: its first is above the low one, and its
+/// last is not above the high one.
 fn holds_between(image: &Image, segment: &[u8], bounds: &Bounds, at: u64) -> bool
     requires superblock { IsSuperblock image.now.bytes }
     requires symbols { IsBottom image.now.bytes OfGroup at }
+    requires ascend { NamesAscend image.now.bytes segment.now (at ∷ []) }
     ensures { IsTrue result ↔ AllByRecursion (LiesBetween bounds.now.low.now bounds.now.high.now)
         (names_at image.now.bytes segment.now (at ∷ [])) }
 {
     let node = symbol_node(image, at);
-    for k in 0..node.len() {
-        if !lies_between(bounds, node.name(k, segment)) {
-            return false;
+    let count = node.len();
+    if count == 0 {
+        return true;
+    }
+    is_before(bounds.low, node.name(0, segment))
+        && is_not_after(node.name(count - 1, segment), bounds.high)
+}
+
+/// Whether the names of all symbol nodes below a node of level 0, which ascend, lie between the bounds.
+fn are_between(image: &Image, segment: &[u8], node: &Node, bounds: &Bounds) -> bool
+    requires superblock { IsSuperblock image.now.bytes }
+    requires leaves { AllByRecursion (IsBottom image.now.bytes OfGroup) node.now.children }
+    requires ascend { NamesAscend image.now.bytes segment.now node.now.children }
+    ensures { IsTrue result ↔ AllByRecursion (LiesBetween bounds.now.low.now bounds.now.high.now)
+        (all_of (name_lists (symbols_at image.now.bytes (leaf_k image.now.bytes)) segment.now node.now)) }
+{
+    start_above(image, segment, node, bounds.low) && end_within(image, segment, node, bounds.high)
+}
+
+/// Whether the names of all symbol nodes below a node of level 0, which ascend, are above a bound: whether the first
+/// one is. A symbol node may have none.
+fn start_above(image: &Image, segment: &[u8], node: &Node, low: &[u8]) -> bool
+    requires superblock { IsSuperblock image.now.bytes }
+    requires leaves { AllByRecursion (IsBottom image.now.bytes OfGroup) node.now.children }
+    requires ascend { NamesAscend image.now.bytes segment.now node.now.children }
+    ensures { IsTrue result ↔ AllByRecursion (Before low.now)
+        (names_at image.now.bytes segment.now node.now.children) }
+{
+    for i in 0..node.len() {
+        let symbols = symbol_node(image, node.child(i));
+        if symbols.len() != 0 {
+            return is_before(low, symbols.name(0, segment));
         }
     }
     true
 }
 
-/// Whether a name is above the low bound and not above the high one.
-fn lies_between(bounds: &Bounds, name: &[u8]) -> bool
-    ensures { IsTrue result ↔ LiesBetween bounds.now.low.now bounds.now.high.now name.now }
+/// Whether the names of all symbol nodes below a node of level 0, which ascend, are not above a bound: whether the
+/// last one is not. A symbol node may have none.
+fn end_within(image: &Image, segment: &[u8], node: &Node, high: &[u8]) -> bool
+    requires superblock { IsSuperblock image.now.bytes }
+    requires leaves { AllByRecursion (IsBottom image.now.bytes OfGroup) node.now.children }
+    requires ascend { NamesAscend image.now.bytes segment.now node.now.children }
+    ensures { IsTrue result ↔ AllByRecursion (λ name. NotAfter name high.now)
+        (names_at image.now.bytes segment.now node.now.children) }
 {
-    is_before(bounds.low, name) && is_not_after(name, bounds.high)
+    for i in (0..node.len()).rev() {
+        let symbols = symbol_node(image, node.child(i));
+        let count = symbols.len();
+        if count != 0 {
+            return is_not_after(symbols.name(count - 1, segment), high);
+        }
+    }
+    true
 }

@@ -11,6 +11,7 @@ use Rattle.h5_group.specs.Nodes.Stands.{IsSymbolsAt}
 use Rattle.h5_group.specs.SymbolEdits.{IsSymbolsRewritten}
 use Rattle.h5_group.proofs.EntryKept.{heap_set, symbols_stand}
 use Rattle.h5_group.proofs.EntrySets.{put_all}
+use Rattle.h5_group.proofs.FilledExact.{entry_filled_exact}
 use Rattle.h5_group.proofs.edit.entries.put_entry.Goals as goal
 use Rattle.h5_group.proofs.edit.entries.put_entry.Goals.{After-leaf_k-leaf, After-put_in}
 
@@ -78,3 +79,11 @@ returns-clause-segment c =
     let d = (goal.at.returns-clause-segment c).After-put_in in
     heap_set c.args.image.now c.args.table e.links (offsets_of (entry_from c.args.symbol) ++ e.spare) e.blocks e.group c.node_at_end-node.result
     c.node_at_end-node.ensures.one c.put_in.new.image (filled d) (written d (sym (leaf_is b)))
+
+pub returns-clause-exact : goal.returns-clause-exact
+returns-clause-exact c =
+    let e = c.requires.entry in
+    let b = (goal.at.returns-clause-exact c).After-leaf_k-leaf in
+    entry_filled_exact c.args.image.now c.put_in.new.image c.args.table c.node_at_end-node.result c.name_place-k.result (entry_from c.args.symbol)
+    (written (goal.at.returns-clause-exact c).After-put_in (sym (leaf_is b))) c.name_place-k.ensures c.args.way.now c.requires.way e.named e.links e.spare e.blocks e.group
+    c.node_at_end-node.ensures.node

@@ -5,6 +5,7 @@ use Rattle.h5_model.specs.Format.Symbols.{Entry, IsSymbolNode, symbol_bytes, sym
 use Rattle.h5_group.specs.SymbolEdits.{IsSymbolsRewritten}
 use Rattle.h5_group.proofs.EntryKept.{below_set, ends_set, entries_set, heap_set, symbols_stand}
 use Rattle.h5_group.proofs.EntrySets.{taken_all}
+use Rattle.h5_group.proofs.TakenExact.{taken_exact}
 use Rattle.h5_group.proofs.edit.entries.take_entry.Goals as goal
 use Rattle.h5_group.proofs.edit.entries.take_entry.Goals.{After-leaf_k-leaf, After-take_at}
 
@@ -71,3 +72,9 @@ returns-clause-entries c =
 
 pub returns-clause-spends : goal.returns-clause-spends
 returns-clause-spends c = c.take_at.ensures.spends
+
+pub returns-clause-exact : goal.returns-clause-exact
+returns-clause-exact c e got =
+    let some = c.requires.group in
+    taken_exact c.args.image.now c.take_at.new.image c.args.table c.args.node c.args.k
+    (written (goal.at.returns-clause-exact c).After-take_at (leaf_is (goal.at.returns-clause-exact c).After-leaf_k-leaf)) c.requires.node some.1.0 some.0 some.1.1 some.1.2 e got

@@ -9,6 +9,7 @@ use Rattle.h5_heap.specs.Writing.Links.{leads_of, name_and_leads, target_link, t
 use Rattle.h5_heap.specs.Writing.Written.{texts_span as span}
 use Rattle.h5_snod.specs.Written.{entry_from}
 use Rattle.h5_group.specs.Edited.{HasEntryPut, HasGroupMoved, IsEntryFor, IsGroupIn, IsLinkPut, IsNewName, offsets_of}
+use Rattle.h5_group.proofs.ExactTrees.{texts_exact_kept}
 use Rattle.h5_group.proofs.PutLinks.{entry_for, few_steps, link_put, low_still, room_left, spent_then, still_small}
 use Rattle.h5_group.proofs.PutWays.{root_stays, way_stays}
 use Rattle.h5_group.proofs.edit.put.put_in_room.Goals as goal
@@ -113,3 +114,10 @@ returns-in-None-clause-spends c =
     let m = c.add_texts-symbol.ensures.added links [] blocks g in
     spends_within c.args.image.now c.put_first_entry.new.image _ _ _ _ (omega (arith, same_leaf c.add_texts-symbol.new.image.bytes c.args.image.now.bytes m.k)) (omega arith)
     (spends_then c.args.image.now c.add_texts-symbol.new.image c.put_first_entry.new.image _ _ _ _ c.add_texts-symbol.ensures.spends c.put_first_entry.ensures.spends)
+
+pub returns-in-Some-clause-exact : goal.returns-in-Some-clause-exact
+returns-in-Some-clause-exact c = λ has.
+    let (links, blocks, g, new) = c.requires.group in
+    let m = c.add_texts-symbol.ensures.added links [] blocks g in
+    c.put_below.ensures.exact (texts_exact_kept c.args.image.now c.add_texts-symbol.new.image c.args.table links [] blocks g m.k (c.add_texts-symbol.ensures.nodes links [] blocks g)
+    c.add_texts-symbol.ensures.entries has)

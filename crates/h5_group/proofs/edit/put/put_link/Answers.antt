@@ -4,6 +4,7 @@ use Rattle.std.proofs.lemmas.Result.{err_from_is_err_and}
 use Rattle.h5_space.specs.Space.{Space}
 use Rattle.h5_heap.specs.Writing.Links.{name_and_leads}
 use Rattle.h5_heap.specs.Writing.Written.{texts_span as span}
+use Rattle.h5_group.specs.Exact.{HasExactKeys}
 use Rattle.h5_group.specs.LinkEdits.{IsFullFor, link_room as room_of}
 use Rattle.h5_group.specs.Links.{HasNone}
 use Rattle.h5_group.proofs.edit.put.put_link.Goals as goal
@@ -28,3 +29,6 @@ put_reserved-requires-clause-short c =
       | inr low ↦ omega (arith, low)
     ] in
     subst (λ (s : Space). length s.bytes + room_of s.bytes c.args.table (span (name_and_leads c.args.link.now)) ≤ 2147483648) (sym c.in_ok-reserve_link.ensures.room) short
+
+pub returns-clause-exact : goal.returns-clause-exact
+returns-clause-exact c = λ has. c.put_reserved.ensures.exact (subst (λ (s : Space). HasExactKeys s.bytes c.args.table) (sym c.in_ok-reserve_link.ensures.room) has)

@@ -1,18 +1,17 @@
 use Rattle.std.proofs.Common.{◌≡◌, ℕ, suc, ◌+◌, ◌*◌, ◌≤◌, List, length, take, sym, ap, ◌∙◌, subst, arith}
-use Rattle.h5_bytes.specs.Bytes.{little_bytes, number_at, part}
-use Rattle.h5_bytes.proofs.FieldLaws.{number_at-part, number_at-with_field}
-use Rattle.h5_bytes.proofs.PartLaws.{length-with_part}
+use Rattle.h5_bytes.specs.Bytes.{little_bytes, part, with_part}
+use Rattle.h5_bytes.specs.Numbers.{word}
+use Rattle.h5_bytes.proofs.PartLaws.{length-with_part, part-with_part_same}
 use Rattle.h5_model.specs.Format.Heap.{segment_of}
-use Rattle.h5_model.specs.Format.Links.{offset_in}
 use Rattle.h5_btree.specs.Held.{AreHeldKeys}
 use Rattle.h5_btree.specs.declared.way.Step.{Step}
 use Rattle.h5_btree.proofs.WaySteps.{way_low}
 use Rattle.h5_group.specs.Split.{follows_in}
 use Rattle.h5_group.proofs.edit.split.keys_behind.Goals as goal
 
-number_front : (bytes : List ℕ) → number_at (take 8 bytes) 0 8 ≡ number_at bytes 0 8
+written_front : (n : ℕ) (bytes : List ℕ) → 8 ≤ length bytes → take 8 (with_part 0 (word n) bytes) ≡ word n
 unfolding part
-number_front bytes = number_at-part 0 8 0 8 bytes (omega arith)
+written_front n bytes long = part-with_part_same 0 8 (word n) bytes (omega arith) (omega (arith, long))
 
 pub hold_keys-requires-clause-keys : goal.hold_keys-requires-clause-keys
 hold_keys-requires-clause-keys c =
@@ -25,8 +24,7 @@ hold_keys-requires-clause-keys c =
 pub returns-clause-first : goal.returns-clause-first
 returns-clause-first c front last is =
     let same = subst (λ (n : ℕ). take n c.hold_keys.new.keys ≡ take n c.put_u64.new.bytes) c.requires.width c.hold_keys.ensures.first in
-    ap offset_in same ∙ number_front c.put_u64.new.bytes ∙ ap (λ (b : List ℕ). number_at b 0 8) c.put_u64.ensures
-    ∙ number_at-with_field _ 0 8 c.last_name.result (omega arith) (omega (arith, c.last_name.type_inv)) ∙ c.last_name.ensures front last is
+    same ∙ ap (λ (b : List ℕ). take 8 b) c.put_u64.ensures ∙ written_front c.last_name.result _ (omega arith) ∙ ap word (c.last_name.ensures front last is)
 
 pub returns-clause-held : goal.returns-clause-held
 returns-clause-held c step above is =

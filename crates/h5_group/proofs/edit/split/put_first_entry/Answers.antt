@@ -1,5 +1,6 @@
-use Rattle.std.proofs.Common.{◌≡◌, ℕ, ◌+◌, ◌*◌, ◌<◌, ◌^◌, List, [], ◌∷◌, refl, sym, ap, ◌∙◌, subst, length, arith}
+use Rattle.std.proofs.Common.{◌≡◌, inl, ℕ, ◌+◌, ◌*◌, ◌<◌, ◌^◌, List, [], ◌∷◌, ◌++◌, refl, sym, ap, ◌∙◌, subst, length, arith}
 use Rattle.h5_bytes.specs.Bytes.{number_at}
+use Rattle.h5_bytes.specs.Numbers.{word}
 use Rattle.h5_model.specs.Format.Links.{offset_in}
 use Rattle.h5_model.specs.Format.Nodes.{Kind, node_at}
 use Rattle.h5_model.specs.Format.Rows.{Node}
@@ -9,10 +10,14 @@ use Rattle.h5_space.specs.Space.{Space}
 use Rattle.h5_snod.specs.Written.{entry_from}
 use Rattle.h5_btree.specs.Insertion.{IsChildPut, IsEmptyTree}
 use Rattle.h5_btree.specs.Rewritten.{IsRewritten}
+use Rattle.h5_group.specs.Edited.{offsets_of}
 use Rattle.h5_group.specs.Nodes.Trees.{kind_in}
 use Rattle.h5_group.specs.Split.{AreNewSymbols}
-use Rattle.h5_group.proofs.FirstEntry.{first_put, still_empty}
+use Rattle.h5_group.proofs.FirstEntry.{first_exact_keys, first_put, still_empty}
+use Rattle.h5_group.proofs.NameKeys.{offset_is}
+use Rattle.h5_group.proofs.NewKeys.{new_low}
 use Rattle.h5_group.proofs.edit.split.put_first_entry.Goals as goal
+use Rattle.h5_group.proofs.edit.split.put_first_entry.Goals.{After-put_first}
 
 added : (s u : Space) (leaf new : ℕ) (bytes : List ℕ) (e : Entry) → leaf ≡ leaf_k bytes → bytes ≡ s.bytes → AreNewSymbols s u leaf new (e ∷ [])
     → AreNewSymbols s u (leaf_k s.bytes) new (e ∷ [])
@@ -50,6 +55,10 @@ zeros_name : offset_in zeros ≡ 0
 unfolding number_at
 zeros_name = refl
 
+-- the last key is that of the name
+key_is : (c : After-put_first) → c.to_le_bytes-name.result ≡ word c.args.symbol.name
+key_is c = c.to_le_bytes-name.ensures
+
 pub returns-clause-put : goal.returns-clause-put
 returns-clause-put c links spare blocks group new_name =
     let s = c.args.image.now in
@@ -59,7 +68,7 @@ returns-clause-put c links spare blocks group new_name =
     let kind = kind_in s.bytes in
     let root = c.args.table.tree in
     let e = entry_from c.args.symbol in
-    let keys = zeros ∷ c.key_of-name.result ∷ [] in
+    let keys = zeros ∷ c.to_le_bytes-name.result ∷ [] in
     let own = (group.linked).owned in
     let puts : Puts u t new kind root
     = subst (λ (r : ℕ). Puts u t new kind r) c.tree.ensures (subst (λ (k : Kind). Puts u t new k c.tree.result) c.group_kind-kind.ensures c.put_first.ensures.put) in
@@ -69,5 +78,33 @@ returns-clause-put c links spare blocks group new_name =
     let short = shorter s u (leaf_k s.bytes) new e more c.requires.short in
     let empty = still_empty s u u c.args.table links e spare blocks group c.requires.empty new more short in
     let put = puts own empty in
-    first_put s u t c.args.table links e spare blocks group c.requires.empty new more short put.0 put.1 zeros c.key_of-name.result zeros_name c.key_of-name.ensures
+    first_put s u t c.args.table links e spare blocks group c.requires.empty new more short put.0 put.1 zeros c.to_le_bytes-name.result zeros_name (ap offset_in (key_is (goal.at.returns-clause-put c).After-put_first) ∙ offset_is e.name (new_low s c.args.table links (offsets_of e ++ spare) blocks group e (inl refl) c.requires.entry.named))
     (ap (λ (o : Node). o.keys) writes.says) (ap (λ (o : Node). o.children) writes.says) (let more-grown = writes.spends.grown in omega (arith, more-grown)) c.requires.entry.named c.requires.entry.known
+
+pub returns-clause-exact : goal.returns-clause-exact
+returns-clause-exact c =
+    let b = (goal.at.returns-clause-exact c).After-put_first in
+    let entry = c.requires.entry in
+    let links = entry.links in
+    let spare = entry.spare in
+    let blocks = entry.blocks in
+    let group = entry.group in
+    let s = c.args.image.now in
+    let u = c.new_symbols-new.new.image in
+    let t = c.put_first.new.image in
+    let new = c.new_symbols-new.result in
+    let kind = kind_in s.bytes in
+    let root = c.args.table.tree in
+    let e = entry_from c.args.symbol in
+    let keys = zeros ∷ c.to_le_bytes-name.result ∷ [] in
+    let own = (group.linked).owned in
+    let puts : Puts u t new kind root
+    = subst (λ (r : ℕ). Puts u t new kind r) c.tree.ensures (subst (λ (k : Kind). Puts u t new k c.tree.result) c.group_kind-kind.ensures c.put_first.ensures.put) in
+    let writes : Writes u t keys new kind root
+    = subst (λ (r : ℕ). Writes u t keys new kind r) c.tree.ensures (subst (λ (k : Kind). Writes u t keys new k c.tree.result) c.group_kind-kind.ensures c.put_first.ensures.node) in
+    let more = added s u c.leaf_k-leaf.result new c.bytes.result.now e c.leaf_k-leaf.ensures c.bytes.ensures c.new_symbols-new.ensures in
+    let short = shorter s u (leaf_k s.bytes) new e more c.requires.short in
+    let empty = still_empty s u u c.args.table links e spare blocks group c.requires.empty new more short in
+    let put = puts own empty in
+    first_exact_keys s u t c.args.table links e spare blocks group c.requires.empty new more short put.0 put.1 zeros c.to_le_bytes-name.result zeros_name (ap offset_in (key_is b) ∙ offset_is e.name (new_low s c.args.table links (offsets_of e ++ spare) blocks group e (inl refl) c.requires.entry.named))
+    (ap (λ (o : Node). o.keys) writes.says) (ap (λ (o : Node). o.children) writes.says) (let more-grown = writes.spends.grown in omega (arith, more-grown)) c.requires.entry.named c.requires.entry.known (key_is b)

@@ -1,10 +1,10 @@
 use Rattle.std.proofs.Common.{◌≡◌, ◌≢◌, ℕ, ◌+◌, ◌*◌, ◌^◌, ◌<◌, ◌≤◌, List, [], ◌∷◌, ◌++◌, length, get_or, take, sym, ap, subst, ◌∙◌, arith, mul-le-mul_right}
 use Rattle.std.specs.List.{AllByRecursion, insert}
 use Rattle.std.proofs.lemmas.List.{length-map}
+use Rattle.h5_bytes.specs.Numbers.{word}
 use Rattle.h5_bytes.specs.Texts.{text_at}
 use Rattle.h5_model.specs.Format.Superblock.{leaf_k}
 use Rattle.h5_model.specs.Format.Heap.{segment_of}
-use Rattle.h5_model.specs.Format.Links.{offset_in}
 use Rattle.h5_model.specs.Format.Nodes.{Kind, node_at, node_length}
 use Rattle.h5_model.specs.Format.Symbols.{Entry, IsSymbolNode, symbol_block, symbol_bytes, symbols_at}
 use Rattle.h5_space.specs.Space.{Space}
@@ -20,7 +20,7 @@ use Rattle.h5_group.specs.Nodes.Trees.{kind_in}
 use Rattle.h5_group.specs.Split.{IsCutInTwo, follows_in}
 use Rattle.h5_group.proofs.EntryKept.{symbols_stand}
 use Rattle.h5_group.proofs.SplitCalls.{ends_behind, full_before, heap_behind, node_apart, segment_behind}
-use Rattle.h5_group.proofs.SplitEntry.{split_all}
+use Rattle.h5_group.proofs.SplitEntry.{split_all, split_all_exact}
 use Rattle.h5_group.proofs.edit.split.split_entry.Goals as goal
 use Rattle.h5_group.proofs.edit.split.split_entry.Goals.{After-node_at_end-node, After-cut-new, After-put_at}
 
@@ -182,6 +182,37 @@ returns-clause-put c =
       c.name_place-place.ensures,
       full b,
       cut_is b d (sym (leaf_is b)),
-      subst (λ (l : ℕ). (front : List Entry) (last : Entry) → symbols_at u.bytes l c.node_at_end-node.result ≡ front ++ last ∷ [] → offset_in (take 8 keys) ≡ last.name)
+      subst (λ (l : ℕ). (front : List Entry) (last : Entry) → symbols_at u.bytes l c.node_at_end-node.result ≡ front ++ last ∷ [] → take 8 keys ≡ word last.name)
           (sym (leaf_is b)) c.keys_behind-keys.ensures.first,
     )
+
+pub returns-clause-exact : goal.returns-clause-exact
+returns-clause-exact c =
+    let e = c.requires.entry in
+    let w = c.requires.way in
+    let b = (goal.at.returns-clause-exact c).After-node_at_end-node in
+    let d = (goal.at.returns-clause-exact c).After-cut-new in
+    let s = c.args.image.now in
+    let u = c.cut-new.new.image in
+    let t = c.put_at.new.image in
+    let keys = c.keys_behind-keys.result in
+    let new = c.cut-new.result in
+    let way = c.args.way.now in
+    let kind_is = c.group_kind-kind.ensures in
+    let segment_is = segment_behind s c.args.table e.links (offsets_of (entry_from c.args.symbol) ++ e.spare) e.blocks e.group w.level way w.owned w.symbol_nodes w.number w.ends
+    c.node_at_end-node.result c.node_at_end-node.ensures.node u new _ _ (cut_is b d (sym (leaf_is b))) (shorter d (sym (leaf_is b))) in
+    let grown = c.cut-new.ensures.spends.grown in
+    let more : length t.bytes ≤ length u.bytes + (length way + 1) * node_length (kind_in s.bytes)
+    = subst (λ (k : Kind). length t.bytes ≤ length u.bytes + (length way + 1) * node_length k) kind_is c.put_at.ensures.spends.grown in
+    split_all_exact s u t c.args.table (entry_from c.args.symbol) c.name_place-place.result new way w keys
+    (subst (Helds u t way keys new (segment_of s.bytes c.args.table.heap)) kind_is
+    (subst (λ (g : List ℕ). Helds u t way keys new g c.group_kind-kind.result) segment_is c.keys_behind-keys.ensures.held))
+    (subst (Puts u t way keys new) kind_is c.put_at.ensures.put) (subst (Alongs u t way keys new) kind_is c.put_at.ensures.along)
+    (subst (Others u t way keys new) kind_is c.put_at.ensures.others)
+    (shorter d (sym (leaf_is b))) (omega (arith, grown, more, leaf_is b, c.requires.short)) e.named e.known c.node_at_end-node.result c.node_at_end-node.ensures.node (
+      c.name_place-place.ensures,
+      full b,
+      cut_is b d (sym (leaf_is b)),
+      subst (λ (l : ℕ). (front : List Entry) (last : Entry) → symbols_at u.bytes l c.node_at_end-node.result ≡ front ++ last ∷ [] → take 8 keys ≡ word last.name)
+          (sym (leaf_is b)) c.keys_behind-keys.ensures.first,
+    ) e.links e.spare e.blocks e.group

@@ -1,8 +1,9 @@
-use Rattle.std.proofs.Common.{ℕ, List, subst}
+use Rattle.std.proofs.Common.{ℕ, List, subst, sym}
 use Rattle.std.specs.List.{Contains}
 use Rattle.h5_model.specs.Format.Symbols.{Target}
 use Rattle.h5_space.specs.Space.{Space}
 use Rattle.h5_group.specs.Edited.{IsLinkPut}
+use Rattle.h5_group.specs.Exact.{HasExactKeys}
 use Rattle.h5_group.specs.Removal.{HasNameFreed}
 use Rattle.h5_group.specs.Told.{blocks_told, links_told}
 use Rattle.h5_group.proofs.EditTold.{IsToldMoved, group_then, moved_told}
@@ -49,3 +50,9 @@ returns-clause-freed c =
     let group = group_then s c.reserve.new.self c.take_link.new.image _ _ c.in_ok-reserve.ensures.ok c.args.table c.requires.group c.requires.short in
     subst (λ (x : Space). HasNameFreed x.bytes c.take_link.new.image.bytes c.args.table c.args.name.now) c.in_ok-reserve.ensures.ok
     (c.take_link.ensures.freed (links_told s.bytes c.args.table) (blocks_told s.bytes c.args.table) group there.0 there.1)
+
+pub take_link-requires-clause-exact : goal.take_link-requires-clause-exact
+take_link-requires-clause-exact c = λ is. subst (λ (x : Space). HasExactKeys x.bytes c.args.table) (sym c.in_ok-reserve.ensures.ok) (c.requires.exact is)
+
+pub returns-clause-exact : goal.returns-clause-exact
+returns-clause-exact c = λ has. c.take_link.ensures.exact (subst (λ (x : Space). HasExactKeys x.bytes c.args.table) (sym c.in_ok-reserve.ensures.ok) has)

@@ -1,5 +1,6 @@
 use Rattle.std.proofs.Common.{◌∷◌, arith}
 use Rattle.h5_group.proofs.HeapMoves.{heap_stands}
+use Rattle.h5_group.proofs.KeptWays.{heap_ways_kept}
 use Rattle.h5_group.proofs.TextEdits.{spare_span, spare_apart, text_freed, freed_nodes, freed_keys, freed_kept, moved_long, spends_nothing}
 use Rattle.h5_group.proofs.edit.texts.free_text.Goals as goal
 
@@ -43,3 +44,10 @@ returns-clause-kept c = λ links spare blocks g.
 
 pub returns-clause-spends : goal.returns-clause-spends
 returns-clause-spends c = spends_nothing c.args.image.now c.free.new.image _ c.free.ensures.moves c.free.ensures.free c.free.ensures.room
+
+pub returns-clause-ways : goal.returns-clause-ways
+returns-clause-ways c =
+    let there = c.requires.group in
+    let moves = rw c.heap.ensures at c.free.ensures.moves in
+    heap_ways_kept c.args.image.now c.free.new.image c.args.table there.0 (c.args.offset ∷ there.1) there.2 there.3 moves c.free.ensures.free
+    (moved_long c.args.image.now c.free.new.image _ c.free.ensures.moves c.free.ensures.free)

@@ -15,6 +15,7 @@ use Rattle.h5_btree.proofs.WideningLaws.{length-ends_along}
 use Rattle.h5_group.specs.Edited.{IsGroupIn}
 use Rattle.h5_group.specs.Nodes.Trees.{kind_in}
 use Rattle.h5_group.specs.Ways.{behind_of}
+use Rattle.h5_group.proofs.WidenedExact.{widened_for}
 use Rattle.h5_group.proofs.WidenedGroup.{HasLetIn, let_in}
 use Rattle.h5_group.proofs.edit.way.widen_for.Goals as goal
 use Rattle.h5_group.proofs.edit.way.widen_for.Goals.{After-widen}
@@ -74,3 +75,10 @@ returns-clause-segment c = ((some c).3).segment
 
 pub returns-clause-full : goal.returns-clause-full
 returns-clause-full c = ((some c).3).full
+
+pub returns-clause-exact : goal.returns-clause-exact
+returns-clause-exact c =
+    let w = (goal.at.returns-clause-exact c).After-widen in
+    let g = c.requires.group in
+    widened_for c.args.image.now c.widen.new.image c.args.table c.args.name.now c.args.way.now c.requires.way (zeros 8) c.to_le_bytes.result c.requires.name
+    (wide w) (tree w) (others w) g.0 g.1 g.2 g.3 c.args.offset g.4 (low_is w) (high_is w) c.requires.text refl c.to_le_bytes.ensures

@@ -1,50 +1,31 @@
-use Rattle.std.proofs.Common.{◌≡◌, ◌<◌, ◌≤◌, List, ℕ, [], ◌∷◌, length, refl, arith, false, true}
-use Rattle.std.proofs.lemmas.Option.{get_or_from_slice_get}
-use Rattle.h5_model.specs.Format.Rows.{Node}
-use Rattle.h5_btree.specs.Walk.Below.{IsBottom}
-use Rattle.h5_btree.specs.Walk.Forms.{OfGroup}
-use Rattle.h5_btree.proofs.OrderLaws.Elements.{all_at, all_more, all_done}
-use Rattle.h5_group.specs.Order.Between.{LiesBetween}
-use Rattle.h5_group.proofs.OrderProofs.EntryNames.{AllNames, lists_up, lists_down}
+use Rattle.std.proofs.Common.{◌≡◌, ◌∙◌, List, ℕ, refl, sym, subst, false, true}
+use Rattle.std.specs.List.{AllByRecursion}
+use Rattle.h5_bytes.proofs.BlockLaws.{all_so}
+use Rattle.h5_model.specs.Format.Links.{Before, NotAfter}
+use Rattle.h5_laws.proofs.KeyInserts.{all_both}
+use Rattle.h5_group.specs.Order.Between.{LiesBetween, names_at}
+use Rattle.h5_group.proofs.OrderProofs.EntryNames.{lists_are}
 use Rattle.h5_group.proofs.order.keys.are_between.Goals as goal
 
-pub holds_between-requires-clause-symbols : goal.holds_between-requires-clause-symbols
-holds_between-requires-clause-symbols c =
-    let node : Node = c.args.node.now in
-    let low : c.loop-i.i < length node.children = omega arith in
-    let read = get_or_from_slice_get node.children c.loop-i.i c.child.result c.child.result c.child.ensures in
-    all_at (IsBottom c.args.image.now.bytes OfGroup) node.children c.loop-i.i c.child.result low read c.requires.leaves
-
-pub returns-then-not-holds_between : goal.returns-then-not-holds_between
-returns-then-not-holds_between c =
-    let image : List ℕ = c.args.image.now.bytes in
-    let segment : List ℕ = c.args.segment.now in
-    let P : List ℕ → Type 0 = LiesBetween c.args.bounds.now.low.now c.args.bounds.now.high.now in
-    let node : Node = c.args.node.now in
-    let low : c.loop-i.i < length node.children = omega arith in
-    let read = get_or_from_slice_get node.children c.loop-i.i c.child.result c.child.result c.child.ensures in (
-      λ (yes : false ≡ true). absurd (cc),
-      λ all. c.if-not-holds_between.ensures.1
-          (all_at (λ (at : ℕ). AllNames image segment P (at ∷ [])) node.children c.loop-i.i c.child.result low read (lists_down image segment P node.children all)),
+pub returns-then-start_above : goal.returns-then-start_above
+returns-then-start_above c =
+    let names : List (List ℕ) = names_at c.args.image.now.bytes c.args.segment.now c.args.node.now.children in
+    let low : List ℕ = c.args.bounds.now.low.now in
+    let high : List ℕ = c.args.bounds.now.high.now in
+    let all_are = lists_are c.args.image.now.bytes c.args.segment.now c.args.node.now.children in (
+      λ yes. subst (AllByRecursion (LiesBetween low high)) (sym all_are)
+          (all_both (Before low) (λ n. NotAfter n high) names (c.if-start_above.ensures.0 refl) (c.end_within.ensures.0 yes)),
+      λ all. c.end_within.ensures.1
+          (all_so (LiesBetween low high) (λ n. NotAfter n high) names (λ n lies. lies.1) (subst (AllByRecursion (LiesBetween low high)) all_are all)),
     )
 
-pub loop-i-preserved : goal.loop-i-preserved
-loop-i-preserved c =
-    let image : List ℕ = c.args.image.now.bytes in
-    let segment : List ℕ = c.args.segment.now in
-    let P : List ℕ → Type 0 = LiesBetween c.args.bounds.now.low.now c.args.bounds.now.high.now in
-    let node : Node = c.args.node.now in
-    let low : c.loop-i.i < length node.children = omega arith in
-    let read = get_or_from_slice_get node.children c.loop-i.i c.child.result c.child.result c.child.ensures in
-    all_more (λ (at : ℕ). AllNames image segment P (at ∷ [])) node.children c.loop-i.i c.child.result low read c.loop-i.invariant (c.if-not-holds_between.ensures.0 refl)
-
-pub returns : goal.returns
-returns c =
-    let image : List ℕ = c.args.image.now.bytes in
-    let segment : List ℕ = c.args.segment.now in
-    let P : List ℕ → Type 0 = LiesBetween c.args.bounds.now.low.now c.args.bounds.now.high.now in
-    let node : Node = c.args.node.now in
-    let end : length node.children ≤ c.loop-i.i = omega arith in (
-      λ _. lists_up image segment P node.children (all_done (λ (at : ℕ). AllNames image segment P (at ∷ [])) node.children c.loop-i.i end c.loop-i.invariant),
-      λ _. refl,
+pub returns-else-start_above : goal.returns-else-start_above
+returns-else-start_above c =
+    let names : List (List ℕ) = names_at c.args.image.now.bytes c.args.segment.now c.args.node.now.children in
+    let low : List ℕ = c.args.bounds.now.low.now in
+    let high : List ℕ = c.args.bounds.now.high.now in
+    let all_are = lists_are c.args.image.now.bytes c.args.segment.now c.args.node.now.children in (
+      λ yes. absurd (let never : false ≡ true = sym c.if-start_above.false ∙ yes in cc),
+      λ all. c.start_above.ensures.1
+          (all_so (LiesBetween low high) (Before low) names (λ n lies. lies.0) (subst (AllByRecursion (LiesBetween low high)) all_are all)),
     )

@@ -1,9 +1,11 @@
-use Rattle.std.proofs.Common.{◌≡◌, ◌<◌, List, ℕ, length, refl, arith, false, true, below_more}
+use Rattle.std.proofs.Common.{◌≡◌, ◌<◌, List, ℕ, [], ◌∷◌, length, refl, arith, false, true, below_more}
 use Rattle.std.proofs.lemmas.Option.{get_or_from_slice_get}
 use Rattle.h5_model.specs.Format.Rows.{Node}
 use Rattle.h5_btree.specs.Walk.Below.{IsBottom, reading_in}
 use Rattle.h5_btree.specs.Walk.Forms.{OfGroup}
 use Rattle.h5_btree.proofs.OrderLaws.Elements.{all_at}
+use Rattle.h5_group.specs.Order.Between.{NamesAscend}
+use Rattle.h5_group.proofs.OrderProofs.AscendLaws.{each_ascends}
 use Rattle.h5_group.proofs.OrderProofs.NodeNames.{IsChildNamed, child_named, named_child}
 use Rattle.h5_group.proofs.order.keys.are_ordered.Goals as goal
 
@@ -13,6 +15,15 @@ is_child_ordered-requires-clause-symbols c =
     let low : c.loop-i.i < length node.children = omega arith in
     let read = get_or_from_slice_get node.children c.loop-i.i c.child.result c.child.result c.child.ensures in
     all_at (IsBottom c.args.image.now.bytes OfGroup) node.children c.loop-i.i c.child.result low read c.requires.leaves
+
+pub is_child_ordered-requires-clause-ascend : goal.is_child_ordered-requires-clause-ascend
+is_child_ordered-requires-clause-ascend c =
+    let image : List ℕ = c.args.image.now.bytes in
+    let segment : List ℕ = c.args.segment.now in
+    let node : Node = c.args.node.now in
+    let low : c.loop-i.i < length node.children = omega arith in
+    let read = get_or_from_slice_get node.children c.loop-i.i c.child.result c.child.result c.child.ensures in
+    all_at (λ (n : ℕ). NamesAscend image segment (n ∷ [])) node.children c.loop-i.i c.child.result low read (each_ascends image segment node.children c.requires.ascend)
 
 pub loop-i-preserved : goal.loop-i-preserved
 loop-i-preserved c =

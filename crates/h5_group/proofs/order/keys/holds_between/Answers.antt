@@ -1,38 +1,36 @@
-use Rattle.std.proofs.Common.{◌≡◌, ◌<◌, ◌≤◌, List, ℕ, length, refl, sym, subst, arith, false, true}
+use Rattle.std.proofs.Common.{◌≡◌, ◌<◌, ◌+◌, ◌-◌, ◌∙◌, [], ◌∷◌, List, ℕ, length, refl, sym, arith}
+use Rattle.std.specs.Prelude.{◌↔◌, IsTrue}
 use Rattle.std.specs.List.{AllByRecursion}
-use Rattle.h5_model.specs.Format.Symbols.{Entry}
-use Rattle.h5_group.specs.Order.Between.{LiesBetween, name_of_entry}
-use Rattle.h5_btree.proofs.OrderLaws.Elements.{all_at, all_more, all_done}
-use Rattle.h5_group.proofs.OrderProofs.EntryNames.{entry_named, symbols_up, symbols_down}
+use Rattle.h5_bytes.proofs.BlockLaws.{all_so}
+use Rattle.h5_model.specs.Format.Superblock.{leaf_k}
+use Rattle.h5_model.specs.Format.Symbols.{symbols_at}
+use Rattle.h5_model.specs.Format.Links.{Before, NotAfter, Symbols}
+use Rattle.h5_laws.proofs.KeyInserts.{all_both}
+use Rattle.h5_group.specs.Order.Between.{LiesBetween, names_at}
+use Rattle.h5_group.proofs.OrderProofs.EntryNames.{entry_named}
+use Rattle.h5_group.proofs.OrderProofs.NameEnds.{first_decides, last_decides}
 use Rattle.h5_group.proofs.order.keys.holds_between.Goals as goal
 
-pub returns-then-not-lies_between : goal.returns-then-not-lies_between
-returns-then-not-lies_between c =
-    let P : List ℕ → Type 0 = LiesBetween c.args.bounds.now.low.now c.args.bounds.now.high.now in
-    let low : c.loop-k.k < length c.symbol_node-node.result = omega arith in
-    let e = entry_named c.args.segment.now c.symbol_node-node.result c.loop-k.k c.name.result.now low c.name.ensures in (
-      λ (yes : false ≡ true). absurd (cc),
-      λ all.
-          let each = subst (AllByRecursion (λ (x : Entry). P (name_of_entry c.args.segment.now x))) (sym c.symbol_node-node.ensures)
-          (symbols_down c.args.image.now.bytes c.args.segment.now P c.args.at all) in
-          c.if-not-lies_between.ensures.1
-          (subst P e.2 (all_at (λ (x : Entry). P (name_of_entry c.args.segment.now x)) c.symbol_node-node.result c.loop-k.k e.0 low e.1 each)),
-    )
-
-pub loop-k-preserved : goal.loop-k-preserved
-loop-k-preserved c =
-    let P : List ℕ → Type 0 = LiesBetween c.args.bounds.now.low.now c.args.bounds.now.high.now in
-    let low : c.loop-k.k < length c.symbol_node-node.result = omega arith in
-    let e = entry_named c.args.segment.now c.symbol_node-node.result c.loop-k.k c.name.result.now low c.name.ensures in
-    all_more (λ (x : Entry). P (name_of_entry c.args.segment.now x)) c.symbol_node-node.result c.loop-k.k e.0 low e.1 c.loop-k.invariant
-    (subst P (sym e.2) (c.if-not-lies_between.ensures.0 refl))
-
-pub returns : goal.returns
-returns c =
-    let P : List ℕ → Type 0 = LiesBetween c.args.bounds.now.low.now c.args.bounds.now.high.now in
-    let end : length c.symbol_node-node.result ≤ c.loop-k.k = omega arith in
-    let each = all_done (λ (x : Entry). P (name_of_entry c.args.segment.now x)) c.symbol_node-node.result c.loop-k.k end c.loop-k.invariant in (
-      λ _. symbols_up c.args.image.now.bytes c.args.segment.now P c.args.at
-          (subst (AllByRecursion (λ (x : Entry). P (name_of_entry c.args.segment.now x))) c.symbol_node-node.ensures each),
-      λ _. refl,
+pub returns-then-is_before : goal.returns-then-is_before
+returns-then-is_before c =
+    let image : List ℕ = c.args.image.now.bytes in
+    let segment : List ℕ = c.args.segment.now in
+    let S : Symbols = symbols_at image (leaf_k image) in
+    let row : List ℕ = c.args.at ∷ [] in
+    let low : List ℕ = c.args.bounds.now.low.now in
+    let high : List ℕ = c.args.bounds.now.high.now in
+    let one : 0 < length row = omega arith in
+    let some : 0 < length c.symbol_node-node.result = omega arith in
+    let k : ℕ = c.len-count.result - 1 in
+    let end : k + 1 ≡ length c.symbol_node-node.result = omega arith in
+    let last : k < length c.symbol_node-node.result = omega arith in
+    let e = entry_named segment c.symbol_node-node.result 0 c.name.result.now some c.name.ensures in
+    let f = entry_named segment c.symbol_node-node.result k c.name-then-is_before.result.now last c.name-then-is_before.ensures in
+    let start = first_decides S segment row 0 c.args.at one refl c.symbol_node-node.result c.symbol_node-node.ensures e.0 c.requires.ascend low some e.1 refl in
+    let stop = last_decides S segment row 0 c.args.at one refl c.symbol_node-node.result c.symbol_node-node.ensures f.0 c.requires.ascend high k end f.1 refl in
+    let above : Before low c.name.result.now ↔ AllByRecursion (Before low) (names_at image segment row) = rw e.2 at start in
+    let within : NotAfter c.name-then-is_before.result.now high ↔ AllByRecursion (λ (n : List ℕ). NotAfter n high) (names_at image segment row) = rw f.2 at stop in (
+      λ yes. all_both (Before low) (λ n. NotAfter n high) (names_at image segment row)
+          (above.0 (sym c.is_before.ensures ∙ c.if-is_before.true)) (within.0 (sym c.is_not_after.ensures ∙ yes)),
+      λ all. c.is_not_after.ensures ∙ within.1 (all_so (LiesBetween low high) (λ n. NotAfter n high) (names_at image segment row) (λ n lies. lies.1) all),
     )
