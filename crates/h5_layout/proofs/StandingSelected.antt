@@ -17,12 +17,12 @@ use Rattle.h5_msg.proofs.ValueBytes.{AreBytes}
 use Rattle.h5_shape.specs.OneRun.{IsOneRun}
 use Rattle.h5_shape.specs.declared.runs.CellRun.{CellRun}
 use Rattle.h5_layout.specs.Buffers.{are_whole_cells}
-use Rattle.h5_layout.specs.Lent.{IsStandingSelection}
+use Rattle.h5_layout.specs.Lent.{AreInLine, IsStandingSelection}
 use Rattle.h5_layout.specs.Pieces.{CellsLeft}
-use Rattle.h5_layout.specs.Runs.{IsPieceAt}
+use Rattle.h5_layout.specs.Runs.{AreCellBytes, IsPieceAt}
 use Rattle.h5_layout.specs.declared.pieces.Piece.TheVariants.{Bytes}
 use Rattle.h5_layout.proofs.BufferLaws.{written_back}
-use Rattle.h5_layout.proofs.LentLaws.{places, run_below}
+use Rattle.h5_layout.proofs.LentLaws.{places, run_below, run_lent}
 
 -- bytes of so many cells are whole cells
 whole_cells : (t : Fixed) (n : ℕ) (bytes : List ℕ) → 1 ≤ t.size → length bytes ≡ n * t.size → are_whole_cells t bytes ≡ true
@@ -34,6 +34,19 @@ module _ (d : Dataset) (hyper : Hyper) (run : CellRun) (is : IsOneRun d.sizes hy
   -- the run has a cell, and each of its cells is one of the array
   pub standing_below : (0 < run.length) × (run.place + run.length ≤ cells d.sizes)
   standing_below = run_below d (axes_of hyper) run is.runs
+
+  -- the cells of the run, where all cells of the array stand one behind another
+  pub standing_line : IsFixed d.fixed → (held bytes : List ℕ) → AreInLine d held → AreCellBytes d.fixed held run.place run.length bytes → AreBytes bytes
+      → IsStandingSelection d hyper bytes
+  standing_line sound held bytes stand are low =
+      let some = size-low d.fixed sound in
+      let lent = run_lent d (axes_of hyper) run is.runs held bytes is.within stand are in
+      record {
+        selection = is.selection;
+        rank = is.rank;
+        within = is.within;
+        same = sym (written_back d.fixed some bytes (whole_cells d.fixed run.length bytes some are.0) sound low) ∙ ap (cells_bytes d.fixed) lent.values;
+      }
 
   -- a piece with all cells of the run
   pub standing_selected : (all : CellsLeft) → all ≡ record { fixed = d.fixed; fill = d.fill; values = d.cells } → IsFixed d.fixed → (b : Bor (List ℕ)) → AreBytes b.now

@@ -230,6 +230,7 @@ impl<'a, 'g> GridRef<'a, 'g> {
     }
 
     /// The address of the chunk with this first index, where it is stored.
+    #[inline(always)]
     fn address_of(&self, cursor: &mut ChunkCursor, corner: &[u64]) -> Option<u64>
         requires rank { length corner.now ≡ length self.now.shape.sizes }
         requires cursor { IsCursor self.now.image self.now.shape self.now.root cursor.old }

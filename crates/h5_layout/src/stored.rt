@@ -132,6 +132,9 @@ impl<'a> StoredArray<'a> {
         ensures { IfSome result (λ bytes. IsStandingSelection self.now hyper.now bytes.now) }
     {
         let run = one_run(self.array().dims(), hyper)?;
+        if let Some(bytes) = self.line() {
+            return Some(run_bytes(&self.array.fixed(), bytes, &run));
+        }
         let (piece, cells) = self.cells().piece(run.place, run.length);
         if cells < run.length {
             return None;

@@ -1,17 +1,43 @@
-use Rattle.std.proofs.Common.{◌≡◌, ℕ, List, length, ap, ◌∙◌, subst, arith}
+use Rattle.std.proofs.Common.{◌≡◌, ℕ, ◌+◌, ◌*◌, ◌≤◌, List, length, sym, ap, ◌∙◌, subst, arith}
+use Rattle.h5_model.specs.Format.Fixed.{Fixed}
+use Rattle.h5_model.specs.Tree.Objects.{Dataset}
 use Rattle.h5_model.specs.Tree.Places.{cells}
+use Rattle.h5_model.specs.Views.Selection.{axes_of}
 use Rattle.h5_msg.proofs.ValueBytes.{AreBytes}
 use Rattle.h5_shape.specs.OneRun.{IsOneRun}
 use Rattle.h5_layout.specs.Pieces.{CellsLeft}
 use Rattle.h5_layout.specs.Runs.{HasBytes, IsPieceAt}
 use Rattle.h5_layout.specs.declared.pieces.Piece.{Piece}
-use Rattle.h5_layout.proofs.StandingSelected.{standing_below, standing_selected}
+use Rattle.h5_layout.specs.Runs.{AreCellBytes}
+use Rattle.h5_layout.proofs.LentLaws.{run_room}
+use Rattle.h5_layout.proofs.StandingSelected.{standing_below, standing_line, standing_selected}
 use Rattle.h5_layout.proofs.stored.StoredArray.standing.Goals as goal
-use Rattle.h5_layout.proofs.stored.StoredArray.standing.Goals.{After-cells}
+use Rattle.h5_layout.proofs.stored.StoredArray.standing.Goals.{After-cells, After-fixed}
 
 -- the run is one of the selected cells of the array
 one : (c : After-cells) → IsOneRun c.args.self.now.sizes c.args.hyper.now c.in_ok-run.run'
 one c = subst (λ (sizes : List ℕ). IsOneRun sizes c.args.hyper.now c.in_ok-run.run') (c.dims.ensures.sizes ∙ c.array.ensures.sizes) c.in_ok-run.ensures.run
+
+-- so it is where all cells of the array stand one behind another
+in_line : (c : After-fixed) → IsOneRun c.args.self.now.sizes c.args.hyper.now c.in_ok-run.run'
+in_line c = subst (λ (sizes : List ℕ). IsOneRun sizes c.args.hyper.now c.in_ok-run.run') (c.dims.ensures.sizes ∙ c.array.ensures.sizes) c.in_ok-run.ensures.run
+
+type-is : (c : After-fixed) → c.fixed.result ≡ c.args.self.now.fixed
+type-is c = c.fixed.ensures ∙ ap (λ (d : Dataset). d.fixed) c.self.view_is
+
+pub run_bytes-requires : goal.run_bytes-requires
+run_bytes-requires c =
+    let b = (goal.at.run_bytes-requires c).After-fixed in
+    let run = c.in_ok-run.run' in
+    subst (λ (t : Fixed). (run.place + run.length) * t.size ≤ length c.in-Some.bytes.now) (sym (type-is b))
+    (run_room c.args.self.now (axes_of c.args.hyper.now) run (in_line b).runs c.in-Some.bytes.now c.in-Some.ensures)
+
+pub returns-in-Some : goal.returns-in-Some
+returns-in-Some c =
+    let b = (goal.at.returns-in-Some c).After-fixed in
+    let run = c.in_ok-run.run' in
+    standing_line c.args.self.now c.args.hyper.now run (in_line b) c.array.ensures.sound.fixed c.in-Some.bytes.now c.run_bytes.result.now c.in-Some.ensures
+    (subst (λ (t : Fixed). AreCellBytes t c.in-Some.bytes.now run.place run.length c.run_bytes.result.now) (type-is b) c.run_bytes.ensures.cells) c.run_bytes.ensures.bytes
 
 pub one_run-requires : goal.one_run-requires
 one_run-requires c = record { small = let few = c.array.ensures.sound.few in let same = ap cells (c.dims.ensures.sizes ∙ c.array.ensures.sizes) in omega (arith, few, same) }
