@@ -304,7 +304,7 @@ module _ (k : ℕ) (d : Dataset) (is : IsPlainArray d 0) (unstored : AreStoredFo
         subst (λ bs. Run place bs (place + length data_bytes)) are run
 
     content_made : IsContentMade image messages content.Array place (place + length data_bytes) (Array d)
-    content_made = record { kept = (list, read); none = refl; told = λ table. ap Array dataset_is; blocks = told_run }
+    content_made = record { kept = (list, read); none = refl; exact = tt; told = λ table. ap Array dataset_is; blocks = told_run }
 
 -- ---- a new array
 

@@ -121,6 +121,7 @@ module _ (leaf internal at : ℕ) (k : AreK leaf internal) (low : at + (group_no
       record {
         kept = (of_group at tree heap, named at tree heap (omega arith) (omega arith), bare.read);
         none = bare.none;
+        exact = bare.exact;
         told = without_links image (header_messages at tree heap) (table_for internal at) bare.none;
         blocks = subst (λ (to : ℕ). Run (at + 40) (blocks_told image (table_for internal at)) to) ends bare.run;
       }

@@ -28,7 +28,7 @@ use Rattle.h5_layout.specs.ArrayEdits.{AreOthersKept, IsArrayApart, IsArrayMoved
 use Rattle.h5_open.specs.ChangedInPlace.{IsChangedInPlace}
 use Rattle.h5_open.specs.Opened.Headers.{object_with}
 use Rattle.h5_open.specs.Opened.Judged.{IsArrayList}
-use Rattle.h5_open.specs.Opened.Kept.{AreChunksTrimmed, IsContentKept, IsContentTrimmed, IsObjectKept, IsOpened}
+use Rattle.h5_open.specs.Opened.Kept.{AreChunksTrimmed, IsContentKept, IsContentTidy, IsObjectKept, IsOpened}
 use Rattle.h5_open.specs.Opened.Objects.{content_blocks, content_in, object_blocks, object_in, table_of, tree_of}
 use Rattle.h5_open.specs.Opened.State.{opened_state}
 use Rattle.h5_open.specs.SlotsInPlace.{IsOneRemade}
@@ -54,7 +54,7 @@ pub record IsArrayEdited (old mid new : Space) (slots slots' : List (Option Open
   pub room : ℕ
   pub moved : IsArrayMoved old mid (record p.messages { room = room }) p'.messages
   pub dataset : dataset_told mid.bytes (described_in mid.bytes p'.messages) ≡ change (dataset_told old.bytes (described_in old.bytes p.messages))
-  pub trimmed : p'.trimmed ≡ true → AreChunksTrimmed mid.bytes (described_in mid.bytes p'.messages)
+  pub trimmed : p'.tidy ≡ true → AreChunksTrimmed mid.bytes (described_in mid.bytes p'.messages)
   pub ended : Moves mid new (end_field mid.bytes ∷ []) (end_field new.bytes ∷ [])
   pub end : end_of_file new.bytes ≡ length new.bytes
   pub long : length new.bytes ≡ length mid.bytes
@@ -171,7 +171,7 @@ module _ (old : Space) (slots : List (Option OpenedObject)) (numbers : BTreeMap 
       };
       known = is.moved.known kept.known;
       content = subst (IsContentKept new.bytes new_ms) (sym is.content) (list_now, read_now);
-      trimmed = λ known. subst (IsContentTrimmed new.bytes new_ms) (sym is.content) (trimmed_now (is.trimmed known));
+      tidy = λ known. subst (IsContentTidy new.bytes new_ms) (sym is.content) (trimmed_now (is.trimmed known));
     }
 
     blocks_now : object_blocks new.bytes p' ≡ array_blocks mid.bytes m'

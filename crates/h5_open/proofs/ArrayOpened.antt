@@ -23,7 +23,7 @@ use Rattle.h5_layout.specs.Told.{array_told, layout_told, type_told}
 use Rattle.h5_open.specs.declared.opened.object.OpenedObject.{OpenedObject}
 use Rattle.h5_open.specs.declared.opened.object.OpenedContent.{OpenedContent}
 use Rattle.h5_open.specs.declared.opened.object.OpenedContent.TheVariants as content
-use Rattle.h5_open.specs.Opened.Kept.{AreChunksTrimmed, IsContentKept, IsContentTrimmed, IsObjectKept, IsOpened}
+use Rattle.h5_open.specs.Opened.Kept.{AreChunksTrimmed, IsContentKept, IsContentTidy, IsObjectKept, IsOpened}
 use Rattle.h5_open.specs.Opened.Objects.{content_blocks, content_in, object_blocks, object_in, table_of, tree_of}
 use Rattle.h5_open.specs.Opened.Sound.{IsObjectOf}
 use Rattle.h5_open.specs.Opened.State.{opened_state}
@@ -118,9 +118,9 @@ module _ (old : Space) (slots : List (Option OpenedObject)) (numbers : BTreeMap 
           };
           known = of.kept.known;
           content = rw (same_messages, is_array) (array_content.0, read_now);
-          trimmed = λ known. subst (IsContentTrimmed new.bytes (messages_in new.bytes p.messages.list)) (sym is_array)
+          tidy = λ known. subst (IsContentTidy new.bytes (messages_in new.bytes p.messages.list)) (sym is_array)
               (subst (λ (l : List Message). AreChunksTrimmed new.bytes (array_told l)) (sym same_messages)
-              (trimmed_now (subst (IsContentTrimmed old.bytes ms) is_array (of.kept.trimmed known))));
+              (trimmed_now (subst (IsContentTidy old.bytes ms) is_array (of.kept.tidy known))));
         }
 
         remade : IsOneRemade old new slots slots number p p

@@ -32,7 +32,7 @@ use Rattle.h5_open.proofs.ContentLaws.{content_followed, message_free}
 use Rattle.h5_open.proofs.DataLaws.{data_inside}
 
 abbrev pub array_object : Listed → OpenedObject
-array_object m = record { messages = m; content = content.Array; trimmed = false }
+array_object m = record { messages = m; content = content.Array; tidy = false }
 
 -- the blocks of the data that the messages tell
 abbrev pub array_blocks : List ℕ → Listed → List Block
@@ -47,7 +47,7 @@ array_object_read image held now after m depth read list names inner stands clai
     header = record { has = read.has; inside = read.inside; within = read.within; names = names; attributes = list.attributes };
     known = read.known;
     content = (list, stands);
-    trimmed = λ known. absurd (let never : false ≡ true = known in cc);
+    tidy = λ known. absurd (let never : false ≡ true = known in cc);
   };
   header_is = refl;
   top = λ e. absurd (omega (arith, e, inner));
@@ -76,7 +76,7 @@ module _ (image : List ℕ) (held now : List Block) (followed : List Named) (fie
   array_followed : (new : List Named) → IsWalked image after (new ++ with_header field m.header depth ms followed) → AllByRecursion (IsOwn held field) new
       → AllByRecursion (λ (y : Named). is_header y.role ≡ false) new → IsObjectFollowed image held after followed field depth (array_object m)
   array_followed new walked stands inner =
-      content_followed image held now followed field depth m done separate after content.Array new walked stands (only_inner m.header new inner) [] refl
+      content_followed image held now followed field depth m done separate after content.Array false new walked stands (only_inner m.header new inner) [] refl
 
   -- there are no blocks of data
   none_followed : ((p : ℕ) → cover p after ≡ cover p now) → IsObjectFollowed image held after followed field depth (array_object m)

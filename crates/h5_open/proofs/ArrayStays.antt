@@ -16,7 +16,7 @@ use Rattle.h5_open.specs.declared.opened.object.OpenedObject.{OpenedObject}
 use Rattle.h5_open.specs.declared.opened.object.OpenedContent.{OpenedContent}
 use Rattle.h5_open.specs.declared.opened.object.OpenedContent.TheVariants as content
 use Rattle.h5_open.specs.Opened.Headers.{object_with}
-use Rattle.h5_open.specs.Opened.Kept.{IsContentKept, IsObjectKept, IsContentTrimmed}
+use Rattle.h5_open.specs.Opened.Kept.{IsContentKept, IsObjectKept, IsContentTidy}
 use Rattle.h5_open.specs.Opened.Objects.{content_blocks, content_in, object_blocks, object_in}
 use Rattle.h5_open.proofs.DataLaws.{data_blocks-same, data_inside, data_read-same, dataset_told-same}
 use Rattle.h5_open.proofs.TrimmedKept.{trimmed-same}
@@ -47,10 +47,10 @@ module _ (old : List ℕ) (o : OpenedObject) (kept : IsObjectKept old o) (array 
     content_now = subst (IsContentKept new ms') (sym array) (subst (λ (l : List Message). IsContentKept new l content.Array) (sym list_stays)
         (kept_array.0, data_read-same old new grown (same_chunk new old k) (type_told ms) (layout_told ms) kept_array.1 data_stay))
 
-    trimmed_now : IsContentTrimmed old ms o.content → IsContentTrimmed new ms' o.content
-    trimmed_now was =
-        let before : IsContentTrimmed old ms content.Array = subst (IsContentTrimmed old ms) array was in
-        subst (IsContentTrimmed new ms') (sym array) (subst (λ (l : List Message). IsContentTrimmed new l content.Array) (sym list_stays)
+    tidy_now : IsContentTidy old ms o.content → IsContentTidy new ms' o.content
+    tidy_now was =
+        let before : IsContentTidy old ms content.Array = subst (IsContentTidy old ms) array was in
+        subst (IsContentTidy new ms') (sym array) (subst (λ (l : List Message). IsContentTidy new l content.Array) (sym list_stays)
         (λ chunked. trimmed-same old new grown (same_chunk new old k) (array_told ms) kept_array.1 data_stay (array_told ms).sizes (before chunked)))
 
     pub array_kept : IsObjectKept new o
@@ -64,7 +64,7 @@ module _ (old : List ℕ) (o : OpenedObject) (kept : IsObjectKept old o) (array 
       };
       known = kept.known;
       content = content_now;
-      trimmed = λ known. trimmed_now (kept.trimmed known);
+      tidy = λ known. tidy_now (kept.tidy known);
     }
 
     pub array_blocks : object_blocks new o ≡ object_blocks old o

@@ -28,6 +28,7 @@ use Rattle.h5_attr.specs.Attributes.{attributes_of}
 use Rattle.h5_attr.specs.Still.{IsSaidStill}
 use Rattle.h5_attr.proofs.EntryLaws.{attributes-is, names_once}
 use Rattle.h5_group.specs.Told.{blocks_told}
+use Rattle.h5_group.proofs.ExactTrees.{exact-same}
 use Rattle.h5_group.proofs.ToldLaws.{blocks_told-same, links_told-same, told-same}
 use Rattle.h5_layout.specs.Data.{AreDataRead, data_blocks, dataset_told}
 use Rattle.h5_layout.specs.Described.{Described}
@@ -36,7 +37,7 @@ use Rattle.h5_open.specs.declared.opened.object.OpenedObject.{OpenedObject}
 use Rattle.h5_open.specs.declared.opened.object.OpenedContent.{OpenedContent}
 use Rattle.h5_open.specs.declared.opened.object.OpenedContent.TheVariants as content
 use Rattle.h5_open.specs.ChangedInPlace.{IsChangedInPlace}
-use Rattle.h5_open.specs.Opened.Kept.{IsContentKept, IsObjectKept, IsOpened, AreChunksTrimmed, IsContentTrimmed}
+use Rattle.h5_open.specs.Opened.Kept.{IsContentKept, IsObjectKept, IsOpened, AreChunksTrimmed, IsContentTidy}
 use Rattle.h5_open.specs.Opened.Objects.{content_blocks, content_in, header_of, links_by, object_blocks, object_in, table_of, tree_of}
 use Rattle.h5_open.specs.Opened.State.{opened_state}
 use Rattle.h5_open.specs.SlotsInPlace.{AreLinksKept, IsOneRemade}
@@ -57,7 +58,7 @@ pub record IsHeaderEdited (old mid new : Space) (slots slots' : List (Option Ope
   pub as_many : length slots' ≡ length slots
   pub header : header_of p' ≡ header_of p
   pub content : p'.content ≡ p.content
-  pub trimmed : p'.trimmed ≡ p.trimmed
+  pub tidy : p'.tidy ≡ p.tidy
   pub standing : IsStanding mid.bytes p'.messages
   pub still : IsSaidStill (messages_in old.bytes p.messages.list) (messages_in mid.bytes p'.messages.list)
   pub attributes : (before : Attributes) → HasAttributes (messages_in old.bytes p.messages.list) before → HasAttributes (messages_in mid.bytes p'.messages.list) (change before)
@@ -194,10 +195,10 @@ module _ (old mid new : Space) (slots slots' : List (Option OpenedObject)) (numb
     subst (λ (a : Described). AreDataRead new.bytes a.fixed a.layout) (sym (told_still ms ms' still (held.0).array)) (data_read-same old.bytes new.bytes grown (same_chunk new.bytes old.bytes k) (type_told ms) (layout_told ms) held.1 keeps),
   )
 
-  trimmed_now : (c : OpenedContent) → IsContentKept old.bytes ms c → Keeps old.bytes new.bytes (content_blocks old.bytes ms c) → IsContentTrimmed old.bytes ms c
-      → IsContentTrimmed new.bytes ms' c
-  trimmed_now (content.Group table) held keeps was = tt
-  trimmed_now content.Array held keeps was = subst (AreChunksTrimmed new.bytes) (sym (told_still ms ms' still (held.0).array))
+  tidy_now : (c : OpenedContent) → IsContentKept old.bytes ms c → Keeps old.bytes new.bytes (content_blocks old.bytes ms c) → IsContentTidy old.bytes ms c
+      → IsContentTidy new.bytes ms' c
+  tidy_now (content.Group table) held keeps was = exact-same old.bytes new.bytes leaf internal table held.2.linked keeps was
+  tidy_now content.Array held keeps was = subst (AreChunksTrimmed new.bytes) (sym (told_still ms ms' still (held.0).array))
       (λ chunked. trimmed-same old.bytes new.bytes grown (same_chunk new.bytes old.bytes k) (array_told ms) held.1 keeps (array_told ms).sizes (was chunked))
 
   blocks_now : (c : OpenedContent) → IsContentKept old.bytes ms c → Keeps old.bytes new.bytes (content_blocks old.bytes ms c) → content_blocks new.bytes ms' c ≡ content_blocks old.bytes ms c
@@ -231,7 +232,7 @@ module _ (old mid new : Space) (slots slots' : List (Option OpenedObject)) (numb
     };
     known = known_still old.bytes new.bytes p.messages.list p'.messages.list still kept.known;
     content = subst (IsContentKept new.bytes ms') (sym is.content) (content_now p.content kept.content stays.1);
-    trimmed = λ known. subst (IsContentTrimmed new.bytes ms') (sym is.content) (trimmed_now p.content kept.content stays.1 (kept.trimmed (sym is.trimmed ∙ known)));
+    tidy = λ known. subst (IsContentTidy new.bytes ms') (sym is.content) (tidy_now p.content kept.content stays.1 (kept.tidy (sym is.tidy ∙ known)));
   }
 
   blocks_are : object_blocks new.bytes p' ≡ p'.messages.blocks ++ rest

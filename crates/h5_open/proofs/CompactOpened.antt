@@ -39,7 +39,7 @@ use Rattle.h5_layout.proofs.ToldLaws.{told}
 use Rattle.h5_open.specs.declared.opened.object.OpenedObject.{OpenedObject}
 use Rattle.h5_open.specs.declared.opened.object.OpenedContent.{OpenedContent}
 use Rattle.h5_open.specs.declared.opened.object.OpenedContent.TheVariants as content
-use Rattle.h5_open.specs.Opened.Kept.{IsOpened, IsObjectKept, IsContentKept, AreChunksTrimmed, IsContentTrimmed}
+use Rattle.h5_open.specs.Opened.Kept.{IsOpened, IsObjectKept, IsContentKept, AreChunksTrimmed, IsContentTidy}
 use Rattle.h5_open.specs.Opened.Objects.{content_blocks, object_blocks, object_in, table_of, tree_of}
 use Rattle.h5_open.specs.Opened.Sound.{IsObjectOf, IsWholeFile}
 use Rattle.h5_open.specs.Opened.State.{opened_state}
@@ -214,7 +214,7 @@ module _ (old : Space) (slots : List (Option OpenedObject)) (numbers : BTreeMap 
         };
         known = it.kept.known;
         content = subst (IsContentKept new.bytes list') (sym is_array) content_now;
-        trimmed = λ known. subst (IsContentTrimmed new.bytes list') (sym is_array)
+        tidy = λ known. subst (IsContentTidy new.bytes list') (sym is_array)
             (subst (AreChunksTrimmed new.bytes) (sym told_is) (λ chunked. absurd (let never : false ≡ true = chunked in cc)));
       }
 

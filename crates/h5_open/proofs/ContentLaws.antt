@@ -1,5 +1,5 @@
 -- An object in a walk, when its header and what it is were read: the fields that were followed.
-use Rattle.std.proofs.Common.{◌≡◌, inl, ℕ, ◌+◌, ◌-◌, ◌<◌, ◌≤◌, List, ◌++◌, length, refl, sym, subst, append_assoc, Some, arith, false}
+use Rattle.std.proofs.Common.{◌≡◌, inl, ℕ, ◌+◌, ◌-◌, ◌<◌, ◌≤◌, List, ◌++◌, length, refl, sym, subst, append_assoc, Some, arith, Bool}
 use Rattle.std.specs.Prelude.{◌==◌, true}
 use Rattle.std.specs.List.{AllByRecursion, find}
 use Rattle.h5_bytes.specs.Blocks.{holds, cover, Separate}
@@ -40,11 +40,11 @@ module _ (image : List ℕ) (held now : List Block) (followed : List Named) (fie
   own_header = named field ObjectHeader m.header depth
 
   -- fields were followed behind those of the header, and the links wait
-  pub content_followed : (after : List Block) (c : OpenedContent) (new : List Named) → IsWalked image after (new ++ with_header field m.header depth ms followed)
+  pub content_followed : (after : List Block) (c : OpenedContent) (tidy : Bool) (new : List Named) → IsWalked image after (new ++ with_header field m.header depth ms followed)
       → AllByRecursion (IsOwn held field) new → AllByRecursion (λ (y : Named). is_header y.role ≡ true → y.at ≡ m.header) new
       → (fields : List ℕ) → AreWaiting image held after (new ++ with_header field m.header depth ms followed) depth (content_links image c) fields
-      → IsObjectFollowed image held after followed field depth (record { messages = m; content = c; trimmed = false })
-  content_followed after c new walked stands only fields waiting =
+      → IsObjectFollowed image held after followed field depth (record { messages = m; content = c; tidy = tidy })
+  content_followed after c tidy new walked stands only fields waiting =
       let seam : (new ++ behind) ++ followed ≡ new ++ with_header field m.header depth ms followed = append_assoc new behind followed in
       record {
         new = new ++ behind;

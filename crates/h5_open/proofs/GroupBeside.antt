@@ -17,8 +17,10 @@ use Rattle.h5_group.specs.Edited.{superblock_block}
 use Rattle.h5_group.specs.LinkEdits.{IsFullFor, IsGroupApart, link_room}
 use Rattle.h5_group.specs.Links.{HasNone}
 use Rattle.h5_group.specs.Nodes.Trees.{group_nodes_blocks}
+use Rattle.h5_group.specs.Exact.{HasExactKeys}
 use Rattle.h5_group.specs.Told.{blocks_told, links_told, nodes_told, symbol_nodes_told}
 use Rattle.h5_group.proofs.RoomKept.{full_same, none_same}
+use Rattle.h5_group.proofs.ExactTrees.{exact-same}
 use Rattle.h5_group.proofs.ToldLaws.{blocks_told-same, links_told-same, told-same}
 use Rattle.h5_open.proofs.SuperblockKept.{same_k}
 
@@ -44,6 +46,9 @@ module _ (old new : Space) (taken : List Block) (t : SymbolTable) (group : IsGro
   -- its links are what they were
   pub links_beside : links_told new.bytes t ≡ links_told old.bytes t
   links_beside = links_told-same old.bytes new.bytes leaf_beside internal_beside t (group.read).linked kept.1
+
+  pub exact_beside : HasExactKeys old.bytes t → HasExactKeys new.bytes t
+  exact_beside was = exact-same old.bytes new.bytes leaf_beside internal_beside t (group.read).linked kept.1 was
 
   inside_new : Inside (length new.bytes) (blocks_told old.bytes t)
   inside_new = all_so (λ (b : Block). b.at + b.len ≤ length old.bytes) (λ (b : Block). b.at + b.len ≤ length new.bytes) (blocks_told old.bytes t)

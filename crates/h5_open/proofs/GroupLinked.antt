@@ -15,6 +15,7 @@ use Rattle.h5_model.specs.Tree.Objects.{Links}
 use Rattle.h5_space.specs.Moves.{Moves}
 use Rattle.h5_space.specs.Space.{Space}
 use Rattle.h5_header.specs.Listed.{messages_in}
+use Rattle.h5_group.specs.Exact.{HasExactKeys}
 use Rattle.h5_group.specs.Links.{IsGroupRead}
 use Rattle.h5_group.specs.Told.{blocks_told, links_told}
 use Rattle.h5_laws.proofs.Lists.{In, in_contains}
@@ -40,6 +41,7 @@ pub record IsGroupLinked (old mid new : Space) (slots : List (Option OpenedObjec
   pub was : links_told old.bytes t ≡ front ++ back
   pub put : links_told mid.bytes t ≡ front ++ (name, target) ∷ back
   pub read : IsGroupRead mid.bytes t
+  pub exact : HasExactKeys old.bytes t → HasExactKeys mid.bytes t
   pub k : k_values mid.bytes ≡ k_values old.bytes
   pub moves : Moves old mid (blocks_told old.bytes t) (blocks_told mid.bytes t)
   pub later : Moves mid new (end_field mid.bytes ∷ written) (end_field new.bytes ∷ written)
@@ -83,6 +85,7 @@ module _ (old mid new : Space) (slots : List (Option OpenedObject)) (numbers : B
     kind = is.kind;
     links = links_now;
     read = is.read;
+    exact = is.exact;
     k = is.k;
     moves = is.moves;
     later = is.later;

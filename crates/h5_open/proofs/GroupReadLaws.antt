@@ -1,5 +1,5 @@
 -- A group that was read in a walk.
-use Rattle.std.proofs.Common.{◌≡◌, ◌⊎◌, inl, inr, ℕ, ◌+◌, ◌-◌, ◌*◌, ◌<◌, ◌≤◌, List, [], ◌∷◌, map, length, refl, sym, subst, Some, arith, false}
+use Rattle.std.proofs.Common.{◌≡◌, ◌⊎◌, inl, inr, ℕ, ◌+◌, ◌-◌, ◌*◌, ◌<◌, ◌≤◌, List, [], ◌∷◌, map, length, refl, sym, subst, Some, arith, Bool, true}
 use Rattle.std.specs.Prelude.{◌==◌}
 use Rattle.std.specs.List.{find}
 use Rattle.h5_bytes.specs.Blocks.{cover, Separate, Inside}
@@ -21,6 +21,7 @@ use Rattle.h5_header.specs.Walk.Met.{IsHeaderMet, with_header}
 use Rattle.h5_header.proofs.WalkLaws.ListLaws.{no_root_refused}
 use Rattle.h5_group.specs.Nodes.Trees.{kind_in, group_nodes_blocks}
 use Rattle.h5_group.specs.Nodes.Walk.{AreSymbolsReached}
+use Rattle.h5_group.specs.Exact.{HasExactKeys}
 use Rattle.h5_group.specs.Links.{IsGroupRead}
 use Rattle.h5_group.specs.Told.{nodes_told, symbol_nodes_told, links_told, blocks_told}
 use Rattle.h5_group.specs.Walk.{IsGroupMet, IsGroupFollowed}
@@ -35,19 +36,19 @@ use Rattle.h5_open.proofs.ContentLaws.{content_followed, message_free}
 use Rattle.h5_open.proofs.ArrayLaws.{list_breach}
 use Rattle.h5_open.proofs.PlaceLaws.{links_wait}
 
-abbrev pub group_object : Listed → SymbolTable → OpenedObject
-group_object m table = record { messages = m; content = content.Group table; trimmed = false }
+abbrev pub group_object : Listed → SymbolTable → Bool → OpenedObject
+group_object m table tidy = record { messages = m; content = content.Group table; tidy = tidy }
 
-pub group_object_read : (image : List ℕ) (held now after : List Block) (m : Listed) (table : SymbolTable) (depth : ℕ) → IsHeaderRead image m → IsGroupList (messages_in image m.list) table
+pub group_object_read : (image : List ℕ) (held now after : List Block) (m : Listed) (table : SymbolTable) (tidy : Bool) (depth : ℕ) → (tidy ≡ true → HasExactKeys image table) → IsHeaderRead image m → IsGroupList (messages_in image m.list) table
     → HasNamesOnce (messages_in image m.list) → IsGroupRead image table → (1 ≤ length (links_told image table) → depth + 1 ≤ 64)
     → ((p : ℕ) → cover p now ≡ cover p held + cover p m.blocks) → ((p : ℕ) → cover p after ≡ cover p now + cover p (blocks_told image table))
-    → IsObjectRead image held after m.header depth (group_object m table)
-group_object_read image held now after m table depth read list names is shallow claimed stored = record {
+    → IsObjectRead image held after m.header depth (group_object m table tidy)
+group_object_read image held now after m table tidy depth exact read list names is shallow claimed stored = record {
   kept = record {
     header = record { has = read.has; inside = read.inside; within = read.within; names = names; attributes = list.attributes };
     known = read.known;
     content = (list.kinds, list.chosen, is);
-    trimmed = λ known. tt;
+    tidy = exact;
   };
   header_is = refl;
   top = λ e. tt;
@@ -121,10 +122,10 @@ module _ (image : List ℕ) (held now : List Block) (followed : List Named) (fie
 
   module _ (after : List Block) (gone : IsGroupFollowed image now after (with_header field m.header depth ms followed) first (first + 8) depth table) where
     -- its links wait
-    pub group_object_followed : Separate after → ((p : ℕ) → cover p after ≡ cover p now + cover p (blocks_told image table)) → IsObjectFollowed image held after followed field depth (group_object m table)
-    group_object_followed once stored =
+    pub group_object_followed : (tidy : Bool) → Separate after → ((p : ℕ) → cover p after ≡ cover p now + cover p (blocks_told image table)) → IsObjectFollowed image held after followed field depth (group_object m table tidy)
+    group_object_followed tidy once stored =
         let waits = links_wait image table held now after (λ p. omega (arith, done.claimed p)) (with_header field m.header depth ms followed) first (first + 8) depth gone once stored in
-        content_followed image held now followed field depth m done separate after (content.Group table) gone.new gone.walked
+        content_followed image held now followed field depth m done separate after (content.Group table) tidy gone.new gone.walked
         (all_so (λ (y : Named). (y.field ≡ first) ⊎ ((y.field ≡ first + 8) ⊎ (cover (y.field - 8) now ≡ 0))) (IsOwn held field) gone.new own_of gone.stands)
         (only_inner m.header gone.new gone.inner) waits.0 waits.1
 

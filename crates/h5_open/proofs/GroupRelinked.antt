@@ -14,6 +14,7 @@ use Rattle.h5_model.specs.Format.Symbols.{Header}
 use Rattle.h5_model.specs.Tree.Objects.{Links}
 use Rattle.h5_space.specs.Moves.{Moves}
 use Rattle.h5_space.specs.Space.{Space}
+use Rattle.h5_group.specs.Exact.{HasExactKeys}
 use Rattle.h5_group.specs.Links.{IsGroupRead}
 use Rattle.h5_group.specs.Told.{blocks_told, links_told}
 use Rattle.h5_open.specs.declared.opened.object.OpenedObject.{OpenedObject}
@@ -30,6 +31,7 @@ pub record IsGroupRelinked (old mid new : Space) (slots : List (Option OpenedObj
   pub kind : p.content ≡ content.Group t
   pub links : links_by (table_of slots) (links_told mid.bytes t) ≡ change (links_by (table_of slots) (links_told old.bytes t))
   pub read : IsGroupRead mid.bytes t
+  pub exact : HasExactKeys old.bytes t → HasExactKeys mid.bytes t
   pub k : k_values mid.bytes ≡ k_values old.bytes
   pub moves : Moves old mid (blocks_told old.bytes t) (blocks_told mid.bytes t)
   pub later : Moves mid new (end_field mid.bytes ∷ written) (end_field new.bytes ∷ written)
@@ -46,6 +48,7 @@ module _ (old mid new : Space) (slots : List (Option OpenedObject)) (numbers : B
     group = is.group;
     kind = is.kind;
     read = is.read;
+    exact = is.exact;
     k = is.k;
     moves = is.moves;
     later = is.later;

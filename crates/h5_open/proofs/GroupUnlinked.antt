@@ -91,6 +91,7 @@ module _ (old : Space) (slots : List (Option OpenedObject)) (numbers : BTreeMap 
       kind = kind;
       links = links_now;
       read = (is.group).read;
+      exact = is.exact;
       k = is.k;
       moves = is.moves;
       later = later;

@@ -23,13 +23,15 @@ use Rattle.h5_space.specs.Whole.{IsApart}
 use Rattle.h5_space.proofs.MovesLaws.{moves_apart, moves_beside, moves_kept, moves_same, moves_then}
 use Rattle.h5_header.specs.Listed.{messages_in}
 use Rattle.h5_header.proofs.KeptLaws.{header-same, listed-same}
+use Rattle.h5_group.specs.Exact.{HasExactKeys}
 use Rattle.h5_group.specs.Links.{IsGroupRead}
 use Rattle.h5_group.specs.Told.{blocks_told, links_told}
+use Rattle.h5_group.proofs.ExactTrees.{exact-same}
 use Rattle.h5_group.proofs.ToldLaws.{blocks_told-same, links_told-same, told-same}
 use Rattle.h5_open.specs.declared.opened.object.OpenedObject.{OpenedObject}
 use Rattle.h5_open.specs.declared.opened.object.OpenedContent.{OpenedContent}
 use Rattle.h5_open.specs.declared.opened.object.OpenedContent.TheVariants as content
-use Rattle.h5_open.specs.Opened.Kept.{IsContentKept, IsObjectKept, IsOpened, IsContentTrimmed}
+use Rattle.h5_open.specs.Opened.Kept.{IsContentKept, IsObjectKept, IsOpened, IsContentTidy}
 use Rattle.h5_open.specs.Opened.Objects.{content_blocks, content_in, content_links, header_of, links_by, object_blocks, object_in, objects_of}
 use Rattle.h5_open.specs.Opened.Headers.{object_with}
 use Rattle.h5_open.specs.Opened.Sound.{IsHeaderIn}
@@ -42,6 +44,7 @@ pub record IsGroupWritten (old mid new : Space) (slots : List (Option OpenedObje
   pub group : slice_get slots parent ≡ Some (Some p)
   pub kind : p.content ≡ content.Group t
   pub read : IsGroupRead mid.bytes t
+  pub exact : HasExactKeys old.bytes t → HasExactKeys mid.bytes t
   pub k : k_values mid.bytes ≡ k_values old.bytes
   pub moves : Moves old mid (blocks_told old.bytes t) (taken ++ blocks_told mid.bytes t)
   pub later : Moves mid new (end_field mid.bytes ∷ written) (end_field new.bytes ∷ written)
@@ -162,6 +165,10 @@ module _ (old mid new : Space) (slots : List (Option OpenedObject)) (numbers : B
     few = rw internal_later is.read.few;
   }
 
+  -- its keys are exact still
+  exact_later : HasExactKeys old.bytes t → HasExactKeys new.bytes t
+  exact_later was = exact-same mid.bytes new.bytes leaf_later internal_later t is.read.linked tree_stays (is.exact was)
+
   -- ---- the header
 
   list_stays : ms' ≡ ms
@@ -192,7 +199,7 @@ module _ (old mid new : Space) (slots : List (Option OpenedObject)) (numbers : B
     };
     known = kept.known;
     content = kept_content;
-    trimmed = λ known. subst (IsContentTrimmed new.bytes ms') (sym is.kind) tt;
+    tidy = λ known. subst (IsContentTidy new.bytes ms') (sym is.kind) (exact_later (subst (IsContentTidy old.bytes ms) is.kind (kept.tidy known)));
   }
 
   blocks_now : object_blocks new.bytes p ≡ own ++ blocks_told mid.bytes t

@@ -124,7 +124,7 @@ module _ (image : Space) (slots : List (Option OpenedObject)) (numbers : BTreeMa
     as_many = slot_length slots number (Some (with_messages m));
     header = header;
     content = refl;
-    trimmed = refl;
+    tidy = refl;
     standing = standing;
     still = still;
     attributes = attributes;

@@ -11,11 +11,12 @@ use Rattle.h5_header.proofs.KeptLaws.{listed-same, header-same}
 use Rattle.h5_header.specs.declared.message.Message.{Message as Placed}
 use Rattle.h5_group.specs.Told.{blocks_told}
 use Rattle.h5_layout.specs.Told.{array_told, layout_told, type_told}
-use Rattle.h5_group.proofs.ToldLaws.{told-same, blocks_told-same}
+use Rattle.h5_group.proofs.ExactTrees.{exact-same}
+use Rattle.h5_group.proofs.ToldLaws.{blocks_told-same, told-same}
 use Rattle.h5_open.specs.declared.opened.object.OpenedObject.{OpenedObject}
 use Rattle.h5_open.specs.declared.opened.object.OpenedContent.{OpenedContent}
 use Rattle.h5_open.specs.declared.opened.object.OpenedContent.TheVariants as content
-use Rattle.h5_open.specs.Opened.Kept.{IsObjectKept, IsContentKept, IsContentTrimmed}
+use Rattle.h5_open.specs.Opened.Kept.{IsObjectKept, IsContentKept, IsContentTidy}
 use Rattle.h5_open.specs.Opened.Objects.{content_blocks, object_blocks}
 use Rattle.h5_open.proofs.DataLaws.{data_blocks-same, data_read-same}
 use Rattle.h5_open.proofs.TrimmedKept.{trimmed-same}
@@ -69,9 +70,9 @@ module _ (old new : List ℕ) (k : k_values new ≡ k_values old) (grown : lengt
         )
     content_of content.Array held keeps = (held.0, data_read-same old new grown (same_chunk new old k) (type_told ms) (layout_told ms) held.1 keeps)
 
-    trimmed_of : (c : OpenedContent) → IsContentKept old ms c → Keeps old new (content_blocks old ms c) → IsContentTrimmed old ms c → IsContentTrimmed new ms c
-    trimmed_of (content.Group table) held keeps was = tt
-    trimmed_of content.Array held keeps was = λ chunked. trimmed-same old new grown (same_chunk new old k) (array_told ms) held.1 keeps (array_told ms).sizes (was chunked)
+    tidy_of : (c : OpenedContent) → IsContentKept old ms c → Keeps old new (content_blocks old ms c) → IsContentTidy old ms c → IsContentTidy new ms c
+    tidy_of (content.Group table) held keeps was = exact-same old new leaf internal table held.2.linked keeps was
+    tidy_of content.Array held keeps was = λ chunked. trimmed-same old new grown (same_chunk new old k) (array_told ms) held.1 keeps (array_told ms).sizes (was chunked)
 
     pub kept-same : IsObjectKept new o
     kept-same = record {
@@ -84,5 +85,5 @@ module _ (old new : List ℕ) (k : k_values new ≡ k_values old) (grown : lengt
       };
       known = is.known;
       content = rw kept_messages (content_of o.content is.content content_kept);
-      trimmed = λ known. rw kept_messages (trimmed_of o.content is.content content_kept (is.trimmed known));
+      tidy = λ known. rw kept_messages (tidy_of o.content is.content content_kept (is.tidy known));
     }

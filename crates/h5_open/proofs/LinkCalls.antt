@@ -22,6 +22,7 @@ use Rattle.h5_space.specs.Space.{Space}
 use Rattle.h5_space.specs.Whole.{IsApart}
 use Rattle.h5_header.specs.Listed.{messages_in}
 use Rattle.h5_header.specs.Standing.{IsStanding}
+use Rattle.h5_group.specs.Exact.{HasExactKeys}
 use Rattle.h5_group.specs.LinkEdits.{IsGroupApart}
 use Rattle.h5_group.specs.Links.{HasNone, IsGroupRead}
 use Rattle.h5_group.specs.Told.{blocks_told, links_told}
@@ -123,7 +124,7 @@ module _ (old : Space) (slots : List (Option OpenedObject)) (numbers : BTreeMap 
 
   module _ (mid : Space) (name : List ℕ) (target : Target) (front back : List (List ℕ × Target)) (was : links_told old.bytes t ≡ front ++ back)
       (put : links_told mid.bytes t ≡ front ++ (name, target) ∷ back) (read : IsGroupRead mid.bytes t) (k : k_values mid.bytes ≡ k_values old.bytes)
-      (moves : Moves old mid (blocks_told old.bytes t) (blocks_told mid.bytes t)) where
+      (moves : Moves old mid (blocks_told old.bytes t) (blocks_told mid.bytes t)) (exact : HasExactKeys old.bytes t → HasExactKeys mid.bytes t) where
     -- a soft link, and then the end of file address
     pub soft_put : (text : List ℕ) → target ≡ Text text → (new : Space) → Moves mid new (end_field mid.bytes ∷ []) (end_field new.bytes ∷ [])
         → end_of_file new.bytes ≡ length new.bytes → length new.bytes ≤ 2 ^ 31 → IsGroupLinked old mid new slots parent p t name target []
@@ -135,6 +136,7 @@ module _ (old : Space) (slots : List (Option OpenedObject)) (numbers : BTreeMap 
       was = was;
       put = put;
       read = read;
+      exact = exact;
       k = k;
       moves = moves;
       later = ended;
@@ -173,6 +175,7 @@ module _ (old : Space) (slots : List (Option OpenedObject)) (numbers : BTreeMap 
         was = was;
         put = put;
         read = read;
+        exact = exact;
         k = k;
         moves = moves;
         later = marked_moves mid set new o.messages.blocks (marked_field old slots numbers opened parent p t at kind mid moves number o stands array set its.marked) its.marked its.ended;

@@ -19,6 +19,7 @@ use Rattle.h5_space.specs.Moves.{Moves, Spends}
 use Rattle.h5_space.specs.Space.{Space}
 use Rattle.h5_header.specs.Listed.{messages_in}
 use Rattle.h5_header.specs.Standing.{IsStanding}
+use Rattle.h5_group.specs.Exact.{HasExactKeys}
 use Rattle.h5_group.specs.Edited.{IsLinkPut}
 use Rattle.h5_group.specs.Heap.Links.{Leads, ToArray, target_link, target_of_leads}
 use Rattle.h5_group.specs.Heap.Written.{texts_span}
@@ -135,15 +136,16 @@ module _ (old : Space) (slots : List (Option OpenedObject)) (numbers : BTreeMap 
       -- ---- when it is put
 
       module _ (mid : Space) (put : IsLinkPut (target_link (name, lead)) (links_told old.bytes t) (links_told mid.bytes t)) (after : IsGroupApart mid t)
-          (moves : Moves old mid (blocks_told old.bytes t) (blocks_told mid.bytes t)) (k : k_values mid.bytes ≡ k_values old.bytes) where
+          (moves : Moves old mid (blocks_told old.bytes t) (blocks_told mid.bytes t)) (k : k_values mid.bytes ≡ k_values old.bytes)
+          (exact : HasExactKeys old.bytes t → HasExactKeys mid.bytes t) where
         -- the header of the array still stands, and counts few links
         pub array_standing : (number : ℕ) (o : OpenedObject) → IsArraySlot slots number o → IsStanding mid.bytes o.messages
         array_standing number o at = target_standing old slots numbers opened parent p t slot.1 slot.2 mid name (target_of_leads lead) put.front put.back put.before put.after
-            after.read k moves number o at.0 at.1
+            after.read k moves exact number o at.0 at.1
 
         pub array_few : (number : ℕ) (o : OpenedObject) → IsArraySlot slots number o → reference_count (prefix_at mid.bytes (header_of o)) ≤ 65536
         array_few number o at = target_few old slots numbers opened parent p t slot.1 slot.2 mid name (target_of_leads lead) put.front put.back put.before put.after
-            after.read k moves number o at.0 at.1
+            after.read k moves exact number o at.0 at.1
 
         -- the superblock is there where the header is written
         pub superblock_there : (number : ℕ) (o : OpenedObject) → IsArraySlot slots number o → (set : Space) → Moves mid set o.messages.blocks o.messages.blocks
@@ -175,7 +177,7 @@ module _ (old : Space) (slots : List (Option OpenedObject)) (numbers : BTreeMap 
               = subst (λ (s : Space). Moves s new (end_field s.bytes ∷ []) (end_field new.bytes ∷ [])) same ended in
               let put_there : links_told mid.bytes t ≡ put.front ++ (name, Text text.now) ∷ put.back
               = put.after ∙ ap (λ (l : Leads). put.front ++ (name, target_of_leads l) ∷ put.back) is in
-              let linked = soft_put old slots numbers opened parent p t slot.1 slot.2 mid name (Text text.now) put.front put.back put.before put_there after.read k moves
+              let linked = soft_put old slots numbers opened parent p t slot.1 slot.2 mid name (Text text.now) put.front put.back put.before put_there after.read k moves exact
               text.now refl new written end small in (
                 soft_opened old mid new slots numbers opened parent p t name text.now linked free_here sound,
                 soft_changed old mid new slots numbers opened parent p t name text.now linked free_here sound,
@@ -196,7 +198,7 @@ module _ (old : Space) (slots : List (Option OpenedObject)) (numbers : BTreeMap 
                 marked = of.2.moves;
                 ended = ended;
               } in
-              let linked = hard_put old slots numbers opened parent p t slot.1 slot.2 mid name (Header (header_of o)) put.front put.back put.before put_there after.read k moves
+              let linked = hard_put old slots numbers opened parent p t slot.1 slot.2 mid name (Header (header_of o)) put.front put.back put.before put_there after.read k moves exact
               number.0 o array.0 array.1 refl set new its end small in (
                 hard_opened old mid set new slots numbers opened parent p t name number.0 o linked its free_here sound,
                 hard_changed old mid set new slots numbers opened parent p t name number.0 o linked its free_here sound,

@@ -23,7 +23,7 @@ use Rattle.h5_open.specs.declared.opened.object.OpenedObject.{OpenedObject}
 use Rattle.h5_open.specs.ObjectAdded.{IsObjectStored, stored_content, object_bytes}
 use Rattle.h5_open.specs.Opened.Kept.{IsOpened}
 use Rattle.h5_open.specs.Opened.Objects.{content_blocks, header_of, object_blocks, objects_of, opened_blocks, table_of}
-use Rattle.h5_open.proofs.GroupBeside.{blocks_beside, k_beside, links_beside}
+use Rattle.h5_open.proofs.GroupBeside.{blocks_beside, exact_beside, k_beside, links_beside}
 use Rattle.h5_open.proofs.GroupWritten.{IsGroupWritten, taken_stay}
 use Rattle.h5_open.proofs.LinkCalls.{group_stood}
 use Rattle.h5_open.proofs.ObjectPut.{IsObjectPut}
@@ -74,6 +74,7 @@ module _ (old taken linked new : Space) (slots : List (Option OpenedObject)) (nu
     group = is.group;
     kind = is.kind;
     read = its.apart.read;
+    exact = λ was. its.exact (exact_beside old taken own t group its.took was);
     k = its.k ∙ k_beside old taken own t group its.took;
     moves = moves_then old taken linked (blocks_told old.bytes t) (own ++ blocks_told old.bytes t) (own ++ blocks_told linked.bytes t)
         (moves_beside old taken [] own (blocks_told old.bytes t) its.took) link_moves;

@@ -9,6 +9,7 @@ use Rattle.h5_model.specs.Format.Superblock.{k_values, end_of_file, end_field}
 use Rattle.h5_model.specs.Format.Symbols.{Target, Header}
 use Rattle.h5_space.specs.Moves.{Moves, Spends}
 use Rattle.h5_space.specs.Space.{Space}
+use Rattle.h5_group.specs.Exact.{HasExactKeys}
 use Rattle.h5_group.specs.Edited.{IsLinkPut}
 use Rattle.h5_group.specs.Heap.Links.{Leads, target_link, target_of_leads}
 use Rattle.h5_group.specs.Heap.Written.{texts_span}
@@ -69,7 +70,7 @@ module _ (old taken : Space) (t : SymbolTable) (group : IsGroupApart old t) (nam
     module _ (new : Space) (size : len ≡ length (object_bytes b)) (there : part at len taken.bytes ≡ object_bytes b) (inside : at + len ≤ length taken.bytes)
         (put : IsLinkPut (target_link (name, lead)) (links_told taken.bytes t) (links_told linked.bytes t)) (apart : IsGroupApart linked t)
         (moves : Moves taken linked (blocks_told taken.bytes t) (blocks_told linked.bytes t)) (k : k_values linked.bytes ≡ k_values taken.bytes)
-        (later : Moves linked new (end_field linked.bytes ∷ []) (end_field new.bytes ∷ []))
+        (exact : HasExactKeys taken.bytes t → HasExactKeys linked.bytes t) (later : Moves linked new (end_field linked.bytes ∷ []) (end_field new.bytes ∷ []))
         (end : end_of_file new.bytes ≡ length new.bytes) (long : length new.bytes ≡ length linked.bytes) (short : length old.bytes + (room + len) ≤ 2 ^ 31) where
       pub object_stored : IsObjectStored old taken linked new t name at b
       object_stored = record {
@@ -78,6 +79,7 @@ module _ (old taken : Space) (t : SymbolTable) (group : IsGroupApart old t) (nam
         inside = omega (arith, size, inside);
         put = subst (λ (target : Target). IsLinkPut (name, target) (links_told taken.bytes t) (links_told linked.bytes t)) (object_target at b.content lead leads) put;
         apart = apart;
+        exact = exact;
         moves = moves;
         k = k;
         later = later;

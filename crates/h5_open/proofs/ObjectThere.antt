@@ -27,13 +27,15 @@ use Rattle.h5_layout.specs.Told.{array_told, layout_told, type_told}
 use Rattle.h5_laws.proofs.SoundLaws.Counts.{no_links}
 use Rattle.h5_laws.proofs.SoundLaws.Inserted.{names_differ}
 use Rattle.h5_laws.proofs.SoundLaws.Linked.{IsBare}
+use Rattle.h5_open.specs.declared.opened.added.ContentBytes.{ContentBytes}
+use Rattle.h5_open.specs.declared.opened.added.ContentBytes.TheVariants as bytes
 use Rattle.h5_open.specs.declared.opened.added.ObjectBytes.{ObjectBytes}
 use Rattle.h5_open.specs.declared.opened.object.OpenedObject.{OpenedObject}
 use Rattle.h5_open.specs.declared.opened.object.OpenedContent.{OpenedContent}
 use Rattle.h5_open.specs.declared.opened.object.OpenedContent.TheVariants as content
-use Rattle.h5_open.specs.ObjectAdded.{IsContentMade, IsToBeMade, stored_content, content_of, object_bytes, object_place}
+use Rattle.h5_open.specs.ObjectAdded.{HasExactContent, IsContentMade, IsTidyNew, IsToBeMade, stored_content, content_of, object_bytes, object_place}
 use Rattle.h5_open.specs.Opened.Headers.{object_with}
-use Rattle.h5_open.specs.Opened.Kept.{IsContentKept, IsContentTrimmed, IsObjectKept, IsOpened}
+use Rattle.h5_open.specs.Opened.Kept.{IsContentKept, IsContentTidy, IsObjectKept, IsOpened}
 use Rattle.h5_open.specs.Opened.Objects.{content_blocks, content_in, content_links, header_of, links_by, object_blocks, object_in, table_of}
 use Rattle.h5_open.specs.Opened.Sound.{IsHeaderIn}
 use Rattle.h5_open.specs.Opened.State.{opened_state}
@@ -114,19 +116,21 @@ module _ (old taken linked new : Space) (slots : List (Option OpenedObject)) (nu
 
   -- ---- what is kept of it
 
-  content_trimmed : (c : OpenedContent) → IsContentKept new.bytes ms c → Run (at + head) (content_blocks new.bytes ms c) (at + head) → IsContentTrimmed new.bytes ms c
-  content_trimmed (content.Group table) kept run = tt
-  content_trimmed content.Array kept run =
-      trimmed_new new.bytes (type_told ms) (array_told ms).sizes (array_told ms).maxima (array_told ms).fill (at + head) (layout_told ms) kept.1 run
+  made_tidy : (c : ContentBytes) → IsTidyNew c → IsContentKept new.bytes ms (content_of c) → HasExactContent new.bytes (content_of c)
+      → Run (at + head) (content_blocks new.bytes ms (content_of c)) (at + (head + length (stored_content c))) → IsContentTidy new.bytes ms (content_of c)
+  made_tidy (bytes.Group table bs) known kept exact run = exact
+  made_tidy (bytes.Cells fixed fill count) known kept exact run =
+      let none = ap length known in
+      let short : at + (head + length (stored_content (bytes.Cells fixed fill count))) ≡ at + head = omega (arith, none) in
+      trimmed_new new.bytes (type_told ms) (array_told ms).sizes (array_told ms).maxima (array_told ms).fill (at + head) (layout_told ms) kept.1
+      (subst (Run (at + head) (content_blocks new.bytes ms content.Array)) short run)
 
-  its_trimmed : o.trimmed ≡ true → IsContentTrimmed new.bytes (messages_in new.bytes o.messages.list) o.content
-  its_trimmed known =
-      let none = ap length (is.kept.trimmed known) in
-      let short : at + long ≡ at + head = omega (arith, long_is, none) in
-      subst (IsContentTrimmed new.bytes (messages_in new.bytes o.messages.list)) (sym is.kept.content)
-      (subst (λ (l : List Message). IsContentTrimmed new.bytes l (content_of b.content)) (sym messages_are)
-      (content_trimmed (content_of b.content) content_made.kept
-      (subst (Run (at + head) (content_blocks new.bytes ms (content_of b.content))) short content_made.blocks)))
+  its_tidy : o.tidy ≡ true → IsContentTidy new.bytes (messages_in new.bytes o.messages.list) o.content
+  its_tidy known =
+      subst (IsContentTidy new.bytes (messages_in new.bytes o.messages.list)) (sym is.kept.content)
+      (subst (λ (l : List Message). IsContentTidy new.bytes l (content_of b.content)) (sym messages_are)
+      (made_tidy b.content (is.kept.tidy known) content_made.kept content_made.exact
+      (subst (λ (n : ℕ). Run (at + head) (content_blocks new.bytes ms (content_of b.content)) (at + n)) long_is content_made.blocks)))
 
   pub its_kept : IsObjectKept new.bytes o
   its_kept = record {
@@ -142,7 +146,7 @@ module _ (old taken linked new : Space) (slots : List (Option OpenedObject)) (nu
     known = types_said is_read new.bytes o.messages.list (subst (AllByRecursion (λ (m : Message). IsTrue (is_read m.kind))) (sym messages_are) to_be.known);
     content = subst (IsContentKept new.bytes (messages_in new.bytes o.messages.list)) (sym is.kept.content)
         (subst (λ (l : List Message). IsContentKept new.bytes l (content_of b.content)) (sym messages_are) content_made.kept);
-    trimmed = its_trimmed;
+    tidy = its_tidy;
   }
 
   -- it is the object that was to be made, by any table

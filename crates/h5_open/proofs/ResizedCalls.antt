@@ -30,7 +30,7 @@ use Rattle.h5_layout.specs.ArrayEdits.{IsArrayApart, described_in}
 use Rattle.h5_layout.specs.Extents.{CanHaveSizes, extent_room, lacks_maxima}
 use Rattle.h5_layout.specs.Trimmed.{IsTrimmed}
 use Rattle.h5_open.specs.ChangedInPlace.{IsChangedInPlace}
-use Rattle.h5_open.specs.Opened.Kept.{AreChunksTrimmed, IsContentTrimmed, IsOpened}
+use Rattle.h5_open.specs.Opened.Kept.{AreChunksTrimmed, IsContentTidy, IsOpened}
 use Rattle.h5_open.specs.Opened.Objects.{table_of}
 use Rattle.h5_open.specs.Opened.State.{FileState, opened_state}
 use Rattle.h5_open.specs.Resized.{IsArrayTrimmed, IsObjectResized, LacksMaxima, extent_bytes, has_no_place}
@@ -88,10 +88,10 @@ module _ (image : Space) (slots : List (Option OpenedObject)) (numbers : BTreeMa
     pub sizes_here : CanHaveSizes (described_in image.bytes p.messages) sizes
     sizes_here = subst (λ (a : Described). CanHaveSizes a sizes) (array_is image slots numbers opened number p at here.0 here.1) here.2
 
-    pub trimmed_here : p.trimmed ≡ true → IsTrimmed image.bytes (described_in image.bytes p.messages) (described_in image.bytes p.messages).sizes
+    pub trimmed_here : p.tidy ≡ true → IsTrimmed image.bytes (described_in image.bytes p.messages) (described_in image.bytes p.messages).sizes
     trimmed_here known =
-        let kept : IsContentTrimmed image.bytes ms content.Array
-        = subst (IsContentTrimmed image.bytes ms) kind ((object_of image slots numbers opened number p at).kept.trimmed known) in
+        let kept : IsContentTidy image.bytes ms content.Array
+        = subst (IsContentTidy image.bytes ms) kind ((object_of image slots numbers opened number p at).kept.tidy known) in
         kept sizes_here.chunked
 
     -- ---- why it is refused
@@ -211,6 +211,6 @@ module _ (image : Space) (slots : List (Option OpenedObject)) (numbers : BTreeMa
       pub resized_trimmed : IsArrayTrimmed (opened_state new (slice_set slots number (Some p'))) number
       resized_trimmed a there =
           let kept : AreChunksTrimmed new.bytes (described_in new.bytes p'.messages)
-          = subst (IsContentTrimmed new.bytes (messages_in new.bytes p'.messages.list)) array_now
-          ((object_of new slots' numbers resized_opened number p' after).kept.trimmed done.known) in
+          = subst (IsContentTidy new.bytes (messages_in new.bytes p'.messages.list)) array_now
+          ((object_of new slots' numbers resized_opened number p' after).kept.tidy done.known) in
           subst (λ (b : Described). IsTrimmed new.bytes b b.sizes) (sym (array_is new slots' numbers resized_opened number p' after a there)) (kept chunked_now)

@@ -28,7 +28,7 @@ use Rattle.h5_open.specs.declared.opened.object.OpenedContent.TheVariants as con
 use Rattle.h5_layout.specs.Lacking.{lacks_cells, stored_all, stored_storage}
 use Rattle.h5_layout.specs.Storage.{IsStorageMade}
 use Rattle.h5_open.specs.ChangedInPlace.{IsChangedInPlace}
-use Rattle.h5_open.specs.Opened.Kept.{IsContentTrimmed, IsOpened}
+use Rattle.h5_open.specs.Opened.Kept.{IsContentTidy, IsOpened}
 use Rattle.h5_open.specs.Opened.Objects.{tree_of}
 use Rattle.h5_open.specs.Opened.State.{opened_state}
 use Rattle.h5_open.specs.Written.{IsCellStored}
@@ -100,8 +100,8 @@ module _ (old : Space) (slots : List (Option OpenedObject)) (numbers : BTreeMap 
       dataset = made.dataset;
       trimmed = λ known chunked.
           let before = chunked_before chunked in
-          let was : IsContentTrimmed old.bytes ms content.Array
-          = subst (IsContentTrimmed old.bytes ms) kind ((object_of old slots numbers opened number p at).kept.trimmed known) in
+          let was : IsContentTidy old.bytes ms content.Array
+          = subst (IsContentTidy old.bytes ms) kind ((object_of old slots numbers opened number p at).kept.tidy known) in
           made.trimmed before (was before);
       ended = ended;
       end = end;

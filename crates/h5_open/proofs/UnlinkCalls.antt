@@ -1,6 +1,6 @@
 -- A link that is to be taken out of a group of an opened image: what is known of the group and of what goes with it before, and what is opened
 -- after.
-use Rattle.std.proofs.Common.{◌≡◌, inl, inr, ℕ, ◌+◌, ◌≤◌, ◌^◌, true, List, [], ◌∷◌, length, refl, sym, ap, ◌∙◌, subst, arith, Option, Some}
+use Rattle.std.proofs.Common.{◌≡◌, inl, inr, ℕ, ◌+◌, ◌≤◌, ◌^◌, Bool, true, List, [], ◌∷◌, length, refl, sym, ap, ◌∙◌, subst, arith, Option, Some}
 use Rattle.std.specs.Prelude.{slice_get}
 use Rattle.std.specs.BTreeMap.{BTreeMap}
 use Rattle.std.specs.List.{Contains}
@@ -11,6 +11,8 @@ use Rattle.h5_model.specs.Format.Symbols.{Target}
 use Rattle.h5_model.specs.Tree.Objects.{Tree, Link, Soft, ToObject, follow, object_of, within_names}
 use Rattle.h5_space.specs.Space.{Space}
 use Rattle.h5_space.specs.Whole.{IsApart}
+use Rattle.h5_header.specs.Listed.{messages_in}
+use Rattle.h5_group.specs.Exact.{HasExactKeys}
 use Rattle.h5_group.specs.LinkEdits.{IsGroupApart}
 use Rattle.h5_group.specs.Told.{links_told}
 use Rattle.h5_laws.specs.Trees.Sound.{IsSoundTree}
@@ -24,7 +26,7 @@ use Rattle.h5_open.specs.ChangedInPlace.{IsChangedInPlace, is_among}
 use Rattle.h5_open.specs.LinkAdded.{IsGroupSlot}
 use Rattle.h5_open.specs.LinkTaken.{AreCountsLowered, AreHeadersStanding, IsLinkTaken, IsLinkTo, IsOwnTable, lowered_blocks, touched_below}
 use Rattle.h5_open.specs.Losses.{AreLosses}
-use Rattle.h5_open.specs.Opened.Kept.{IsOpened}
+use Rattle.h5_open.specs.Opened.Kept.{IsContentTidy, IsOpened}
 use Rattle.h5_open.specs.Opened.Objects.{table_of, tree_of}
 use Rattle.h5_open.specs.Opened.State.{FileState, opened_state}
 use Rattle.h5_open.proofs.Among.{among_in, in_among}
@@ -34,6 +36,7 @@ use Rattle.h5_open.proofs.LinkCalls.{group_stood, image_short}
 use Rattle.h5_open.proofs.LinkSlots.{group_slot}
 use Rattle.h5_open.proofs.LossesTaken as taking
 use Rattle.h5_open.proofs.LossesTaken.{numbers_less, touched_numbers}
+use Rattle.h5_open.proofs.OpenedLaws.Sounds.{object_of as kept_of}
 use Rattle.h5_open.proofs.UnlinkInPlace.{IsUnlinkDone, unlinked_changed, unlinked_opened}
 
 module _ (image : Space) (slots : List (Option OpenedObject)) (numbers : BTreeMap ℕ ℕ) (opened : IsOpened image slots numbers) (f : FileState) (view : opened_state image slots ≡ f)
@@ -68,6 +71,15 @@ module _ (image : Space) (slots : List (Option OpenedObject)) (numbers : BTreeMa
 
     pub unlink_there : (target : Target) × Contains (links_told image.bytes t) (name, target)
     unlink_there = let told = told_link image slots numbers opened parent slot.0 t slot.1 slot.2 name here.link here.stands in (told.0, told.1)
+
+    -- its keys are exact, where that is known
+    pub unlink_exact : (lent : List (Option OpenedObject)) (tidy : Bool) → lent ≡ slots
+        → ((p : OpenedObject) → slice_get lent parent ≡ Some (Some p) → tidy ≡ p.tidy) → tidy ≡ true → HasExactKeys image.bytes t
+    unlink_exact lent tidy same told known =
+        let p : OpenedObject = slot.0 in
+        let kept = (kept_of image slots numbers opened parent p slot.1).kept in
+        subst (IsContentTidy image.bytes (messages_in image.bytes p.messages.list)) slot.2
+        (kept.tidy (sym (told p (subst (λ (ss : List (Option OpenedObject)). slice_get ss parent ≡ Some (Some p)) (sym same) slot.1)) ∙ known))
 
     -- ---- what goes with it
 

@@ -16,6 +16,7 @@ use Rattle.h5_space.specs.Space.{Space}
 use Rattle.h5_header.specs.Listed.{messages_in}
 use Rattle.h5_header.specs.Standing.{IsStanding}
 use Rattle.h5_group.specs.Edited.{IsLinkPut}
+use Rattle.h5_group.specs.Exact.{HasExactKeys}
 use Rattle.h5_group.specs.LinkEdits.{IsGroupApart}
 use Rattle.h5_group.specs.Told.{blocks_told, links_told}
 use Rattle.h5_open.specs.declared.opened.object.OpenedObject.{OpenedObject}
@@ -31,11 +32,13 @@ pub record IsLinkTo (tree : Tree) (parent : ℕ) (name : List ℕ) (object : Opt
 abbrev pub touched_below : Tree → ℕ → Option ℕ → List ℕ
 touched_below tree parent object = parent ∷ flat_map (within_names tree 64) (option_map_or (λ n. n ∷ []) object [])
 
--- The group at this tree and heap has the link of this name no more; all its other links stay, and the image is as long as it was.
+-- The group at this tree and heap has the link of this name no more; all its other links stay, its keys are exact where they were, and the image is
+-- as long as it was.
 pub record IsLinkTaken (old new : Space) (table : SymbolTable) (name : List ℕ) : Type 0 where
   pub links : (target : Target) → Contains (links_told old.bytes table) (name, target)
       → IsLinkPut (name, target) (links_told new.bytes table) (links_told old.bytes table)
   pub group : IsGroupApart new table
+  pub exact : HasExactKeys old.bytes table → HasExactKeys new.bytes table
   pub moves : Moves old new (blocks_told old.bytes table) (blocks_told new.bytes table)
   pub k : k_values new.bytes ≡ k_values old.bytes
   pub as_long : length new.bytes ≡ length old.bytes

@@ -20,6 +20,7 @@ use Rattle.h5_header.specs.Listed.{messages_in, IsWithin}
 use Rattle.h5_attr.specs.Attributes.{HasNamesOnce, attributes_of}
 use Rattle.h5_space.specs.Moves.{Moves}
 use Rattle.h5_space.specs.Space.{Space, next_place}
+use Rattle.h5_group.specs.Exact.{HasExactKeys}
 use Rattle.h5_group.specs.Edited.{IsLinkPut}
 use Rattle.h5_group.specs.Heap.Links.{Leads, ToArray, ToGroup}
 use Rattle.h5_group.specs.LinkEdits.{IsGroupApart}
@@ -71,10 +72,17 @@ object_place f b = place_in f (length (object_bytes b))
 
 -- ---- an object without links
 
--- With these messages the content stands in the image, from one place to another: it is this one, and has no links.
+-- a group has exact keys
+abbrev pub HasExactContent : List ℕ → OpenedContent → Type 0
+HasExactContent image (content.Group table) = HasExactKeys image table
+HasExactContent image content.Array = ⊤
+
+-- With these messages the content stands in the image, from one place to another: it is this one, has no links, and has exact keys if it is a
+-- group.
 pub record IsContentMade (image : List ℕ) (ms : List Message) (c : OpenedContent) (from to : ℕ) (made : Content) : Type 0 where
   pub kept : IsContentKept image ms c
   pub none : content_links image c ≡ []
+  pub exact : HasExactContent image c
   pub told : (table : FinMap nat_cmp ℕ) → content_in image table ms c ≡ made
   pub blocks : Run from (content_blocks image ms c) to
 
@@ -96,6 +104,11 @@ pub record IsToBeMade (f : FileState) (b : ObjectBytes) (object : Object) : Type
       → IsContentMade image messages (content_of b.content) (object_place f b + length b.header.now) (object_place f b + length (object_bytes b))
       object.content
 
+-- what is known to be tidy without a look: a group, and an array without bytes behind its header
+abbrev pub IsTidyNew : ContentBytes → Type 0
+IsTidyNew (bytes.Group table bs) = ⊤
+IsTidyNew (bytes.Cells fixed fill count) = stored_content (bytes.Cells fixed fill count) ≡ []
+
 -- what is kept of an object whose bytes will stand at this place
 pub record IsKeptFor (at : ℕ) (b : ObjectBytes) (o : OpenedObject) : Type 0 where
   pub header : header_of o ≡ at
@@ -104,7 +117,7 @@ pub record IsKeptFor (at : ℕ) (b : ObjectBytes) (o : OpenedObject) : Type 0 wh
   pub messages : (ms : List Message) → IsHeaderBytes b.header.now at ms → (image : List ℕ) → part at (length b.header.now) image ≡ b.header.now
       → messages_in image o.messages.list ≡ ms
   pub content : o.content ≡ content_of b.content
-  pub trimmed : o.trimmed ≡ true → stored_content b.content ≡ []
+  pub tidy : o.tidy ≡ true → IsTidyNew b.content
 
 -- A block was taken for its bytes, which were written there; a link to it was put into the group at this tree and heap; and the end of file
 -- address was written.
@@ -114,6 +127,7 @@ pub record IsObjectStored (old taken linked new : Space) (t : SymbolTable) (name
   pub inside : at + length (object_bytes b) ≤ length taken.bytes
   pub put : IsLinkPut (name, Header at) (links_told taken.bytes t) (links_told linked.bytes t)
   pub apart : IsGroupApart linked t
+  pub exact : HasExactKeys taken.bytes t → HasExactKeys linked.bytes t
   pub moves : Moves taken linked (blocks_told taken.bytes t) (blocks_told linked.bytes t)
   pub k : k_values linked.bytes ≡ k_values taken.bytes
   pub later : Moves linked new (end_field linked.bytes ∷ []) (end_field new.bytes ∷ [])

@@ -35,7 +35,7 @@ pub record IsObjectResized (old new : Space) (o o' : OpenedObject) (sizes : List
   pub room : ℕ
   pub resized : IsArrayResized ready new (record o.messages { room = room }) o'.messages sizes
   pub content : o'.content ≡ o.content
-  pub known : o'.trimmed ≡ true
+  pub known : o'.tidy ≡ true
 
 -- a new Dataspace message is needed, and the header's total of messages has no place for it
 abbrev pub has_no_place : List ℕ → Listed → Bool

@@ -24,7 +24,7 @@ use crate::judge::{judge_array, judge_group, judge_kind};
 use crate::opened::{OpenedContent, OpenedObject};
 use h5_bytes::Block;
 use h5_chunks::{ChunkShape, read_chunks};
-use h5_group::{SymbolTable, entries, links_at, read_group, symbol_nodes};
+use h5_group::{SymbolTable, entries, has_exact_keys, links_at, read_group, symbol_nodes};
 use h5_header::{Messages, ObjectKind, claim};
 use h5_layout::{ArrayRef, Dims, Layout, known_array};
 use h5_model::{Cause, Fixed, Link, OpenFault};
@@ -96,7 +96,7 @@ fn read_group_object(
     Ok(OpenedObject {
         messages,
         content: OpenedContent::Group(table),
-        trimmed: false,
+        tidy: has_exact_keys(image, table),
     })
 }
 
@@ -128,7 +128,7 @@ fn read_array_object(
     Ok(OpenedObject {
         messages,
         content: OpenedContent::Array,
-        trimmed: false,
+        tidy: false,
     })
 }
 

@@ -15,6 +15,7 @@ use Rattle.h5_space.specs.Whole.{IsApart}
 use Rattle.h5_header.specs.Heads.{is_read}
 use Rattle.h5_header.specs.Kinds.{IsOfGroup}
 use Rattle.h5_header.specs.Listed.{messages_in}
+use Rattle.h5_group.specs.Exact.{HasExactKeys}
 use Rattle.h5_group.specs.Links.{IsGroupRead}
 use Rattle.h5_layout.specs.Data.{AreDataRead}
 use Rattle.h5_layout.specs.Described.{Described}
@@ -37,16 +38,17 @@ IsContentKept image ms content.Array = IsArrayList ms × AreDataRead image (type
 abbrev pub AreChunksTrimmed : List ℕ → Described → Type 0
 AreChunksTrimmed image a = is_chunked (storage_of a.sizes a.layout) ≡ true → IsTrimmed image a a.sizes
 
-abbrev pub IsContentTrimmed : List ℕ → List Message → OpenedContent → Type 0
-IsContentTrimmed image ms (content.Group table) = Unit {0}
-IsContentTrimmed image ms content.Array = AreChunksTrimmed image (array_told ms)
+-- so does an array that is tidy; and a group that is tidy has exact keys
+abbrev pub IsContentTidy : List ℕ → List Message → OpenedContent → Type 0
+IsContentTidy image ms (content.Group table) = HasExactKeys image table
+IsContentTidy image ms content.Array = AreChunksTrimmed image (array_told ms)
 
 -- the object stands in the image
 pub record IsObjectKept (image : List ℕ) (o : OpenedObject) : Type 0 where
   pub header : IsHeaderKept image o.messages
   pub known : AllByRecursion (λ x. IsTrue (is_read x.kind)) o.messages.list
   pub content : IsContentKept image (messages_in image o.messages.list) o.content
-  pub trimmed : o.trimmed ≡ true → IsContentTrimmed image (messages_in image o.messages.list) o.content
+  pub tidy : o.tidy ≡ true → IsContentTidy image (messages_in image o.messages.list) o.content
 
 -- each header of the table has the number under which it stands there
 abbrev pub IsIndex : FinMap nat_cmp ℕ → BTreeMap ℕ ℕ → Type 0

@@ -195,9 +195,9 @@ fn keep_laid(
     ensures same_numbers { OnErr result (index.new.numbers.entries ≡ index.old.numbers.entries) }
 {
     let messages = Messages::laid(alloc, at, object.header)?;
-    // Without bytes behind the header there are no chunks.
-    let (content, trimmed) = match object.content {
-        ContentBytes::Group { table, .. } => (OpenedContent::Group(table), false),
+    // Without bytes behind the header there are no chunks, and a group without links has one key alone.
+    let (content, tidy) = match object.content {
+        ContentBytes::Group { table, .. } => (OpenedContent::Group(table), true),
         ContentBytes::Cells { count, .. } => (OpenedContent::Array, count == 0),
     };
     keep(
@@ -205,7 +205,7 @@ fn keep_laid(
         OpenedObject {
             messages,
             content,
-            trimmed,
+            tidy,
         },
     )
 }

@@ -18,6 +18,7 @@ pub struct OpenedObject {
     /// The messages of its header.
     pub messages: Messages,
     pub content: OpenedContent,
-    /// Whether an array in chunks is known to store nothing outside its sizes; `false` where that was not looked at.
-    pub trimmed: bool,
+    /// Whether an array in chunks is known to store nothing outside its sizes, and a group to have exact keys (`has_exact_keys` of
+    /// `h5_group`); `false` where that is not so, or was not looked at.
+    pub tidy: bool,
 }

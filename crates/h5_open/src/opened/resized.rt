@@ -88,7 +88,7 @@ fn resize_object(
 ) -> Result<(), AddFault>
     requires array { IsArrayApart image.old object.old.messages }
     requires sizes { CanHaveSizes (described_in image.old.bytes object.old.messages) sizes.now }
-    requires trimmed { object.old.trimmed ≡ true → IsTrimmed image.old.bytes
+    requires trimmed { object.old.tidy ≡ true → IsTrimmed image.old.bytes
         (described_in image.old.bytes object.old.messages)
         (described_in image.old.bytes object.old.messages).sizes }
     requires short { length image.old.bytes ≤ 2 ^ 31 }
@@ -108,14 +108,14 @@ fn resize_object(
     }) }
 {
     let bytes = bytes_for(image, &object.messages, sizes)?;
-    let Ok(outside) = look_outside(alloc, image, &object.messages, object.trimmed, sizes) else {
+    let Ok(outside) = look_outside(alloc, image, &object.messages, object.tidy, sizes) else {
         return Err(AddFault::NoMemory);
     };
     let Ok(()) = make_room(image, &mut object.messages, bytes, outside.as_ref()) else {
         return Err(AddFault::NoMemory);
     };
     resize_array(image, &mut object.messages, sizes, outside.as_ref());
-    object.trimmed = true;
+    object.tidy = true;
     Ok(())
 }
 

@@ -1,16 +1,18 @@
 //! Links taken out of a group where it stands, and objects that go with their last link (File Format Specification 3.0, sections III.A.1,
 //! III.C and IV.A.1.a).
 
-ghost use Rattle.std.specs.Prelude.{◌≡◌, ◌^◌, ◌<◌, ◌≤◌, OnErr, OnOk, length};
+ghost use Rattle.std.specs.Prelude.{◌≡◌, ◌^◌, ◌<◌, ◌≤◌, IsTrue, OnErr, OnOk, Some, length, slice_get};
 ghost use Rattle.std.specs.List.{Contains};
 ghost use Rattle.h5_model.specs.Format.Symbols.{Target};
 ghost use Rattle.h5_space.specs.Whole.{IsApart};
+ghost use Rattle.h5_group.specs.Exact.{HasExactKeys};
 ghost use Rattle.h5_group.specs.LinkEdits.{IsGroupApart};
 ghost use Rattle.h5_group.specs.Told.{links_told};
 ghost use Rattle.h5_laws.specs.Trees.Unlinked.{tree_left};
 ghost use Rattle.h5_open.specs.ChangedInPlace.{IsChangedInPlace};
 ghost use Rattle.h5_open.specs.LinkTaken.{AreCountsLowered, AreHeadersStanding, IsLinkTaken, IsLinkTo, lowered_blocks, touched_below};
 ghost use Rattle.h5_open.specs.Opened.Sound.{IsSound};
+ghost use Rattle.h5_open.specs.declared.opened.object.OpenedObject.{OpenedObject as Kept};
 
 use super::links::group_table;
 use super::losses::losses_of;
@@ -53,7 +55,8 @@ impl Opened {
     {
         let table = group_table(&self.index.objects, parent);
         let losses = losses_of(alloc, &self.image, &self.index, object)?;
-        take_link(&mut self.image, table, name, losses.blocks.len())?;
+        let exact = is_tidy(&self.index.objects, parent);
+        take_link(&mut self.image, table, name, exact, losses.blocks.len())?;
         lower_counts(&mut self.image, &self.index.objects, &losses.less);
         losses.blocks.give_all(&mut self.image);
         clear_all(&mut self.index, &losses.gone);
@@ -61,15 +64,25 @@ impl Opened {
     }
 }
 
-/// Takes a link out of a group where it stands, and leaves room for so many calls of `give`. Takes memory for the free blocks that there may
+/// Whether the object of this number is known to be tidy. Takes no memory.
+fn is_tidy(objects: &[Option<OpenedObject>], number: u32) -> bool
+    requires there { (p : Kept) × (slice_get objects.now number ≡ Some (Some p)) }
+    ensures { (p : Kept) → slice_get objects.now number ≡ Some (Some p) → result ≡ p.tidy }
+{
+    objects[number as usize].as_ref().unwrap().tidy
+}
+
+/// Takes a link out of a group where it stands, whose keys may be known to be exact, and leaves room for so many calls of `give`. Takes memory for the free blocks that there may
 /// be then, before the first change.
 fn take_link(
     image: &mut Image,
     table: SymbolTable,
     name: &[u8],
+    exact: bool,
     calls: u64,
 ) -> Result<(), AllocError>
     requires group { IsGroupApart image.old table }
+    requires exact { IsTrue exact → HasExactKeys image.old.bytes table }
     requires short { length image.old.bytes ≤ 2 ^ 31 }
     requires there { (t : Target) × Contains (links_told image.old.bytes table) (name.now, t) }
     requires few { calls < 2 ^ 63 }
@@ -80,7 +93,7 @@ fn take_link(
     let Ok(()) = image.reserve(0, CALLS + calls) else {
         return Err(AllocError);
     };
-    let Ok(()) = remove_link(image, table, name) else {
+    let Ok(()) = remove_link(image, table, name, exact) else {
         return Err(AllocError);
     };
     Ok(())

@@ -29,14 +29,14 @@ returns-in_err-check_depth-clause-refused c =
 
 pub returns-clause-read : goal.returns-clause-read
 returns-clause-read c = λ held claimed.
-    group_object_read c.args.image.now.bytes held c.args.claims.now.held c.read_group.new.claims.held c.args.messages c.in_ok-table.table c.args.depth c.requires.header c.in_ok-table.ensures.read
+    group_object_read c.args.image.now.bytes held c.args.claims.now.held c.read_group.new.claims.held c.args.messages c.in_ok-table.table c.has_exact_keys.result c.args.depth c.has_exact_keys.ensures.0 c.requires.header c.in_ok-table.ensures.read
     c.in_ok-table.ensures.names c.in_ok-read_group.ensures.group c.in_ok-check_depth.ensures.shallow claimed c.in_ok-read_group.ensures.claimed.covered
 
 pub returns-clause-followed : goal.returns-clause-followed
 returns-clause-followed c = λ held followed field done.
     let gone = c.in_ok-read_group.ensures.walked _ _ _ c.args.depth (group_met c.args.image.now.bytes held c.args.claims.now.held followed field c.args.depth c.args.messages done c.requires.separate c.in_ok-table.table c.in_ok-table.ensures.read) in
     group_object_followed c.args.image.now.bytes held c.args.claims.now.held followed field c.args.depth c.args.messages done c.requires.separate c.in_ok-table.table c.in_ok-table.ensures.read
-    c.read_group.new.claims.held gone c.in_ok-read_group.ensures.claimed.separate c.in_ok-read_group.ensures.claimed.covered
+    c.read_group.new.claims.held gone c.has_exact_keys.result c.in_ok-read_group.ensures.claimed.separate c.in_ok-read_group.ensures.claimed.covered
 
 pub returns-clause-separate : goal.returns-clause-separate
 returns-clause-separate c = c.in_ok-read_group.ensures.claimed.separate

@@ -136,7 +136,7 @@ count_link-requires-clause-standing c =
     c.requires.group c.requires.free c.requires.target c.requires.good
     c.group_table-table.result (group_lent c.deref.result.now c.self.inside.index.objects.items c.args.parent c.group_table-table.result c.deref.ensures.value c.group_table-table.ensures.table)
     (leads_of c.place_of-to.result) (lead_there c.self.inside.index.objects.items c.deref-2.result.now c.args.link.now.to (leads_of c.place_of-to.result) c.deref-2.ensures.value c.place_of-to.ensures.place)
-    c.put_link.new.image e.put e.group e.moves e.k number.0 c.unwrap-target.result.now (array_lent slots number.0 there c.unwrap-target.result.now at)
+    c.put_link.new.image e.put e.group e.moves e.k e.exact number.0 c.unwrap-target.result.now (array_lent slots number.0 there c.unwrap-target.result.now at)
 
 pub count_link-requires-clause-few : goal.count_link-requires-clause-few
 count_link-requires-clause-few c =
@@ -150,7 +150,7 @@ count_link-requires-clause-few c =
     c.requires.group c.requires.free c.requires.target c.requires.good
     c.group_table-table.result (group_lent c.deref.result.now c.self.inside.index.objects.items c.args.parent c.group_table-table.result c.deref.ensures.value c.group_table-table.ensures.table)
     (leads_of c.place_of-to.result) (lead_there c.self.inside.index.objects.items c.deref-2.result.now c.args.link.now.to (leads_of c.place_of-to.result) c.deref-2.ensures.value c.place_of-to.ensures.place)
-    c.put_link.new.image e.put e.group e.moves e.k number.0 c.unwrap-target.result.now (array_lent slots number.0 there c.unwrap-target.result.now at)
+    c.put_link.new.image e.put e.group e.moves e.k e.exact number.0 c.unwrap-target.result.now (array_lent slots number.0 there c.unwrap-target.result.now at)
 
 -- ---- written
 
@@ -168,7 +168,7 @@ write_end-requires-clause-superblock c =
           c.requires.group c.requires.free c.requires.target c.requires.good
           c.group_table-table.result (group_lent c.deref.result.now c.self.inside.index.objects.items c.args.parent c.group_table-table.result c.deref.ensures.value c.group_table-table.ensures.table)
           (leads_of c.place_of-to.result) (lead_there c.self.inside.index.objects.items c.deref-2.result.now c.args.link.now.to (leads_of c.place_of-to.result) c.deref-2.ensures.value c.place_of-to.ensures.place)
-          c.put_link.new.image e.put e.group e.moves e.k number.0 w.unwrap-target.result.now (array_lent slots number.0 there w.unwrap-target.result.now at) w.count_link.new.image w.count_link.ensures.moves in
+          c.put_link.new.image e.put e.group e.moves e.k e.exact number.0 w.unwrap-target.result.now (array_lent slots number.0 there w.unwrap-target.result.now at) w.count_link.new.image w.count_link.ensures.moves in
           subst (λ (i : Inside). superblock_length i.image.bytes ≤ length i.image.bytes) (sym w.self-inside-is) long
       | in_default w ↦ subst (λ (i : Inside). superblock_length i.image.bytes ≤ length i.image.bytes) (sym w.self-inside-is) e.group.long
     ]
@@ -224,7 +224,7 @@ opened_now c =
     c.requires.group c.requires.free c.requires.target c.requires.good
     c.group_table-table.result (group_lent c.deref.result.now c.self.inside.index.objects.items c.args.parent c.group_table-table.result c.deref.ensures.value c.group_table-table.ensures.table)
     (leads_of c.place_of-to.result) (lead_there c.self.inside.index.objects.items c.deref-2.result.now c.args.link.now.to (leads_of c.place_of-to.result) c.deref-2.ensures.value c.place_of-to.ensures.place)
-    c.put_link.new.image e.put e.group e.moves e.k c.match-link.self-inside.image c.write_end.new.image 20 e.spends (fits c) (counted c) t.moves t.end t.length
+    c.put_link.new.image e.put e.group e.moves e.k e.exact c.match-link.self-inside.image c.write_end.new.image 20 e.spends (fits c) (counted c) t.moves t.end t.length
 
 opened_so : (c : After-write_end) → IsOpened c.write_end.new.image c.match-link.self-inside.index.objects.items c.match-link.self-inside.index.numbers
 opened_so c = subst (λ (i : Index). IsOpened c.write_end.new.image i.objects.items i.numbers) (sym (index_same c)) (opened_now c)
@@ -240,7 +240,7 @@ returns-clause-changed c table is =
     c.requires.group c.requires.free c.requires.target c.requires.good
     c.group_table-table.result (group_lent c.deref.result.now c.self.inside.index.objects.items c.args.parent c.group_table-table.result c.deref.ensures.value c.group_table-table.ensures.table)
     (leads_of c.place_of-to.result) (lead_there c.self.inside.index.objects.items c.deref-2.result.now c.args.link.now.to (leads_of c.place_of-to.result) c.deref-2.ensures.value c.place_of-to.ensures.place)
-    c.put_link.new.image e.put e.group e.moves e.k c.match-link.self-inside.image c.write_end.new.image 20 e.spends (fits c) (counted c) t.moves t.end t.length table is in
+    c.put_link.new.image e.put e.group e.moves e.k e.exact c.match-link.self-inside.image c.write_end.new.image 20 e.spends (fits c) (counted c) t.moves t.end t.length table is in
     subst (λ (i : Index). IsChangedInPlace c.args.self.now (opened_state c.write_end.new.image i.objects.items)
     (with_link c.args.self.now.tree c.args.parent c.args.link.now.name.now (tree_target c.args.link.now.to)) c.args.self.now.next
     (ends_of c.args.parent (tree_target c.args.link.now.to))

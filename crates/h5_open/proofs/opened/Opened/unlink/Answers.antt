@@ -1,4 +1,5 @@
-use Rattle.std.proofs.Common.{◌≡◌, ℕ, List, Option, length, sym, ap, subst, arith}
+use Rattle.std.proofs.Common.{◌≡◌, ℕ, List, Option, Some, length, sym, ap, subst, arith}
+use Rattle.std.specs.Prelude.{slice_get}
 use Rattle.std.specs.List.{Contains}
 use Rattle.h5_bytes.specs.Blocks.{cover}
 use Rattle.h5_space.specs.Space.{Space}
@@ -37,6 +38,20 @@ take_link-requires-clause-group c =
     c.group_table-table.result
     (group_lent c.deref.result.now c.self.inside.index.objects.items c.args.parent c.group_table-table.result c.deref.ensures.value c.group_table-table.ensures.table)
 
+pub is_tidy-exact-requires : goal.is_tidy-exact-requires
+is_tidy-exact-requires c =
+    let there = calls.parent_slot c.self.inside.image c.self.inside.index.objects.items c.self.inside.index.numbers c.self.invariant c.args.self.now c.self.view_is
+    c.args.parent c.args.name.now c.args.object c.requires.there in
+    record { there = (there.1.0, subst (λ (ss : List (Option OpenedObject)). slice_get ss c.args.parent ≡ Some (Some there.1.0)) (sym c.deref-2.ensures.value) there.1.1) }
+
+pub take_link-requires-clause-exact : goal.take_link-requires-clause-exact
+take_link-requires-clause-exact c =
+    calls.unlink_exact c.self.inside.image c.self.inside.index.objects.items c.self.inside.index.numbers c.self.invariant c.args.self.now c.self.view_is
+    c.args.parent c.args.name.now c.args.object c.requires.there
+    c.group_table-table.result
+    (group_lent c.deref.result.now c.self.inside.index.objects.items c.args.parent c.group_table-table.result c.deref.ensures.value c.group_table-table.ensures.table)
+    c.deref-2.result.now c.is_tidy-exact.result c.deref-2.ensures.value c.is_tidy-exact.ensures
+
 pub take_link-requires-clause-there : goal.take_link-requires-clause-there
 take_link-requires-clause-there c =
     calls.unlink_there c.self.inside.image c.self.inside.index.objects.items c.self.inside.index.numbers c.self.invariant c.args.self.now c.self.view_is
@@ -69,8 +84,8 @@ lowered_there mid low lent slots given less same alike lowered =
 
 pub lower_counts-requires-clause-standing : goal.lower_counts-requires-clause-standing
 lower_counts-requires-clause-standing c =
-    standing_lent c.take_link.new.image.bytes c.deref-2.result.now c.self.inside.index.objects.items c.deref-3.result.now c.in_ok-losses.losses.less.items
-    c.deref-2.ensures.value c.deref-3.ensures.value
+    standing_lent c.take_link.new.image.bytes c.deref-3.result.now c.self.inside.index.objects.items c.deref-4.result.now c.in_ok-losses.losses.less.items
+    c.deref-3.ensures.value c.deref-4.ensures.value
     (calls.lower_standing c.self.inside.image c.self.inside.index.objects.items c.self.inside.index.numbers c.self.invariant c.args.self.now c.self.view_is
     c.args.parent c.args.name.now c.args.object c.requires.there
     c.group_table-table.result
@@ -80,8 +95,8 @@ lower_counts-requires-clause-standing c =
 
 pub lower_counts-requires-clause-apart : goal.lower_counts-requires-clause-apart
 lower_counts-requires-clause-apart c =
-    apart_lent c.take_link.new.image c.deref-2.result.now c.self.inside.index.objects.items c.deref-3.result.now c.in_ok-losses.losses.less.items
-    c.deref-2.ensures.value c.deref-3.ensures.value
+    apart_lent c.take_link.new.image c.deref-3.result.now c.self.inside.index.objects.items c.deref-4.result.now c.in_ok-losses.losses.less.items
+    c.deref-3.ensures.value c.deref-4.ensures.value
     (calls.lower_apart c.self.inside.image c.self.inside.index.objects.items c.self.inside.index.numbers c.self.invariant c.args.self.now c.self.view_is
     c.args.parent c.args.name.now c.args.object c.requires.there
     c.group_table-table.result
@@ -97,8 +112,8 @@ give_all-requires-clause-held c =
     (group_lent c.deref.result.now c.self.inside.index.objects.items c.args.parent c.group_table-table.result c.deref.ensures.value c.group_table-table.ensures.table)
     c.in_ok-losses.losses.gone.items c.in_ok-losses.losses.less.items c.in_ok-losses.losses.blocks.held c.in_ok-losses.ensures.losses
     c.take_link.new.image c.in_ok-take_link.ensures.taken c.lower_counts.new.image
-    (lowered_there c.take_link.new.image c.lower_counts.new.image c.deref-2.result.now c.self.inside.index.objects.items c.deref-3.result.now c.in_ok-losses.losses.less.items
-    c.deref-2.ensures.value c.deref-3.ensures.value c.lower_counts.ensures.lowered)
+    (lowered_there c.take_link.new.image c.lower_counts.new.image c.deref-3.result.now c.self.inside.index.objects.items c.deref-4.result.now c.in_ok-losses.losses.less.items
+    c.deref-3.ensures.value c.deref-4.ensures.value c.lower_counts.ensures.lowered)
 
 pub clear_all-requires-clause-there : goal.clear_all-requires-clause-there
 clear_all-requires-clause-there c =
@@ -107,7 +122,7 @@ clear_all-requires-clause-there c =
     c.group_table-table.result
     (group_lent c.deref.result.now c.self.inside.index.objects.items c.args.parent c.group_table-table.result c.deref.ensures.value c.group_table-table.ensures.table)
     c.in_ok-losses.losses.gone.items c.in_ok-losses.losses.less.items c.in_ok-losses.losses.blocks.held c.in_ok-losses.ensures.losses in
-    λ n mine. there n (subst (λ (ns : List ℕ). Contains ns n) c.deref-4.ensures.value mine)
+    λ n mine. there n (subst (λ (ns : List ℕ). Contains ns n) c.deref-5.ensures.value mine)
 
 pub invariant_of-self-2 : goal.invariant_of-self-2
 invariant_of-self-2 c =
@@ -119,11 +134,11 @@ invariant_of-self-2 c =
     c.take_link.new.image c.in_ok-take_link.ensures.taken c.lower_counts.new.image
     c.give_all.new.image c.clear_all.new.index.objects.items c.clear_all.new.index.numbers
     (record {
-      lowered = (lowered_there c.take_link.new.image c.lower_counts.new.image c.deref-2.result.now c.self.inside.index.objects.items c.deref-3.result.now c.in_ok-losses.losses.less.items
-          c.deref-2.ensures.value c.deref-3.ensures.value c.lower_counts.ensures.lowered);
+      lowered = (lowered_there c.take_link.new.image c.lower_counts.new.image c.deref-3.result.now c.self.inside.index.objects.items c.deref-4.result.now c.in_ok-losses.losses.less.items
+          c.deref-3.ensures.value c.deref-4.ensures.value c.lower_counts.ensures.lowered);
       bytes = c.give_all.ensures.bytes;
       given = c.give_all.ensures.given;
-      cleared = subst (AreSlotsCleared c.self.inside.index.objects.items c.clear_all.new.index.objects.items) c.deref-4.ensures.value c.clear_all.ensures.slots;
+      cleared = subst (AreSlotsCleared c.self.inside.index.objects.items c.clear_all.new.index.objects.items) c.deref-5.ensures.value c.clear_all.ensures.slots;
       index = c.clear_all.ensures.index;
     })
 
@@ -137,11 +152,11 @@ returns-clause-changed c =
     c.take_link.new.image c.in_ok-take_link.ensures.taken c.lower_counts.new.image
     c.give_all.new.image c.clear_all.new.index.objects.items c.clear_all.new.index.numbers
     (record {
-      lowered = (lowered_there c.take_link.new.image c.lower_counts.new.image c.deref-2.result.now c.self.inside.index.objects.items c.deref-3.result.now c.in_ok-losses.losses.less.items
-          c.deref-2.ensures.value c.deref-3.ensures.value c.lower_counts.ensures.lowered);
+      lowered = (lowered_there c.take_link.new.image c.lower_counts.new.image c.deref-3.result.now c.self.inside.index.objects.items c.deref-4.result.now c.in_ok-losses.losses.less.items
+          c.deref-3.ensures.value c.deref-4.ensures.value c.lower_counts.ensures.lowered);
       bytes = c.give_all.ensures.bytes;
       given = c.give_all.ensures.given;
-      cleared = subst (AreSlotsCleared c.self.inside.index.objects.items c.clear_all.new.index.objects.items) c.deref-4.ensures.value c.clear_all.ensures.slots;
+      cleared = subst (AreSlotsCleared c.self.inside.index.objects.items c.clear_all.new.index.objects.items) c.deref-5.ensures.value c.clear_all.ensures.slots;
       index = c.clear_all.ensures.index;
     })
 
@@ -155,11 +170,11 @@ returns-clause-sound c =
     c.take_link.new.image c.in_ok-take_link.ensures.taken c.lower_counts.new.image
     c.give_all.new.image c.clear_all.new.index.objects.items c.clear_all.new.index.numbers
     (record {
-      lowered = (lowered_there c.take_link.new.image c.lower_counts.new.image c.deref-2.result.now c.self.inside.index.objects.items c.deref-3.result.now c.in_ok-losses.losses.less.items
-          c.deref-2.ensures.value c.deref-3.ensures.value c.lower_counts.ensures.lowered);
+      lowered = (lowered_there c.take_link.new.image c.lower_counts.new.image c.deref-3.result.now c.self.inside.index.objects.items c.deref-4.result.now c.in_ok-losses.losses.less.items
+          c.deref-3.ensures.value c.deref-4.ensures.value c.lower_counts.ensures.lowered);
       bytes = c.give_all.ensures.bytes;
       given = c.give_all.ensures.given;
-      cleared = subst (AreSlotsCleared c.self.inside.index.objects.items c.clear_all.new.index.objects.items) c.deref-4.ensures.value c.clear_all.ensures.slots;
+      cleared = subst (AreSlotsCleared c.self.inside.index.objects.items c.clear_all.new.index.objects.items) c.deref-5.ensures.value c.clear_all.ensures.slots;
       index = c.clear_all.ensures.index;
     }) in
     sound c.give_all.new.image c.clear_all.new.index.objects.items c.clear_all.new.index.numbers opened

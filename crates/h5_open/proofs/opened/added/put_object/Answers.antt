@@ -45,7 +45,7 @@ returns-clause-stored c =
       c.put_reserved.new.image,
       object_stored c.args.image.now c.write_object.new.image c.args.table c.requires.group c.args.link.now.name.now (next_place c.args.len c.args.image.now) c.args.len c.args.object.now
           (leads_of c.args.link.now.to) c.requires.lead w.took w.spends c.put_reserved.new.image p.spends c.write_end.new.image c.requires.size w.there w.inside p.put p.group p.moves
-          p.k e.moves e.end e.length c.requires.short,
+          p.k p.exact e.moves e.end e.length c.requires.short,
     )
 
 pub returns-clause-grown : goal.returns-clause-grown
