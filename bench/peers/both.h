@@ -46,11 +46,30 @@ static void is_true(bool test, const char *what) {
 #define LIST(list) list, sizeof(list) / sizeof *(list)
 #define SLAB_OF(start, stride, count, block) LIST(start), LIST(stride), LIST(count), LIST(block)
 
+#ifdef COUNT_INSTRUCTIONS
+#include <valgrind/callgrind.h>
+
+static int counts; /* how many files of counts were written */
+
+/* Under callgrind the instructions from one call to the next are counted, and written to a file of their own. */
+static double now(void) {
+    static bool is_counting;
+    if (is_counting) {
+        CALLGRIND_DUMP_STATS;
+        counts++;
+    } else {
+        CALLGRIND_ZERO_STATS;
+    }
+    is_counting = !is_counting;
+    return 0;
+}
+#else
 static double now(void) {
     struct timespec at;
     clock_gettime(CLOCK_MONOTONIC, &at);
     return (double)at.tv_sec + (double)at.tv_nsec * 1e-9;
 }
+#endif
 
 static void begin_libraries(void) {
     in_memory = H5Pcreate(H5P_FILE_ACCESS);
@@ -69,6 +88,7 @@ static h5i_session new_session(void) {
     return session;
 }
 
+#ifndef COUNT_INSTRUCTIONS
 static int by_size(const void *a, const void *b) {
     double x = *(const double *)a, y = *(const double *)b;
     return (x > y) - (x < y);
@@ -93,5 +113,6 @@ static void print_head(void) {
     H5(H5get_libversion(&version[0], &version[1], &version[2]));
     printf("| Phase | libhdf5 %u.%u.%u | libh5i | libhdf5 / libh5i |", version[0], version[1], version[2]);
 }
+#endif
 
 #endif

@@ -735,6 +735,7 @@ static double some_ours(const char *viewed) {
 static double beside_views_ours(void) { return some_ours("/other"); }
 static double in_views_ours(void) { return some_ours("/d"); }
 
+#ifndef COUNT_INSTRUCTIONS
 /* ---- the floor */
 
 /* Copies bytes into fresh memory, and from there so many of them once more, into memory that was used before. */
@@ -749,6 +750,7 @@ static double copied(const void *bytes, size_t length, size_t again) {
     munmap(fresh, length);
     return time;
 }
+#endif
 
 /* ---- the table */
 
@@ -802,11 +804,27 @@ int main(int count, char **words) {
     make_images();
     make_big_image();
 
+#ifndef COUNT_INSTRUCTIONS
     print_head();
     printf(" floor | libh5i / floor |\n|---|---|---|---|---|---|\n");
+#endif
     for (size_t k = 0; k < sizeof phases / sizeof *phases; k++) {
         if (strchr(wanted, phases[k].letter) == NULL)
             continue;
+        char name[96];
+        snprintf(name, sizeof name, phases[k].is_divided && part > 1 ? "%c: %s, one in %d of these" : "%c: %s", phases[k].letter,
+                 phases[k].name, part);
+#ifdef COUNT_INSTRUCTIONS
+        /* The numbers of the two files of what libhdf5 takes and what libh5i does. */
+        phases[k].theirs();
+        int theirs = counts;
+        phases[k].ours();
+        printf("%d %d %s\n", theirs, counts, name);
+        fflush(stdout);
+    }
+    return 0;
+}
+#else
         double theirs[MOST_RUNS], ours[MOST_RUNS], floors[MOST_RUNS] = {0};
         for (int run = 0; run < runs; run++) {
             theirs[run] = phases[k].theirs();
@@ -815,9 +833,6 @@ int main(int count, char **words) {
             if (bytes > 0)
                 floors[run] = copied(big_image, bytes, phases[k].again);
         }
-        char name[96];
-        snprintf(name, sizeof name, phases[k].is_divided && part > 1 ? "%c: %s, one in %d of these" : "%c: %s", phases[k].letter,
-                 phases[k].name, part);
         print_times(name, theirs, ours, runs);
         double floor = middle_of(floors, runs);
         if (floor > 0)
@@ -828,3 +843,4 @@ int main(int count, char **words) {
     }
     return 0;
 }
+#endif
