@@ -18,15 +18,6 @@ typedef struct {
 
 /* ---- small words over each library */
 
-/* The path of a link: 8 letters behind '/', in an order that looks like chance. Each number has its own. */
-static const char *path_of(uint32_t number) {
-    static char path[10] = "/";
-    uint32_t bits = number * 2654435769u;
-    for (int k = 0; k < 8; k++)
-        path[1 + k] = (char)('a' + (bits >> (28 - 4 * k)) % 16);
-    return path;
-}
-
 static long long bytes_theirs(hid_t file) {
     H5(H5Fflush(file, H5F_SCOPE_GLOBAL));
     return (long long)H5Fget_file_image(file, NULL, 0);

@@ -71,6 +71,15 @@ static double now(void) {
 }
 #endif
 
+/* The path of a link: 8 letters behind '/', in an order that looks like chance. Each number has its own. */
+static inline const char *path_of(uint32_t number) {
+    static char path[10] = "/";
+    uint32_t bits = number * 2654435769u;
+    for (int k = 0; k < 8; k++)
+        path[1 + k] = (char)('a' + (bits >> (28 - 4 * k)) % 16);
+    return path;
+}
+
 static void begin_libraries(void) {
     in_memory = H5Pcreate(H5P_FILE_ACCESS);
     H5(H5Pset_fapl_core(in_memory, 1 << 20, 0));
@@ -95,20 +104,20 @@ static int by_size(const void *a, const void *b) {
 }
 
 /* The median of times, which are sorted. */
-static double middle_of(double *times, int runs) {
+static inline double middle_of(double *times, int runs) {
     qsort(times, (size_t)runs, sizeof *times, by_size);
     return times[runs / 2];
 }
 
 /* The beginning of a table's row: what is timed, and of each library the median, with the fastest and the slowest run. */
-static void print_times(const char *name, double *theirs, double *ours, int runs) {
+static inline void print_times(const char *name, double *theirs, double *ours, int runs) {
     double middle = middle_of(theirs, runs), own = middle_of(ours, runs);
     printf("| %s | %.4f (%.4f to %.4f) | %.4f (%.4f to %.4f) | %.2f |", name, middle, theirs[0], theirs[runs - 1], own, ours[0], ours[runs - 1],
            middle / own);
 }
 
 /* The beginning of a table's head. */
-static void print_head(void) {
+static inline void print_head(void) {
     unsigned version[3];
     H5(H5get_libversion(&version[0], &version[1], &version[2]));
     printf("| Phase | libhdf5 %u.%u.%u | libh5i | libhdf5 / libh5i |", version[0], version[1], version[2]);

@@ -133,34 +133,41 @@ static double b_ours(void) {
     return time;
 }
 
-static double read_theirs(bool strided) {
+/* A fifteenth of the cells. */
+static const hsize_t strided_h[4][2] = {{1, 2}, {3, 5}, {1365, 818}, {1, 2}};
+static const uint64_t strided[4][2] = {{1, 2}, {3, 5}, {1365, 818}, {1, 2}};
+
+static void strided_by_theirs(hid_t array, bool is_read) {
+    hsize_t selected[1] = {STRIDED};
+    hid_t space = H5Dget_space(array), memory = H5Screate_simple(1, selected, NULL);
+    H5(H5Sselect_hyperslab(space, H5S_SELECT_SET, strided_h[0], strided_h[1], strided_h[2], strided_h[3]));
+    H5(is_read ? H5Dread(array, H5T_NATIVE_INT32, memory, space, H5P_DEFAULT, room)
+               : H5Dwrite(array, H5T_NATIVE_INT32, memory, space, H5P_DEFAULT, cells));
+    H5(H5Sclose(space)), H5(H5Sclose(memory));
+}
+
+static double read_theirs(bool is_strided) {
     hid_t file = new_file("c"), array = big_array(file);
     write_theirs(file, array);
     memset(room, 0, (size_t)SIDE * SIDE * 4);
-    hsize_t start[2] = {1, 2}, stride[2] = {3, 5}, count[2] = {1365, 818}, block[2] = {1, 2}, selected[1] = {STRIDED};
     double from = now();
-    if (strided) {
-        hid_t space = H5Dget_space(array), memory = H5Screate_simple(1, selected, NULL);
-        H5(H5Sselect_hyperslab(space, H5S_SELECT_SET, start, stride, count, block));
-        H5(H5Dread(array, H5T_NATIVE_INT32, memory, space, H5P_DEFAULT, room));
-        H5(H5Sclose(space)), H5(H5Sclose(memory));
-    } else {
+    if (is_strided)
+        strided_by_theirs(array, true);
+    else
         H5(H5Dread(array, H5T_NATIVE_INT32, H5S_ALL, H5S_ALL, H5P_DEFAULT, room));
-    }
     double time = now() - from;
     H5(H5Dclose(array)), H5(H5Fclose(file));
     return time;
 }
 
-static double read_ours(bool strided) {
+static double read_ours(bool is_strided) {
     h5i_session session = new_session();
     new_big_array(&session);
     write_ours(&session);
     memset(room, 0, (size_t)SIDE * SIDE * 4);
-    const uint64_t start[] = {1, 2}, stride[] = {3, 5}, count[] = {1365, 818}, block[] = {1, 2};
     double from = now();
-    if (strided)
-        OURS(h5i_read(&session, TEXT("/d"), SLAB_OF(start, stride, count, block), (uint8_t *)room, (size_t)STRIDED * 4));
+    if (is_strided)
+        OURS(h5i_read(&session, TEXT("/d"), SLAB_OF(strided[0], strided[1], strided[2], strided[3]), (uint8_t *)room, (size_t)STRIDED * 4));
     else
         OURS(h5i_read(&session, TEXT("/d"), SLAB_OF(none2, one2, all2, one2), (uint8_t *)room, (size_t)SIDE * SIDE * 4));
     double time = now() - from;
@@ -189,6 +196,81 @@ static double whole_theirs(void) {
 static double whole_ours(void) {
     double time = read_ours(false);
     are_whole();
+    return time;
+}
+
+/* Strided cells written into an array of which all chunks are stored, and read back. */
+static double strided_written_theirs(void) {
+    hid_t file = new_file("d"), array = big_array(file);
+    write_theirs(file, array);
+    memset(room, 0, (size_t)STRIDED * 4);
+    double from = now();
+    strided_by_theirs(array, false);
+    H5(H5Fflush(file, H5F_SCOPE_GLOBAL));
+    double time = now() - from;
+    strided_by_theirs(array, true);
+    TRUE(memcmp(room, cells, (size_t)STRIDED * 4) == 0);
+    H5(H5Dclose(array)), H5(H5Fclose(file));
+    return time;
+}
+
+static double strided_written_ours(void) {
+    h5i_session session = new_session();
+    new_big_array(&session);
+    write_ours(&session);
+    memset(room, 0, (size_t)STRIDED * 4);
+    double from = now();
+    OURS(h5i_write(&session, TEXT("/d"), SLAB_OF(strided[0], strided[1], strided[2], strided[3]), int32, (const uint8_t *)cells,
+                   (size_t)STRIDED * 4));
+    double time = now() - from;
+    OURS(h5i_read(&session, TEXT("/d"), SLAB_OF(strided[0], strided[1], strided[2], strided[3]), (uint8_t *)room, (size_t)STRIDED * 4));
+    TRUE(memcmp(room, cells, (size_t)STRIDED * 4) == 0);
+    h5i_close(&session);
+    return time;
+}
+
+/* Four by four cells, every second of each dimension, at a place that looks like chance. */
+static const uint64_t two2[] = {2, 2}, four2[] = {4, 4};
+
+static void place_of_four(uint64_t at[2]) {
+    uint64_t place = chance();
+    at[0] = place % (SIDE - 8), at[1] = (place >> 20) % (SIDE - 8);
+}
+
+static double fours_theirs(void) {
+    hid_t file = new_file("h"), array = big_array(file);
+    write_theirs(file, array);
+    hsize_t at[2], stride[2] = {2, 2}, count[2] = {4, 4}, selected[1] = {16};
+    uint64_t place[2];
+    hid_t space = H5Dget_space(array), memory = H5Screate_simple(1, selected, NULL);
+    begin_chance();
+    double from = now();
+    for (int k = 0; k < 100000; k++) {
+        place_of_four(place);
+        at[0] = place[0], at[1] = place[1];
+        H5(H5Sselect_hyperslab(space, H5S_SELECT_SET, at, stride, count, NULL));
+        H5(H5Dread(array, H5T_NATIVE_INT32, memory, space, H5P_DEFAULT, room));
+    }
+    double time = now() - from;
+    TRUE(room[15] == (int32_t)((place[0] + 6) * SIDE + place[1] + 6));
+    H5(H5Sclose(space)), H5(H5Sclose(memory)), H5(H5Dclose(array)), H5(H5Fclose(file));
+    return time;
+}
+
+static double fours_ours(void) {
+    h5i_session session = new_session();
+    new_big_array(&session);
+    write_ours(&session);
+    uint64_t at[2];
+    begin_chance();
+    double from = now();
+    for (int k = 0; k < 100000; k++) {
+        place_of_four(at);
+        OURS(h5i_read(&session, TEXT("/d"), SLAB_OF(at, two2, four2, one2), (uint8_t *)room, 64));
+    }
+    double time = now() - from;
+    TRUE(room[15] == (int32_t)((at[0] + 6) * SIDE + at[1] + 6));
+    h5i_close(&session);
     return time;
 }
 
@@ -771,6 +853,7 @@ static const struct {
     {'c', false, "64 MB read, in chunks", whole_theirs, whole_ours, BIG, NULL, 0},
     {'c', false, "64 MB opened and read", opened_theirs, opened_ours, BIG, NULL, BIG},
     {'d', false, "100000 single cells written", d_theirs, d_ours, 0, NULL, 0},
+    {'d', false, "2233140 strided cells written", strided_written_theirs, strided_written_ours, STRIDED * 4, NULL, 0},
     {'e', true, "10000 hard links made", e_theirs, e_ours, 0, NULL, 0},
     {'e', false, "10000 links opened and listed", links_listed_theirs, links_listed_ours, 0, &lengths[0], 0},
     {'e', false, "10000 datasets listed with types", arrays_listed_theirs, arrays_listed_ours, 0, &lengths[1], 0},
@@ -781,6 +864,7 @@ static const struct {
     {'g', true, "5000 of 10000 links unlinked", links_gone_theirs, links_gone_ours, 0, NULL, 0},
     {'g', true, "5000 of 10000 datasets unlinked", arrays_gone_theirs, arrays_gone_ours, 0, NULL, 0},
     {'h', false, "1000000 reads of 16 cells", h_theirs, h_ours, 0, NULL, 0},
+    {'h', false, "100000 reads of 4 by 4 strided cells", fours_theirs, fours_ours, 0, NULL, 0},
     {'i', false, "20000 times an attribute set, of 50", i_theirs, i_ours, 0, NULL, 0},
     {'j', true, "100000 times a chunk appended", appended_theirs, appended_ours, 0, NULL, 0},
     {'j', true, "the same beside 64 MB", appended_beside_theirs, appended_beside_ours, 0, NULL, 0},

@@ -144,7 +144,7 @@ class Limits(InFolder):
     def test_one_that_finds_no_memory(self):
         path = self.with_array("/d u8 67108864 contiguous")
         before = self.stamp(path)
-        done = subprocess.run([PROGRAM, "run", path], input=b"repack\nls\n", preexec_fn=limited(resource.RLIMIT_AS, 150 << 20),
+        done = subprocess.run([PROGRAM, "run", path], input=b"repack\nls\n", preexec_fn=limited(resource.RLIMIT_AS, 120 << 20),
                               capture_output=True, check=False, timeout=60)
         self.assertEqual((done.returncode, done.stdout, done.stderr), (1, b"refused 31 NoMemory\n/ group\n/d dataset u8 {67108864}\n", b""))
         self.assertEqual(self.stamp(path), before)

@@ -35,7 +35,7 @@ NAMED_AS_DEFINED = {
     "h5_group": "Names group_kind link_in links_at symbol_node symbol_nodes", "h5_layout": "bytes_of", "h5_open": "links_in",
     "h5_query": "Kind array_of cut kind_at links_of names_at number_at", "h5_repack": "Extent Placed links_of new_links nowhere",
     "h5_edit": "are_maxima is_chunk_large is_store links_in object_at", "h5_file": "Kept place_of", "h5_command": "Command cut",
-    "h5_text": "Layout", "h5_script": "Outcome", "h5_cli": "opened"}
+    "h5_text": "Layout", "h5_script": "Outcome"}
 
 
 def texts(crate, part, ending):

@@ -103,7 +103,10 @@ fn tell_kind(kind: &Kind<'_>, about: &mut About)
 fn ended_names(alloc: Global, names: &[&[u8]]) -> Result<Vec<u8>, AllocError>
     ensures { IfOk result (λ text. text.items ≡ ended (map (λ name. name.now) names.now)) }
 {
-    let mut text = Vec::new(alloc);
+    let room = names.iter().fold(0, |room: usize, name| {
+        room.saturating_add(name.len()).saturating_add(1)
+    });
+    let mut text = Vec::with_capacity(alloc, room)?;
     for name in names {
         text.extend_from_slice(name)?;
         text.push(0)?;

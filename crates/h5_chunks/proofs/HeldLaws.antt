@@ -63,7 +63,7 @@ module _ (image : List ℕ) (shape : Shape) (root : ℕ) (read : AreChunksRead i
       (all_right InImage (tree_blocks (shape_kind image shape) (read.stored).owned) (map (λ (a : ℕ). block a shape.bytes) (values chunks)) all)
       (in_map (λ (a : ℕ). block a shape.bytes) at (values chunks) there)
 
-  rows_are : bottom ≡ row_below V (read.stored).level (root ∷ [])
+  pub rows_are : bottom ≡ row_below V (read.stored).level (root ∷ [])
   rows_are = ap (λ (l : ℕ). row_below V l (root ∷ [])) (top image shape root read)
 
   values_are : values (chunks_told image shape root) ≡ next_row V bottom
@@ -71,7 +71,8 @@ module _ (image : List ℕ) (shape : Shape) (root : ℕ) (read : AreChunksRead i
       ap (map (λ (c : List ℕ × ℕ). c.1)) (entries_are image shape root read) ∙ row_addresses image shape (row_below V (read.stored).level (root ∷ []))
       ∙ ap (next_row V) (sym rows_are)
 
-  bottom_node : (at : ℕ) → In at bottom → IsNodeAt image (OfChunks shape) at → IsBottomNode image shape at
+  -- a node of level 0 of the tree
+  pub bottom_node : (at : ℕ) → In at bottom → IsNodeAt image (OfChunks shape) at → IsBottomNode image shape at
   bottom_node at here stands =
       let tree = stored_tree image shape root (chunks_told image shape root) _ read.stored in
       record {

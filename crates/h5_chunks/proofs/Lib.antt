@@ -38,6 +38,8 @@ pub mod BushyPuts
 pub mod BushyFull
 pub mod KeyRows
 pub mod OutsideLaws
+pub mod ReachLaws
+pub mod BeyondLaws
 pub mod KeyFields
 pub mod MovedChunks
 pub mod TakenEntries

@@ -10,6 +10,7 @@ pub mod Held
 pub mod Edited
 pub mod Bushy
 pub mod Lists
+pub mod Beyond
 pub mod Empty
 pub mod Put
 pub use Rattle.h5_btree.specs.Walk

@@ -1,5 +1,5 @@
 -- Chunks that are kept by their keys, one behind another (File Format Specification 3.0, section III.A.1).
-use Rattle.std.specs.Prelude.{◌≡◌, ℕ, zero, suc, ◌+◌, ◌*◌, ◌/◌, ◌%◌, ◌≤◌, not, List, [], ◌∷◌, length, map, take, drop}
+use Rattle.std.specs.Prelude.{◌≡◌, ℕ, zero, suc, ◌+◌, ◌*◌, ◌/◌, ◌%◌, ◌≤◌, ◌||◌, Bool, false, nat_lt, not, List, [], ◌∷◌, ◌++◌, length, map, take, drop}
 use Rattle.std.specs.FinMap.{entries, retain_keys}
 use Rattle.std.specs.List.{AllByRecursion, filter}
 use Rattle.h5_bytes.specs.Bytes.{number_at}
@@ -44,3 +44,22 @@ offsets_of_outer sizes chunks = map (λ e. e.0) (filter (λ e. not (is_inside si
 -- of these chunks those that hold no cell of an extent of these sizes: their offsets, ascending
 abbrev pub offsets_outside : List ℕ → Chunks → List (List ℕ)
 offsets_outside sizes chunks = map (λ e. e.0) (entries (retain_keys chunks (λ offsets. not (is_inside sizes offsets))))
+
+-- a chunk of these sizes at these offsets reaches past an extent
+abbrev pub reaches_beyond : List ℕ → List ℕ → List ℕ → Bool
+reaches_beyond [] chunk offsets = false
+reaches_beyond (n ∷ ns) [] offsets = false
+reaches_beyond (n ∷ ns) (c ∷ cs) [] = false
+reaches_beyond (n ∷ ns) (c ∷ cs) (o ∷ os) = nat_lt n (o + c) || reaches_beyond ns cs os
+
+-- of these chunks, of these sizes, one behind another, those with cells on both sides of the edge of an extent: their offsets
+abbrev pub offsets_of_edge : List ℕ → List ℕ → List (List ℕ × ℕ) → List (List ℕ)
+offsets_of_edge sizes chunk chunks = filter (reaches_beyond sizes chunk) (map (λ e. e.0) (filter (λ e. is_inside sizes e.0) chunks))
+
+-- of these chunks those with cells on both sides of the edge of an extent of these sizes: their offsets, ascending
+abbrev pub offsets_across : List ℕ → List ℕ → Chunks → List (List ℕ)
+offsets_across sizes chunk chunks = filter (reaches_beyond sizes chunk) (map (λ e. e.0) (entries (retain_keys chunks (is_inside sizes))))
+
+-- the chunks of a list, and behind them those at these offsets
+abbrev pub with_more : ChunkOffsets → List (List ℕ) → ChunkOffsets
+with_more list offsets = record list { offsets = list.offsets ++ offsets }

@@ -5,6 +5,7 @@
 //! Offsets and chunk sizes are in cells, addresses and lengths in bytes. Nodes are read where they stand.
 #![tactic(auto)]
 
+mod beyond;
 mod cursor;
 mod held;
 mod key;
@@ -21,6 +22,7 @@ mod shape;
 mod take;
 mod write;
 
+pub use beyond::{Beyond, chunks_beyond};
 pub use cursor::{ChunkCursor, chunk_from};
 pub use h5_btree::InsertFault;
 pub use held::{ChunkPlace, held_places};
@@ -28,7 +30,7 @@ pub use key::{OFFSETS, key_length};
 pub use list::ChunkList;
 pub use low::{is_low, is_low_level};
 pub use offsets::is_key_before;
-pub use outside::{chunks_outside, drop_outside};
+pub use outside::drop_outside;
 pub use put::{is_full_at, store};
 pub use read::read_chunks;
 pub use root::{chunk_node_length, make_root};

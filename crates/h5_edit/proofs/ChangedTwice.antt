@@ -8,7 +8,7 @@ use Rattle.std.specs.Cmp.{nat_cmp_total}
 use Rattle.std.specs.FinMap.{get, insert, same_map, nat_cmp-IsAntisymmetric}
 use Rattle.h5_model.specs.Edits.Applied.{with_dataset}
 use Rattle.h5_model.specs.Tree.Objects.{Tree, Object, Content, Group, Array, Dataset, dataset_in, dataset_of, with_object}
-use Rattle.h5_edit.proofs.ChangedLaws.NumberedLaws.{at_place, get-with_object, insert_there}
+use Rattle.h5_edit.proofs.ChangedLaws.NumberedLaws.{at_place, get-with_object}
 
 -- ---- an object
 
@@ -38,17 +38,6 @@ module _ (tree : Tree) (number : ℕ) (first second : Dataset → Dataset) where
       ∙ ap (option_map (at_place k number (with_dataset second))) (get-with_object tree number (with_dataset first) k)
       ∙ slot_twice k (get tree k)
       ∙ sym (get-with_object tree number (with_dataset (λ d. second (first d))) k))
-
--- an array that stays as it is
-same_in : (o : Object) (c : Content) → with_dataset (λ d. d) (record o { content = c }) ≡ record o { content = c }
-same_in o (Group links) = refl
-same_in o (Array d) = refl
-
-pub changed_never : (tree : Tree) (number : ℕ) → with_object tree number (with_dataset (λ d. d)) ≡ tree
-changed_never tree number = by_found (get tree number) refl where
-  by_found : (found : Option Object) → get tree number ≡ found → option_map_or (λ o. insert tree number (with_dataset (λ d. d) o)) found tree ≡ tree
-  by_found None is = refl
-  by_found (Some o) is = ap (insert tree number) (same_in o o.content) ∙ insert_there tree number o is
 
 -- ---- the array
 

@@ -1,10 +1,12 @@
 -- Selected cells that are one run: why nothing but their values refuses them, and what is known where they were found to stand together.
-use Rattle.std.proofs.Common.{◌≡◌, ℕ, ℤ, ◌+◌, ◌<◌, ◌≤◌, List, [], ◌∷◌, Bool, true, false, not, Result, Ok, Err, if◌then◌else◌, Option, Some, None, length, refl, sym, ap, ◌∙◌, subst, arith}
+use Rattle.std.proofs.Common.{◌≡◌, ℕ, ℤ, ◌+◌, ◌-◌, ◌<◌, ◌≤◌, List, [], ◌∷◌, Bool, true, false, not, Result, Ok, Err, if◌then◌else◌, Option, Some, None, length, refl, sym, ap, ◌∙◌, subst, arith}
 use Rattle.std.specs.Prelude.{◌++◌, ◌==◌, ◌&&◌, nat_le}
 use Rattle.std.proofs.lemmas.Bool.Decides.{nat_tests}
 use Rattle.std.specs.List.{Contains, list_all, list_any, range_with_len}
+use Rattle.std.proofs.lemmas.List.{append-nil}
+use Rattle.std.proofs.lemmas.List.FromFn.{length-range_with_len}
 use Rattle.std.specs.Option.{IfSome}
-use Rattle.h5_laws.proofs.Lists.{all_in, contains_in}
+use Rattle.h5_laws.proofs.Lists.{contains_in, in_range}
 use Rattle.h5_layout.specs.Described.{Described}
 use Rattle.h5_model.specs.Edits.Refusal.{first_holding}
 use Rattle.h5_model.specs.Format.Fixed.{Fixed, fits}
@@ -30,7 +32,6 @@ use Rattle.h5_shape.proofs.RunLaws.{places_of_runs, runs-maximal}
 use Rattle.h5_edit.specs.Refusals.Allowed.{AreSelectedStanding, AreStandingAt, IsRunStanding}
 use Rattle.h5_edit.specs.Refusals.Rules.{counted_rules, value_rules}
 use Rattle.h5_edit.proofs.SelectedStored.{place_low}
-use Rattle.h5_edit.proofs.WrittenRuns.{ends_in, length_range, places_one}
 
 and_first : (a b : Bool) → (a && b) ≡ true → a ≡ true
 and_first true b both = refl
@@ -85,20 +86,23 @@ module _ (sizes : List ℕ) (hyper : Hyper) (run : CellRun) (is : IsOneRun sizes
       )
 
   pub places_are : range_with_len run.place run.length ≡ selection
-  places_are = sym (places_one run) ∙ ap places_in (sym is.runs) ∙ places_of_runs selection
+  places_are = sym (append-nil (range_with_len run.place run.length)) ∙ ap places_in (sym is.runs) ∙ places_of_runs selection
 
   pub run_some : 0 < run.length
   run_some = subst AreMaximal is.runs (runs-maximal selection)
 
   -- it has all selected cells
   pub run_counted : run.length ≡ selected_cells slab
-  run_counted = sym (length_range run.place run.length) ∙ ap length places_are ∙ length-selection sizes slab (sym is.rank) inside rules.2
+  run_counted = sym (length-range_with_len run.place run.length) ∙ ap length places_are ∙ length-selection sizes slab (sym is.rank) inside rules.2
 
   -- and they are cells of the array
   pub run_inside : run.place + run.length ≤ cells sizes
   run_inside =
-      ends_in (cells sizes) run.place run.length run_some (all_in (λ place. place < cells sizes) (range_with_len run.place run.length) (λ place at.
-      place_low sizes slab place (subst (λ (ps : List ℕ). Contains ps place) places_are (contains_in place (range_with_len run.place run.length) at))))
+      let some = run_some in
+      let last : ℕ = run.place + (run.length - 1) in
+      let among = in_range run.place run.length (run.length - 1) (omega (arith, some)) in
+      let low = place_low sizes slab last (subst (λ (ps : List ℕ). Contains ps last) places_are (contains_in last (range_with_len run.place run.length) among)) in
+      omega (arith, low, some)
 
 -- ---- and values for it
 

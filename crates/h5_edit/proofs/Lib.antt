@@ -17,7 +17,6 @@ pub mod MaximaLaws
 pub mod OneLength
 pub mod ArraysThere
 pub mod ChangedTwice
-pub mod WrittenRuns
 pub mod SelectedStored
 pub mod WriteSteps
 pub mod FoundStanding

@@ -12,10 +12,10 @@ use Rattle.h5_model.specs.declared.edit_fault.EditFault.{EditFault}
 use Rattle.h5_model.specs.declared.hyperslab.Hyper.{Hyper}
 use Rattle.h5_query.specs.Opened.State.{FileState}
 use Rattle.h5_query.specs.Selected.{hyper_rules}
-use Rattle.h5_query.specs.Written.{IsArrayThere}
+use Rattle.h5_query.specs.Written.{AreRunsStored, IsArrayThere}
 use Rattle.h5_shape.specs.Runs.{AreMaximal, places_in}
 use Rattle.h5_shape.specs.declared.runs.CellRun.{CellRun}
-use Rattle.h5_edit.specs.Stored.{AreRunsStored, AreSelectedReady, AreSelectedRuns, AreSelectedStored}
+use Rattle.h5_edit.specs.Stored.{AreSelectedReady, AreSelectedRuns, AreSelectedStored}
 use Rattle.h5_edit.proofs.SelectedStored.{place_low}
 use Rattle.h5_edit.proofs.WrittenTrees.{sizes_are}
 

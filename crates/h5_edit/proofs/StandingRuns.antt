@@ -1,10 +1,12 @@
 -- A write of cells that stand one behind another: what is asked of it, and what it makes.
-use Rattle.std.proofs.Common.{◌≡◌, ℕ, zero, suc, ℤ, ◌+◌, ◌*◌, ◌^◌, ◌<◌, ◌≤◌, List, [], ◌∷◌, Bool, true, false, not, Option, Some, None, length, take, refl, sym, ap, ◌∙◌, subst, arith}
+use Rattle.std.proofs.Common.{◌≡◌, ℕ, zero, suc, ℤ, ◌+◌, ◌*◌, ◌<◌, List, [], ◌∷◌, Bool, true, false, not, Option, Some, None, length, refl, sym, ap, ◌∙◌, subst, arith}
+use Rattle.std.proofs.lemmas.List.FromFn.{length-range_with_len}
 use Rattle.std.proofs.lemmas.Option.{same_Some}
 use Rattle.std.specs.Prelude.{is_some}
 use Rattle.std.specs.FinMap.{get}
-use Rattle.std.specs.List.{list_any, range_with_len}
+use Rattle.std.specs.List.{Contains, list_any, range_with_len}
 use Rattle.std.specs.Option.{IfSome, option_map}
+use Rattle.h5_laws.proofs.Lists.{contains_in, in_range}
 use Rattle.h5_layout.specs.Described.{Described}
 use Rattle.h5_layout.specs.Standing.{IsStandingAt, address_of, is_stored_cell, is_stored_in}
 use Rattle.h5_model.specs.Edits.Applied.{with_dataset}
@@ -14,7 +16,7 @@ use Rattle.h5_model.specs.Format.Layout.{Layout, InMessage, InBlock, InChunks}
 use Rattle.h5_model.specs.Format.Superblock.{k_values}
 use Rattle.h5_model.specs.Tree.Grid.{corner_of, inner_of}
 use Rattle.h5_model.specs.Tree.Objects.{Dataset, with_object}
-use Rattle.h5_model.specs.Tree.Places.{cells, index_of, place_of}
+use Rattle.h5_model.specs.Tree.Places.{index_of, place_of}
 use Rattle.h5_model.specs.Views.Selection.{axes_of, selection_of}
 use Rattle.h5_model.specs.declared.hyperslab.Hyper.{Hyper}
 use Rattle.h5_query.specs.StandingCellsType.{StandingCells}
@@ -22,20 +24,16 @@ use Rattle.h5_query.specs.Data.{stored_chunks}
 use Rattle.h5_query.specs.ChangedInPlace.{IsChangedInPlace}
 use Rattle.h5_query.specs.Opened.Sound.{IsSound, IsWholeFile}
 use Rattle.h5_query.specs.Opened.State.{FileState}
-use Rattle.h5_query.specs.Written.{AreStanding, IsCellStored, IsStoredRun, with_run}
-use Rattle.h5_shape.specs.Runs.{AreMaximal, cell_runs, places_in}
+use Rattle.h5_query.specs.Written.{AreStanding, IsStoredRun, with_run}
+use Rattle.h5_shape.specs.OneRun.{IsOneRun}
 use Rattle.h5_shape.specs.declared.runs.CellRun.{CellRun}
-use Rattle.h5_shape.proofs.Products.{cells_le}
-use Rattle.h5_shape.proofs.RunLaws.{places_of_runs, runs-maximal}
 use Rattle.h5_layout.specs.Lacking.{lacks_cells}
 use Rattle.h5_edit.specs.Refusals.Allowed.{AreSelectedStanding, AreStandingAt, IsTarget}
-use Rattle.h5_edit.specs.Stored.{AreRunsStored, AreSelectedReady, AreSelectedWritten, AreValuesWritten, HasStorage}
+use Rattle.h5_edit.specs.Stored.{AreSelectedReady, AreSelectedWritten, AreValuesWritten, HasStorage}
 use Rattle.h5_edit.specs.declared.rules.write.WriteTarget.{WriteTarget}
 use Rattle.h5_edit.proofs.ArraysThere.{one_there}
-use Rattle.h5_edit.proofs.FoundStanding.{places_are}
-use Rattle.h5_edit.proofs.SelectedRuns.{runs_stored}
+use Rattle.h5_edit.proofs.FoundStanding.{places_are, run_inside, run_some}
 use Rattle.h5_edit.proofs.WriteSteps.{has_all, selected_ready}
-use Rattle.h5_edit.proofs.WrittenRuns.{AreFirstWritten, all_first, all_written, length_range, none_first, one_more, places_one, run_stored}
 use Rattle.h5_edit.proofs.WrittenTrees.{sizes_are}
 
 -- ---- a cell with an address is stored
@@ -63,47 +61,32 @@ module _ {f : FileState} {number : ℕ} {hyper : Hyper} {values : List ℤ} {d :
   abbrev run : CellRun
   run = is.run
 
-  abbrev selection : List ℕ
-  selection = selection_of d.sizes (axes_of hyper)
+  one : IsOneRun d.sizes hyper run
+  one = subst (λ (ns : List ℕ). IsOneRun ns hyper run) (sizes_are f number is.array is.there d ready.array) is.selected
 
-  sizes : is.array.sizes ≡ d.sizes
-  sizes = sizes_are f number is.array is.there d ready.array
-
-  few : cells is.array.sizes ≤ 2 ^ 40
-  few = let small = is.there.described.small in let le = cells_le is.array.sizes in omega (arith, small, le)
-
-  one_run : cell_runs selection ≡ run ∷ []
-  one_run = subst (λ (ns : List ℕ). cell_runs (selection_of ns (axes_of hyper)) ≡ run ∷ []) sizes is.selected.runs
-
-  maximal : 0 < run.length
-  maximal = subst AreMaximal one_run (runs-maximal selection)
-
-  places : places_in (run ∷ []) ≡ selection
-  places = ap places_in (sym one_run) ∙ places_of_runs selection
+  selected_are : range_with_len run.place run.length ≡ selection_of d.sizes (axes_of hyper)
+  selected_are = places_are d.sizes hyper run one
 
   counted : length values ≡ run.length
-  counted = ready.counted ∙ ap length (sym places ∙ places_one run) ∙ length_range run.place run.length
-
-  asked : AreRunsStored f number (run ∷ []) values d
-  asked =
-      runs_stored f number d ready.array (axes_of hyper) ready.stored values ready.counted ready.of_type (run ∷ []) places maximal
-      (subst (λ (ns : List ℕ). cells ns ≤ 2 ^ 40) sizes few)
-
-  none_yet : AreFirstWritten f number (run ∷ []) values d asked 0 (run ∷ []) f
-  none_yet = none_first f number (run ∷ []) values d asked (run ∷ []) refl
-
-  all_values : values ≡ take run.length values
-  all_values = sym (all_first values run.length (omega (arith, counted)))
+  counted = ready.counted ∙ ap length (sym selected_are) ∙ length-range_with_len run.place run.length
 
   -- ---- what is asked
 
   pub run_asked : (e : Dataset) × IsStoredRun f number c.place values e
-  run_asked =
-      subst (λ place. (e : Dataset) × IsStoredRun f number place values e) (sym is.stands.place_is)
-      (run_stored f number (run ∷ []) values d asked 0 (run ∷ []) [] run f none_yet refl values all_values)
+  run_asked = (
+    d,
+    subst (λ place. IsStoredRun f number place values d) (sym is.stands.place_is) (record {
+      array = ready.array;
+      stored = λ k low.
+          let among = contains_in (run.place + k) (range_with_len run.place run.length) (in_range run.place run.length k (omega (arith, low, counted))) in
+          ready.stored d ready.array (run.place + k) (subst (λ (ps : List ℕ). Contains ps (run.place + k)) selected_are among);
+      room = (let inside = run_inside d.sizes hyper run one in omega (arith, inside, counted));
+      of_type = ready.of_type;
+    }),
+  )
 
   pub some_asked : 0 < length values
-  some_asked = let more = maximal in omega (arith, counted, more)
+  some_asked = let some = run_some d.sizes hyper run one in omega (arith, counted, some)
 
   pub standing_asked : AreStanding f number c (length values)
   standing_asked b there =
@@ -119,21 +102,16 @@ module _ {f : FileState} {number : ℕ} {hyper : Hyper} {values : List ℤ} {d :
   module _ (now : FileState)
       (changed : now ≡ record f { image = now.image; tree = with_object f.tree number (with_dataset (with_run c.place values)) })
       (k : k_values now.image ≡ k_values f.image) (sound : IsSound now) (whole : IsWholeFile f → IsWholeFile now)
-      (in_place_now : IsChangedInPlace f now (with_object f.tree number (with_dataset (with_run c.place values))) f.next (number ∷ []) 0)
-      (stored : (place : ℕ) → IsCellStored f number place → IsCellStored now number place) where
-    wrote : AreValuesWritten f number (places_in (run ∷ [])) values now
-    wrote =
-        all_written f number (run ∷ []) values d asked (0 + run.length) [] now
-        (one_more f number (run ∷ []) values d asked 0 (run ∷ []) [] run f none_yet refl values all_values now
-        (subst (λ place. now ≡ record f { image = now.image; tree = with_object f.tree number (with_dataset (with_run place values)) }) is.stands.place_is changed)
-        k sound whole
-        (subst (λ place. IsChangedInPlace f now (with_object f.tree number (with_dataset (with_run place values))) f.next (number ∷ []) 0) is.stands.place_is in_place_now) stored)
-        refl
+      (in_place_now : IsChangedInPlace f now (with_object f.tree number (with_dataset (with_run c.place values))) f.next (number ∷ []) 0) where
+    wrote : AreValuesWritten f number (range_with_len c.place (length values)) values now
+    wrote = record { changed = changed; k = k; sound = λ _. sound; whole = whole; in_place = λ _. in_place_now }
 
     pub selected_written : AreSelectedWritten f number hyper values now
     selected_written e array =
         let same = same_Some d e (sym ready.array ∙ array) in
-        subst (λ (ps : List ℕ). AreValuesWritten f number ps values now) (places ∙ ap (λ (x : Dataset). selection_of x.sizes (axes_of hyper)) same) wrote
+        let places : range_with_len c.place (length values) ≡ selection_of e.sizes (axes_of hyper)
+        = (λ i. range_with_len (is.stands.place_is i) (counted i)) ∙ selected_are ∙ ap (λ (x : Dataset). selection_of x.sizes (axes_of hyper)) same in
+        subst (λ (ps : List ℕ). AreValuesWritten f number ps values now) places wrote
 
 -- ---- where no storage was missing
 

@@ -17,7 +17,7 @@ use Rattle.h5_query.specs.ChangedInPlace.{IsChangedInPlace}
 use Rattle.h5_query.specs.Opened.Sound.{IsSound}
 use Rattle.h5_query.specs.Opened.State.{FileState}
 use Rattle.h5_query.specs.Selected.{hyper_rules}
-use Rattle.h5_query.specs.Written.{IsArrayThere, IsCellStored}
+use Rattle.h5_query.specs.Written.{IsArrayThere, IsCellStored, with_places}
 use Rattle.h5_query.proofs.ChangedThen.{changed_none}
 use Rattle.h5_layout.specs.Storage.{storage_bytes}
 use Rattle.h5_edit.specs.Carried.{IsAccepted}
@@ -25,7 +25,7 @@ use Rattle.h5_layout.specs.Lacking.{IsFound}
 use Rattle.h5_layout.specs.Lacking.{stored_all, stored_storage}
 use Rattle.h5_edit.specs.Edited.{IsGrowth}
 use Rattle.h5_edit.specs.Refusals.Allowed.{IsWriteAt}
-use Rattle.h5_edit.specs.Stored.{AreSelectedReady, AreSelectedWritten, HasStorage, IsStoring, IsWriteMade, with_places}
+use Rattle.h5_edit.specs.Stored.{AreSelectedReady, AreSelectedWritten, HasStorage, IsStoring, IsWriteMade}
 use Rattle.h5_layout.specs.declared.lacking.Missing.{Missing}
 use Rattle.h5_edit.proofs.ChangedTwice.{dataset_changed}
 use Rattle.h5_edit.proofs.SelectedStored.{none_lacking}

@@ -26,14 +26,14 @@ use Rattle.h5_query.specs.Data.{dataset_told, stored_chunks}
 use Rattle.h5_query.specs.ChangedInPlace.{IsChangedInPlace}
 use Rattle.h5_query.specs.Opened.Sound.{IsSound}
 use Rattle.h5_query.specs.Opened.State.{FileState}
-use Rattle.h5_query.specs.Written.{IsArrayThere}
+use Rattle.h5_query.specs.Written.{IsArrayThere, with_places}
 use Rattle.h5_edit.specs.Carried.{tree_after}
 use Rattle.h5_layout.specs.Lacking.{IsMissing, IsMissingIn}
 use Rattle.h5_layout.specs.Lacking.{stored_all, stored_storage}
 use Rattle.h5_edit.specs.Edited.{IsEdited}
 use Rattle.h5_layout.specs.Lacking.{lacks_cells}
 use Rattle.h5_edit.specs.Refusals.Allowed.{IsAt}
-use Rattle.h5_edit.specs.Stored.{AreValuesWritten, HasStorage, with_places}
+use Rattle.h5_edit.specs.Stored.{AreValuesWritten, HasStorage}
 use Rattle.h5_layout.specs.declared.lacking.Missing.{Missing}
 use Rattle.h5_layout.specs.declared.lacking.Missing.TheVariants as missing
 use Rattle.h5_edit.proofs.ChangedTwice.{changed_alike, changed_twice}

@@ -1,9 +1,9 @@
 -- Storage made for cells that are to be written, and the cells written into it (File Format Specification 3.0, sections III.A.1 and
 -- IV.A.2.i).
-use Rattle.std.specs.Prelude.{◌≡◌, ℕ, ◌^◌, ◌<◌, ◌≤◌, ℤ, true, Option, Some, None, List, [], ◌∷◌, length}
-use Rattle.std.specs.List.{AllByRecursion, Contains, list_all}
+use Rattle.std.specs.Prelude.{◌≡◌, ℕ, ◌^◌, ◌≤◌, ℤ, true, Option, Some, None, List, [], ◌∷◌, length}
+use Rattle.std.specs.List.{Contains, list_all}
 use Rattle.std.specs.Option.{option_map}
-use Rattle.h5_model.specs.Edits.Applied.{with_cells, with_dataset}
+use Rattle.h5_model.specs.Edits.Applied.{with_dataset}
 use Rattle.h5_model.specs.Edits.Refusal.{first_holding}
 use Rattle.h5_model.specs.Format.Fixed.{fits}
 use Rattle.h5_model.specs.Format.Superblock.{k_values}
@@ -18,7 +18,7 @@ use Rattle.h5_query.specs.ChangedInPlace.{IsChangedInPlace}
 use Rattle.h5_query.specs.Opened.Sound.{IsSound, IsWholeFile}
 use Rattle.h5_query.specs.Opened.State.{FileState}
 use Rattle.h5_query.specs.Selected.{hyper_rules}
-use Rattle.h5_query.specs.Written.{IsCellStored}
+use Rattle.h5_query.specs.Written.{IsCellStored, with_places}
 use Rattle.h5_shape.specs.Runs.{AreMaximal, places_in}
 use Rattle.h5_shape.specs.declared.runs.CellRun.{CellRun}
 use Rattle.h5_edit.specs.Carried.{IsAccepted, tree_after}
@@ -39,10 +39,6 @@ pub record IsStoring (f : FileState) (path : List ℕ) (hyper : Hyper) (values :
 abbrev pub AreSelectedStored : FileState → ℕ → Slab → Type 0
 AreSelectedStored f number slab =
     (d : Dataset) → dataset_of f.tree number ≡ Some d → (place : ℕ) → Contains (selection_of d.sizes slab) place → IsCellStored f number place
-
--- the array with these values in the cells at these places
-abbrev pub with_places : List ℕ → List ℤ → Dataset → Dataset
-with_places places values d = record d { cells = with_cells d.cells places values }
 
 -- The write is accepted, and the selected cells of the array of this number are stored now. The array alone was touched, and the image has
 -- grown by no more than the write needs. With the values in the cells the tree is the one that the write gives.
@@ -74,16 +70,6 @@ pub record AreSelectedRuns (sizes : List ℕ) (hyper : Hyper) (runs : List CellR
   pub places : places_in runs ≡ selection_of sizes (axes_of hyper)
   pub maximal : AreMaximal runs
   pub few : cells sizes ≤ 2 ^ 40
-
--- the array has a cell for each of these values in the runs; the cells are stored, and the values are of its type
-pub record AreRunsStored (f : FileState) (number : ℕ) (runs : List CellRun) (values : List ℤ) (d : Dataset) : Type 0 where
-  pub array : dataset_of f.tree number ≡ Some d
-  pub few : cells d.sizes ≤ 2 ^ 40
-  pub some : AllByRecursion (λ (r : CellRun). 0 < r.length) runs
-  pub inside : AllByRecursion (λ place. place < cells d.sizes) (places_in runs)
-  pub counted : length values ≡ length (places_in runs)
-  pub of_type : list_all (fits d.fixed) values ≡ true
-  pub stored : (place : ℕ) → Contains (places_in runs) place → IsCellStored f number place
 
 -- of the opened image the array of this number alone is another, which has these values in the cells at these places
 pub record AreValuesWritten (old : FileState) (number : ℕ) (places : List ℕ) (values : List ℤ) (new : FileState) : Type 0 where

@@ -6,11 +6,10 @@ ghost use Rattle.h5_model.specs.Tree.Objects.{Dataset, dataset_of};
 ghost use Rattle.h5_model.specs.declared.edits.Edit.TheVariants.{Write};
 ghost use Rattle.h5_model.specs.declared.hyperslab.Hyper.{Hyper as TheHyper};
 ghost use Rattle.h5_query.specs.Selected.{hyper_rules};
-ghost use Rattle.h5_shape.specs.Runs.{places_in};
 ghost use Rattle.h5_edit.specs.Carried.{IsRefused};
 ghost use Rattle.h5_edit.specs.Edited.{IsEdited};
 ghost use Rattle.h5_edit.specs.Refusals.Allowed.{IsWriteAt};
-ghost use Rattle.h5_edit.specs.Stored.{AreRunsStored, AreSelectedReady, AreSelectedRuns, AreSelectedWritten, AreValuesWritten, HasStorage, IsStoring, IsWriteMade};
+ghost use Rattle.h5_edit.specs.Stored.{AreSelectedReady, AreSelectedRuns, AreSelectedWritten, HasStorage, IsStoring, IsWriteMade};
 
 use crate::links::insertion_fault;
 use crate::rules::{check_write, standing_at};
@@ -155,7 +154,7 @@ fn write_by_runs(opened: &mut Opened, number: u32, hyper: &HyperRef<'_>, values:
     ensures { AreSelectedWritten opened.old number hyper.now values.now opened.new }
 {
     let runs = selected_runs(opened, number, hyper);
-    write_runs(opened, number, runs, values);
+    opened.write_cells(number, runs, values);
 }
 
 /// The selected cells of the array of this number, as runs of consecutive places.
@@ -172,17 +171,4 @@ fn selected_runs(opened: &Opened, number: u32, hyper: &HyperRef<'_>) -> CellRuns
         unreachable!()
     };
     slab.runs(array.dims())
-}
-
-/// Writes values into the cells of these runs, all of which are stored.
-fn write_runs(opened: &mut Opened, number: u32, runs: CellRuns, values: &Buffer<'_>)
-    requires { (d : Dataset) × AreRunsStored opened.old number runs values.now d }
-    ensures { AreValuesWritten opened.old number (places_in runs) values.now opened.new }
-{
-    let mut left = values.lend();
-    for run in runs {
-        let (first, others) = left.split_at(run.length as usize);
-        opened.write_cells(number, run.place, &first);
-        left = others;
-    }
 }

@@ -2,7 +2,7 @@ pub mod ToldLaws
 pub mod Standing
 pub mod Searched
 pub mod Way
-pub mod Gathered
+pub mod LinksLeft
 pub mod HeapSteps
 pub mod Refusals
 pub mod Linked

@@ -1,4 +1,5 @@
 pub mod Links
+pub mod LinksLeft
 pub mod Walk
 pub mod FirstFault
 pub mod Nodes

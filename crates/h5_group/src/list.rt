@@ -1,15 +1,16 @@
 //! All links of a group (File Format Specification 3.0, section III.B).
 
-ghost use Rattle.std.specs.Prelude.{◌≡◌, ◌<◌, ◌++◌, IfOk, OnOk, Some, length, map, slice_get, option_map};
+ghost use Rattle.std.specs.Prelude.{◌≡◌, ◌+◌, ◌^◌, ◌<◌, [], ◌∷◌, IfOk, MatchOption, OnSome, drop, length, map};
+ghost use Rattle.std.specs.Iterator.{YieldsFirstBy, item_count};
 ghost use Rattle.std.specs.List.{Contains};
 ghost use Rattle.h5_model.specs.Format.Superblock.{leaf_k};
-ghost use Rattle.h5_model.specs.Format.Heap.{segment_of};
 ghost use Rattle.h5_model.specs.Format.Symbols.{symbols_at, link_of};
 ghost use Rattle.h5_group.specs.Links.{IsGroupRead, lent_link};
+ghost use Rattle.h5_group.specs.LinksLeft.{entries_under_way};
 ghost use Rattle.h5_group.specs.Told.{links_told, symbol_nodes_told};
 
 use crate::link::link_in;
-use crate::nodes::SymbolNodes;
+use crate::nodes::{self, SymbolNodes};
 use crate::read::{segment, symbol_node};
 use h5_btree::tree_leaves;
 use h5_model::Link;
@@ -17,44 +18,132 @@ use h5_msg::SymbolTable;
 use h5_snod::SymbolNode;
 use h5_space::Image;
 use std::alloc::{AllocError, Global};
+use std::marker::Model;
 
-/// The links of the group, in ascending order of the bytes of their names.
+/// The links of a group that are left, in ascending order of the bytes of their names. No step takes memory.
+#[derive(Drop)]
+pub struct Links<'a> {
+    image: &'a Image,
+    /// The texts of the group.
+    segment: &'a [u8],
+    /// The addresses of the symbol nodes, from left to right.
+    nodes: Vec<u64>,
+    /// How many of these were begun.
+    begun: usize,
+    /// The one under way, if any was begun.
+    node: Option<SymbolNode<'a>>,
+    /// The place of its next entry.
+    place: usize,
+}
+
+impl<'a> Model for Links<'a> {
+    ghost use Rattle.std.specs.Prelude.{ℕ, ◌^◌, ◌<◌, ◌≤◌, List, drop, length};
+    ghost use Rattle.h5_model.specs.Format.Symbols.{Target};
+    ghost use Rattle.h5_group.specs.LinksLeft.{AreSymbolsThere, links_left};
+
+    ghost Value = { List (List ℕ × Target) };
+
+    ghost view = { λ l. links_left l.image.now.bytes l.segment.now l.node l.place (drop l.begun l.nodes.items) };
+
+    ghost invariant = { λ l. AreSymbolsThere l.image.now.bytes (drop l.begun l.nodes.items)
+        × (l.begun ≤ length l.nodes.items)
+        × (length (links_left l.image.now.bytes l.segment.now l.node l.place (drop l.begun l.nodes.items)) < 2 ^ 64) };
+}
+
+impl<'a> Links<'a> {
+    /// No links.
+    pub fn none(alloc: Global, image: &'a Image) -> Self
+        ensures { result ≡ [] }
+    {
+        Links {
+            image,
+            segment: &[],
+            nodes: Vec::new(alloc),
+            begun: 0,
+            node: None,
+            place: 0,
+        }
+    }
+
+    /// How many links are left. Looks at each symbol node that is left.
+    pub fn len(&self) -> usize
+        ensures { result ≡ length self.now }
+    {
+        let mut count = entries_behind(&self.node, self.place);
+        for at in &self.nodes[self.begun..] {
+            count += nodes::symbol_node(self.image, *at).len();
+        }
+        count
+    }
+}
+
+impl<'a> Iterator for Links<'a> {
+    type Item = Link<'a, u64>;
+
+    ghost next_gives = { YieldsFirstBy lent_link (λ left. left) };
+
+    ghost remaining = { item_count (λ left. left) };
+
+    fn next(&mut self) -> Option<Link<'a, u64>> {
+        loop {
+            if let Some(link) = link_at(self.segment, &self.node, self.place) {
+                self.place += 1;
+                return Some(link);
+            }
+            let at = *self.nodes.get(self.begun)?;
+            self.node = Some(nodes::symbol_node(self.image, at));
+            self.begun += 1;
+            self.place = 0;
+        }
+    }
+}
+
+/// The link of entry `i` of the symbol node under way, or `None` where there is no such entry.
+fn link_at<'a>(segment: &'a [u8], node: &Option<SymbolNode<'_>>, i: usize) -> Option<Link<'a, u64>>
+    ensures link { let links = map (link_of segment.now) (drop i (entries_under_way node.now)) in
+        MatchOption result (links ≡ []) (λ link.
+        links ≡ lent_link link ∷ map (link_of segment.now) (drop (i + 1) (entries_under_way node.now))) }
+    ensures next { OnSome result (i + 1 < 2 ^ 64) }
+{
+    match node {
+        Some(node) if i < node.len() => Some(link_in(segment, node, i)),
+        _ => None,
+    }
+}
+
+/// How many entries of the symbol node under way stand from this place on.
+fn entries_behind(node: &Option<SymbolNode<'_>>, place: usize) -> usize
+    ensures { result ≡ length (drop place (entries_under_way node.now)) }
+{
+    match node {
+        Some(node) => node.len().saturating_sub(place),
+        None => 0,
+    }
+}
+
+/// The links of the group.
 ///
-/// Takes memory for a reference to each link, and for the addresses of the symbol nodes.
+/// Takes memory for the addresses of the symbol nodes.
 ///
 /// # Errors
 ///
 /// `AllocError` if memory is refused.
-pub fn entries<'a>(
+pub fn group_links<'a>(
     alloc: Global,
     image: &'a Image,
     table: SymbolTable,
-) -> Result<Vec<Link<'a, u64>>, AllocError>
+) -> Result<Links<'a>, AllocError>
     requires { IsGroupRead image.now.bytes table }
-    ensures { IfOk result (λ links. map lent_link links.items ≡ links_told image.now.bytes table) }
+    ensures { IfOk result (λ links. links ≡ links_told image.now.bytes table) }
 {
-    let segment = segment(image, table);
-    let nodes = symbol_nodes(alloc, image, table)?;
-    let mut links = Vec::new(alloc);
-    for node in &nodes {
-        push_links(&mut links, segment, &symbol_node(image, table, *node))?;
-    }
-    Ok(links)
-}
-
-/// Puts the links of a symbol node behind these.
-fn push_links<'a>(
-    links: &mut Vec<Link<'a, u64>>,
-    segment: &'a [u8],
-    node: &SymbolNode,
-) -> Result<(), AllocError>
-    ensures { OnOk result (map lent_link links.new.items
-        ≡ map lent_link links.old.items ++ map (link_of segment.now) node.now) }
-{
-    for i in 0..node.len() {
-        links.push(link_in(segment, node, i))?;
-    }
-    Ok(())
+    Ok(Links {
+        image,
+        segment: segment(image, table),
+        nodes: symbol_nodes(alloc, image, table)?,
+        begun: 0,
+        node: None,
+        place: 0,
+    })
 }
 
 /// The addresses of the symbol nodes of the group, from left to right.
@@ -84,18 +173,4 @@ pub fn links_at(image: &Image, table: SymbolTable, node: u64) -> usize
     ensures { result ≡ length (symbols_at image.now.bytes (leaf_k image.now.bytes) node) }
 {
     symbol_node(image, table, node).len()
-}
-
-/// The link in entry `i` of the symbol node at the address `node`. Takes no memory.
-///
-/// That it is a symbol node of the group, and has that entry, are the caller's conditions.
-pub fn link_at<'a>(image: &'a Image, table: SymbolTable, node: u64, i: usize) -> Link<'a, u64>
-    requires group { IsGroupRead image.now.bytes table }
-    requires node { Contains (symbol_nodes_told image.now.bytes table) node }
-    requires entry { i < length (symbols_at image.now.bytes (leaf_k image.now.bytes) node) }
-    ensures { option_map (link_of (segment_of image.now.bytes table.heap))
-        (slice_get (symbols_at image.now.bytes (leaf_k image.now.bytes) node) i)
-        ≡ Some (lent_link result) }
-{
-    link_in(segment(image, table), &symbol_node(image, table, node), i)
 }

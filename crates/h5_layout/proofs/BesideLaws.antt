@@ -1,5 +1,5 @@
 -- Cells beside one another in a row of a chunk: one chunk has them, one behind another.
-use Rattle.std.proofs.Common.{◌≡◌, ℕ, suc, ◌+◌, ◌-◌, ◌*◌, ◌/◌, ◌%◌, ◌<◌, ◌≤◌, List, [], ◌∷◌, min, refl, sym, ap, ◌∙◌, arith, length, get_or, Bool, false}
+use Rattle.std.proofs.Common.{◌≡◌, ℕ, suc, ◌+◌, ◌-◌, ◌*◌, ◌/◌, ◌%◌, ◌<◌, ◌≤◌, List, [], ◌∷◌, refl, sym, ap, ◌∙◌, arith, length, get_or, Bool, false}
 use Rattle.std.specs.Prelude.{◌==◌}
 use Rattle.std.proofs.lemmas.Bool.Decides.{nat_tests}
 use Rattle.std.proofs.lemmas.Nat.{div-add-mod', div-mul-add, mod-mul-add, div_below}
@@ -7,7 +7,7 @@ use Rattle.std.proofs.Math.Nat.{mod-eq_of_lt, mul-le-mul_right}
 use Rattle.h5_model.specs.Tree.Grid.{corner_of, inner_of}
 use Rattle.h5_model.specs.Tree.Places.{cells, place_of, index_of}
 use Rattle.h5_model.proofs.PlaceLaws.{positive}
-use Rattle.h5_layout.specs.ChunkCells.{AreBeside}
+use Rattle.h5_layout.specs.ChunkCells.{AreBeside, left_in_row}
 
 -- ---- the last size
 
@@ -24,7 +24,7 @@ last-is (d ∷ e ∷ ds) some =
     ap (λ n. get_or (d ∷ e ∷ ds) n 0) next ∙ last-is (e ∷ ds) (omega arith)
 
 -- the cells are rows of the last size
-last_rows : (d : ℕ) (ds : List ℕ) → (q : ℕ) × (cells (d ∷ ds) ≡ q * last_of (d ∷ ds))
+pub last_rows : (d : ℕ) (ds : List ℕ) → (q : ℕ) × (cells (d ∷ ds) ≡ q * last_of (d ∷ ds))
 last_rows d [] = (1, omega arith)
 last_rows d (e ∷ ds) =
     let rest : (q : ℕ) × (cells (e ∷ ds) ≡ q * last_of (e ∷ ds)) = last_rows e ds in
@@ -40,13 +40,13 @@ some_last (d ∷ ds) place some below =
 -- ---- places in one row
 
 -- a few places on, in the same row
-row_on : (x j m : ℕ) → x % m + j < m → ((x + j) / m ≡ x / m) × ((x + j) % m ≡ x % m + j)
+pub row_on : (x j m : ℕ) → x % m + j < m → ((x + j) / m ≡ x / m) × ((x + j) % m ≡ x % m + j)
 row_on x j m low =
     let whole : x + j ≡ x / m * m + (x % m + j) = omega (arith, div-add-mod' x m) in
     (ap (λ n. n / m) whole ∙ div-mul-add (x / m) m (x % m + j) low, ap (λ n. n % m) whole ∙ mod-mul-add (x / m) m (x % m + j) low)
 
 -- it ends where the rows end, or before
-row_ends : (x q l j : ℕ) → x < q * l → x % l + j < l → x + j < q * l
+pub row_ends : (x q l j : ℕ) → x < q * l → x % l + j < l → x + j < q * l
 row_ends x q l j low inside =
     let row : x / l < q = div_below x l q (omega arith) low in
     let rows : (x / l + 1) * l ≤ q * l = mul-le-mul_right l (omega arith) in
@@ -54,7 +54,7 @@ row_ends x q l j low inside =
     omega (arith, div-add-mod' x l)
 
 -- a place in a row of rows has the same column
-same_column : (p q l : ℕ) → 0 < q * l → 0 < l → p % (q * l) % l ≡ p % l
+pub same_column : (p q l : ℕ) → 0 < q * l → 0 < l → p % (q * l) % l ≡ p % l
 same_column p q l some more =
     let low : p % (q * l) % l < l = omega arith in
     let whole : p / (q * l) * (q * l) + p % (q * l) ≡ p = div-add-mod' p (q * l) in
@@ -133,11 +133,6 @@ not_empty n empty is has = grind (arith, nat_tests)
 
 -- ---- how many cells are left in a row of a chunk, where there are dimensions
 
-abbrev pub left_of : List ℕ → List ℕ → ℕ → ℕ
-left_of sizes chunk place =
-    min (get_or sizes (length sizes - 1) 0 - place % get_or sizes (length sizes - 1) 0)
-    (get_or chunk (length sizes - 1) 0 - place % get_or sizes (length sizes - 1) 0 % get_or chunk (length sizes - 1) 0)
-
 module _ (sizes chunk : List ℕ) (place : ℕ) (rank : length chunk ≡ length sizes) (each : (d : ℕ) → d < length chunk → 1 ≤ get_or chunk d 0) (below : place < cells sizes)
     (some : 0 < length sizes) where
   abbrev d : ℕ
@@ -155,7 +150,7 @@ module _ (sizes chunk : List ℕ) (place : ℕ) (rank : length chunk ≡ length 
   box : 1 ≤ k
   box = each (length sizes - 1) (omega (arith, rank, some))
 
-  pub some_left : 0 < left_of sizes chunk place
+  pub some_left : 0 < left_in_row sizes chunk place
   some_left =
       let size = low in
       let wide = box in
@@ -163,7 +158,7 @@ module _ (sizes chunk : List ℕ) (place : ℕ) (rank : length chunk ≡ length 
       let inner : place % d % k < k = omega arith in
       omega arith
 
-  pub left_beside : (n : ℕ) → n ≡ left_of sizes chunk place → AreBeside sizes chunk place n
+  pub left_beside : (n : ℕ) → n ≡ left_in_row sizes chunk place → AreBeside sizes chunk place n
   left_beside n all =
       let size = low in
       let wide = box in

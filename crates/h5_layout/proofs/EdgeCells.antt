@@ -1,13 +1,13 @@
 -- The cells of chunks at the edge of an extent (File Format Specification 3.0, section III.A.1).
-use Rattle.std.proofs.Common.{◌≡◌, ℕ, zero, suc, ◌+◌, ◌-◌, ◌*◌, ◌/◌, ◌%◌, ◌<◌, ◌≤◌, List, [], ◌∷◌, length, get_or, true, false, inl, inr, refl, ap, ap₂, ◌∙◌, sym, arith}
-use Rattle.std.specs.Prelude.{◌&&◌, ◌||◌, min, nat_lt}
+use Rattle.std.proofs.Common.{◌≡◌, ℕ, suc, ◌+◌, ◌-◌, ◌*◌, ◌/◌, ◌%◌, ◌<◌, ◌≤◌, List, [], ◌∷◌, length, get_or, true, false, inl, inr, refl, ap, ap₂, ◌∙◌, sym, arith}
+use Rattle.std.specs.Prelude.{◌&&◌, min, nat_lt}
 use Rattle.std.proofs.lemmas.Bool.{cases_lt, or_left, or_right}
 use Rattle.std.proofs.lemmas.Bool.Decides.{nat_tests}
 use Rattle.std.proofs.lemmas.Nat.{div-add-mod'}
 use Rattle.h5_model.specs.Tree.Grid.{corner_of, inner_of}
 use Rattle.h5_model.specs.Tree.Places.{is_inside}
+use Rattle.h5_chunks.specs.Lists.{reaches_beyond}
 use Rattle.h5_layout.specs.Kept.{slices_kept}
-use Rattle.h5_layout.specs.Trimmed.{reaches_beyond}
 use Rattle.h5_layout.proofs.KeptValues.{below_offset}
 
 below_cell : (i c k : ℕ) → 1 ≤ c → nat_lt (i % c) (min c (k - i / c * c)) ≡ nat_lt i k
@@ -50,33 +50,3 @@ reaches_outside (n ∷ ns) (c ∷ cs) (i ∷ is) same long some out =
           let first : nat_lt n (i / c * c + c) ≡ true = grind (arith, nat_tests, past) in
           or_left (nat_lt n (i / c * c + c)) (reaches_beyond ns cs (corner_of cs is)) first
     ]
-
--- ---- dimension by dimension
-
--- a chunk that reaches past the extent in one
-pub reaches_at : (sizes chunk offsets : List ℕ) (d : ℕ) → length sizes ≡ length chunk → length offsets ≡ length chunk → d < length chunk
-    → get_or sizes d 0 - get_or offsets d 0 < get_or chunk d 0 → reaches_beyond sizes chunk offsets ≡ true
-reaches_at sizes [] offsets d same long low less = absurd (omega (arith, low))
-reaches_at [] (c ∷ cs) offsets d same long low less = absurd (omega (arith, same))
-reaches_at (n ∷ ns) (c ∷ cs) [] d same long low less = absurd (omega (arith, long))
-reaches_at (n ∷ ns) (c ∷ cs) (o ∷ os) zero same long low less =
-    let past : n < o + c = omega (arith, less) in
-    let first : nat_lt n (o + c) ≡ true = grind (arith, nat_tests, past) in
-    or_left (nat_lt n (o + c)) (reaches_beyond ns cs os) first
-reaches_at (n ∷ ns) (c ∷ cs) (o ∷ os) (suc d) same long low less =
-    or_right (nat_lt n (o + c)) (reaches_beyond ns cs os) (reaches_at ns cs os d (omega (arith, same)) (omega (arith, long)) (omega (arith, low)) less)
-
--- and in none
-pub reaches_nowhere : (sizes chunk offsets : List ℕ) → length sizes ≡ length chunk → length offsets ≡ length chunk
-    → ((d : ℕ) → d < length chunk → 1 ≤ get_or chunk d 0) → ((d : ℕ) → d < length chunk → get_or chunk d 0 ≤ get_or sizes d 0 - get_or offsets d 0)
-    → reaches_beyond sizes chunk offsets ≡ false
-reaches_nowhere [] chunk offsets same long some within = refl
-reaches_nowhere (n ∷ ns) [] offsets same long some within = refl
-reaches_nowhere (n ∷ ns) (c ∷ cs) [] same long some within = refl
-reaches_nowhere (n ∷ ns) (c ∷ cs) (o ∷ os) same long some within =
-    let one : 1 ≤ c = some 0 (omega arith) in
-    let here : c ≤ n - o = within 0 (omega arith) in
-    let past : o + c ≤ n = omega (arith, here, one) in
-    let first : nat_lt n (o + c) ≡ false = grind (arith, nat_tests, past) in
-    ap₂ (λ p q. p || q) first
-    (reaches_nowhere ns cs os (omega (arith, same)) (omega (arith, long)) (λ d low. some (suc d) (omega (arith, low))) (λ d low. within (suc d) (omega (arith, low))))

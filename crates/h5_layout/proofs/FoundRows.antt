@@ -1,12 +1,15 @@
 -- Cells that stand one behind another in a row of a chunk, from one of them on.
-use Rattle.std.proofs.Common.{◌≡◌, ℕ, ◌+◌, ◌-◌, ◌^◌, ◌<◌, ◌≤◌, IfSome, List, length, sym, ap, ◌∙◌, subst, arith}
+use Rattle.std.proofs.Common.{◌≡◌, ℕ, ◌+◌, ◌-◌, ◌^◌, ◌<◌, ◌≤◌, IfSome, None, List, [], length, replicate, sym, ap, ◌∙◌, subst, arith}
 use Rattle.std.specs.FinMap.{get}
+use Rattle.h5_model.specs.Format.Chunks.{Chunks}
 use Rattle.h5_model.specs.Tree.Grid.{corner_of, inner_of}
 use Rattle.h5_model.specs.Tree.Places.{cells, index_of, place_of}
 use Rattle.h5_chunks.specs.Told.{chunks_told}
 use Rattle.h5_layout.specs.ChunkCells.{AreBeside, Grid, IsGrid, chunk_of, place_in_chunk}
+use Rattle.h5_layout.specs.FoundChunks.{AreChunksBeside}
 use Rattle.h5_layout.specs.GridKept.{GridKept, IsGridKept, IsRowOf, grid_in}
 use Rattle.h5_layout.specs.declared.index.FoundRow.{FoundRow}
+use Rattle.h5_layout.proofs.FoundBeside.{none_beside}
 use Rattle.h5_layout.proofs.GridLaws.{found_inside, row_room}
 
 module _ (g : Grid) (row : FoundRow) (is : IsRowOf g row) (place : ℕ) (since : row.start ≤ place) (until : place < row.start + row.cells) where
@@ -85,3 +88,23 @@ module _ (image : List ℕ) (old new : GridKept) (row : FoundRow) (same : new �
 
   pub sought_inside : IfSome row.at (λ at. at + old.shape.bytes ≤ length image)
   sought_inside = left_inside g row row_of place first last grid
+
+-- ---- before anything was found
+
+pub kept_new : (image sizes chunk : List ℕ) (bytes root : ℕ)
+    → IsGrid (record { image = image; sizes = sizes; shape = record { sizes = chunk; bytes = bytes }; root = root })
+    → IsGridKept image (record {
+      sizes = sizes;
+      shape = record { sizes = chunk; bytes = bytes };
+      root = root;
+      cursor = record { tree = None; beside = record { first = replicate (length sizes) 0; at = [] } };
+      row = record { start = 0; cells = 0; inner = 0; at = None; corner = replicate 32 0 };
+    })
+kept_new image sizes chunk bytes root grid =
+    let chunks : Chunks = chunks_told image (record { sizes = chunk; bytes = bytes }) root in
+    record {
+      grid = grid;
+      cursor = tt;
+      beside = subst (λ (n : ℕ). AreChunksBeside chunks chunk (record { first = replicate n 0; at = [] })) grid.rank (none_beside chunks chunk grid.sizes.some);
+      row = λ some. absurd (omega (arith, some));
+    }

@@ -20,6 +20,9 @@ pub mod StandsAt
 pub mod StandingLaws
 pub mod StandingWritten
 pub mod ZeroFill
+pub mod FoundBeside
+pub mod NextLaws
+pub mod NextRows
 pub mod FoundRows
 pub mod PlacesAt
 pub mod PlacesWritten

@@ -1,27 +1,23 @@
 -- The chunks that an array stores outside an extent, and at its edge, as they are listed.
-use Rattle.std.proofs.Common.{◌≡◌, ℕ, ◌*◌, ◌^◌, ◌<◌, ◌≤◌, ℤ, List, [], ◌∷◌, length, map, false, true, Bool, Option, None, Some, refl, sym, ap, ◌∙◌, subst, arith}
+use Rattle.std.proofs.Common.{◌≡◌, ℕ, ◌*◌, ◌^◌, ◌<◌, ◌≤◌, ℤ, List, [], length, map, false, true, Bool, Option, None, Some, refl, sym, ap, ◌∙◌, subst, arith}
 use Rattle.std.specs.Prelude.{nat_lt, not}
 use Rattle.std.specs.FinMap.{empty, entries, retain_keys}
 use Rattle.std.specs.List.{AllByRecursion, filter}
 use Rattle.std.proofs.lemmas.Bool.Decides.{nat_tests}
-use Rattle.h5_model.specs.Format.Chunks.{Chunks, offsets_in}
+use Rattle.h5_model.specs.Format.Chunks.{Chunks}
 use Rattle.h5_model.specs.Format.Fixed.{Fixed, IsFixed, fits}
 use Rattle.h5_model.specs.Edits.Refusal.{is_chunked}
 use Rattle.h5_model.specs.Format.Layout.{InBlock, InChunks, InMessage, Layout}
 use Rattle.h5_model.specs.Format.Reads.{storage_of}
 use Rattle.h5_model.specs.Tree.Places.{cells, is_inside}
-use Rattle.h5_chunks.specs.Held.{place_entry}
+use Rattle.h5_chunks.specs.Lists.{ChunkOffsets, offsets_across, offsets_outside, reaches_beyond}
 use Rattle.h5_chunks.specs.Shapes.{AreChunkSizes}
 use Rattle.h5_chunks.specs.Told.{chunks_told}
-use Rattle.h5_chunks.specs.declared.held.ChunkPlace.{ChunkPlace}
 use Rattle.h5_layout.specs.ArrayChunks.{ArrayChunks, AreSoundChunks, IsChunked, IsInChunksOf}
-use Rattle.h5_chunks.specs.Lists.{offsets_outside}
 use Rattle.h5_layout.specs.Data.{chunk_shape, stored_chunks}
 use Rattle.h5_layout.specs.Described.{Described}
-use Rattle.h5_layout.specs.HeldChunks.{held_chunks}
 use Rattle.h5_layout.specs.Judged.{is_chunk_large}
-use Rattle.h5_chunks.specs.Lists.{ChunkOffsets}
-use Rattle.h5_layout.specs.Trimmed.{chunk_list, offsets_across, reaches_beyond}
+use Rattle.h5_layout.specs.Trimmed.{chunk_list}
 use Rattle.h5_layout.proofs.KeptValues.{layout_parts}
 use Rattle.h5_layout.proofs.NoChunks.{none_kept}
 use Rattle.h5_layout.proofs.TrimmedArray.{stored_by}
@@ -92,16 +88,3 @@ module _ (a : Described) (k : ArrayChunks) (of : IsInChunksOf a k) where
       none_across =
           is ∙ listed chunk root laid []
           ∙ ap (λ (es : List (List ℕ × ℕ)). chunk_list a chunk (filter (reaches_beyond sizes chunk) (map (λ (e : List ℕ × ℕ). e.0) es))) (sym (none_at (is_inside sizes)))
-
--- ---- the places of chunks, and their offsets
-
-module _ (rank : ℕ) where
-  abbrev pub offsets_of_place : ChunkPlace → List ℕ
-  offsets_of_place p = offsets_in rank p.key.now
-
-  pub places_are : (items : List ChunkPlace) (sizes : List ℕ) (chunks : Chunks) → map (place_entry rank) items ≡ entries (retain_keys chunks (is_inside sizes))
-      → map offsets_of_place items ≡ held_chunks sizes chunks
-  places_are items sizes chunks held = firsts items ∙ ap (λ (es : List (List ℕ × ℕ)). map (λ (e : List ℕ × ℕ). e.0) es) held where
-    firsts : (ps : List ChunkPlace) → map offsets_of_place ps ≡ map (λ (e : List ℕ × ℕ). e.0) (map (place_entry rank) ps)
-    firsts [] = refl
-    firsts (p ∷ ps) = ap (λ (xs : List (List ℕ)). offsets_in rank p.key.now ∷ xs) (firsts ps)

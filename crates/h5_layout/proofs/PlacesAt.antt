@@ -1,5 +1,5 @@
 -- Where the cells of an array stand, by what is kept of its header and of its tree.
-use Rattle.std.proofs.Common.{◌≡◌, ℕ, false, ◌+◌, ◌*◌, ◌^◌, ◌≤◌, inl, inr, List, length, Option, Some, None, true, refl, sym, ap, ap₂, ◌∙◌, subst, arith}
+use Rattle.std.proofs.Common.{◌≡◌, ℕ, false, ◌+◌, ◌*◌, ◌^◌, ◌≤◌, inl, inr, List, [], length, replicate, Option, Some, None, true, refl, sym, ap, ap₂, ◌∙◌, subst, arith}
 use Rattle.std.specs.Prelude.{is_some, option_map}
 use Rattle.std.specs.FinMap.{get, get-empty}
 use Rattle.std.specs.Ordering.{nat_cmp}
@@ -25,6 +25,7 @@ use Rattle.h5_layout.specs.GridKept.{GridKept, grid_in}
 use Rattle.h5_layout.specs.Standing.{IsStandingAt, address_at, address_of, is_stored_cell, is_stored_in}
 use Rattle.h5_layout.specs.Judged.{is_chunk_large}
 use Rattle.h5_layout.specs.Stored.{IsArray, has_room}
+use Rattle.h5_layout.proofs.FoundRows.{kept_new}
 use Rattle.h5_layout.proofs.StandsAt.{block_stands}
 
 -- ---- nowhere
@@ -67,7 +68,13 @@ block_line image a b laid read room =
 -- the chunks of an array, as they are kept at first
 pub index_made : (image : List ℕ) (a : Described) → IsArray a → IsFixed a.fixed → AreDataRead image a.fixed a.layout → (chunk : List ℕ) (root : ℕ)
     → a.layout ≡ InChunks chunk (Some root) → AreChunkSizes chunk → (sizes : List ℕ) → sizes ≡ a.sizes → (size : ℕ) → size ≡ a.fixed.size
-    → IsIndexOf image a (record { sizes = sizes; shape = record { sizes = chunk; bytes = cells chunk * size }; root = root; cursor = None; row = record { start = 0; cells = 0; inner = 0; at = None } })
+    → IsIndexOf image a (record {
+      sizes = sizes;
+      shape = record { sizes = chunk; bytes = cells chunk * size };
+      root = root;
+      cursor = record { tree = None; beside = record { first = replicate (length sizes) 0; at = [] } };
+      row = record { start = 0; cells = 0; inner = 0; at = None; corner = replicate 32 0 };
+    })
 index_made image a sound fixed read chunk root laid chunks sizes same size wide =
     let rank : has_room a.sizes a.fixed.size (InChunks chunk (Some root)) ≡ true = subst (λ (l : Layout). has_room a.sizes a.fixed.size l ≡ true) laid sound.room in
     let large : is_chunk_large a.fixed (InChunks chunk (Some root)) ≡ false = subst (λ (l : Layout). is_chunk_large a.fixed l ≡ false) laid sound.chunk_small in
@@ -78,17 +85,13 @@ index_made image a sound fixed read chunk root laid chunks sizes same size wide 
       sizes = same;
       shape = ap (λ (n : ℕ). record { sizes = chunk; bytes = n }) shape;
       layout = laid;
-      kept = record {
-        grid = record {
-          rank = rw same (grind (arith, nat_tests));
-          sizes = chunks;
-          few = rw same (omega (arith, cells_le a.sizes, sound.small));
-          small = omega (arith, bytes, some);
-          stored = rw shape (subst (AreDataRead image a.fixed) laid read);
-        };
-        cursor = tt;
-        row = λ some. absurd (omega (arith, some));
-      };
+      kept = kept_new image sizes chunk (cells chunk * size) root (record {
+        rank = rw same (grind (arith, nat_tests));
+        sizes = chunks;
+        few = rw same (omega (arith, cells_le a.sizes, sound.small));
+        small = omega (arith, bytes, some);
+        stored = rw shape (subst (AreDataRead image a.fixed) laid read);
+      });
     }
 
 module _ (image : List ℕ) (a : Described) (g : GridKept) (of : IsIndexOf image a g) where

@@ -20,6 +20,7 @@ use Rattle.h5_chunks.specs.Told.{chunks_told}
 use Rattle.h5_layout.specs.CellPlaces.{ArePlacesOf, DoStandAs, IsLineAt, IsUnstored, KeptPlaces}
 use Rattle.h5_layout.specs.Data.{AreDataRead, data_blocks, stored_chunks}
 use Rattle.h5_layout.specs.Described.{Described, HasArray}
+use Rattle.h5_layout.specs.FoundChunks.{AreChunksBeside}
 use Rattle.h5_layout.specs.Standing.{IsStandingAt}
 use Rattle.h5_layout.specs.declared.places.CellStand.{CellStand}
 use Rattle.h5_layout.specs.declared.places.CellStand.TheVariants.{Nowhere, InLine, InIndex}
@@ -41,11 +42,11 @@ module _ (old : List ℕ) (a : Described) (ms : List Message) (has : HasArray ms
     go (InIndex g) of =
         let chunks : AreDataRead new a.fixed (InChunks g.shape.sizes (Some g.root))
         = subst (AreDataRead new a.fixed) of.layout (stored_read old a ms has is read once whole place at values some stand room all new wrote) in
-        let cursor : IsCursorIn old a.fixed a.layout g.cursor
-        = subst (λ (l : Layout). IsCursorIn old a.fixed l g.cursor) (sym of.layout) (subst (λ (s : Shape). IsCursor old s g.root g.cursor) of.shape of.kept.cursor) in
-        let still : IsCursorIn new a.fixed (InChunks g.shape.sizes (Some g.root)) g.cursor
-        = subst (λ (l : Layout). IsCursorIn new a.fixed l g.cursor) of.layout
-        (stored_cursors old a ms has is read once whole place at values some stand room all new wrote g.cursor cursor) in
+        let cursor : IsCursorIn old a.fixed a.layout g.cursor.tree
+        = subst (λ (l : Layout). IsCursorIn old a.fixed l g.cursor.tree) (sym of.layout) (subst (λ (s : Shape). IsCursor old s g.root g.cursor.tree) of.shape of.kept.cursor) in
+        let still : IsCursorIn new a.fixed (InChunks g.shape.sizes (Some g.root)) g.cursor.tree
+        = subst (λ (l : Layout). IsCursorIn new a.fixed l g.cursor.tree) of.layout
+        (stored_cursors old a ms has is read once whole place at values some stand room all new wrote g.cursor.tree cursor) in
         let stored : chunks_told new g.shape g.root ≡ chunks_told old g.shape g.root
         = (λ i. chunks_told new (of.shape i) g.root)
         ∙ subst (λ (l : Layout). stored_chunks new a.fixed l ≡ stored_chunks old a.fixed l) of.layout
@@ -63,13 +64,16 @@ module _ (old : List ℕ) (a : Described) (ms : List Message) (has : HasArray ms
               small = of.kept.grid.small;
               stored = subst (λ (s : Shape). AreChunksRead new s g.root) (sym of.shape) chunks;
             };
-            cursor = subst (λ (s : Shape). IsCursor new s g.root g.cursor) (sym of.shape) still;
+            cursor = subst (λ (s : Shape). IsCursor new s g.root g.cursor.tree) (sym of.shape) still;
+            beside = subst (λ (c : Chunks). AreChunksBeside c g.shape.sizes g.cursor.beside) (sym stored) of.kept.beside;
             row = λ found.
                 let was_row = of.kept.row found in
                 record {
                   beside = was_row.beside;
                   inner = was_row.inner;
                   at = was_row.at ∙ ap (λ (c : Chunks). get c (corner_of g.shape.sizes (index_of g.sizes g.row.start))) (sym stored);
+                  corner = was_row.corner;
+                  all = was_row.all;
                 };
           };
         }

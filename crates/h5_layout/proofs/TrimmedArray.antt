@@ -28,11 +28,12 @@ use Rattle.h5_chunks.proofs.InsideLaws.{inside_of, is_inside_from}
 use Rattle.h5_layout.specs.ArrayChunks.{ArrayChunks, AreSoundChunks, IsInChunksOf}
 use Rattle.h5_layout.specs.ArrayEdits.{IsArrayApart, IsArrayMoved, described_in}
 use Rattle.h5_chunks.specs.Edited.{AreChunksApart, HasChunksNow}
+use Rattle.h5_chunks.specs.Lists.{offsets_across, reaches_beyond}
 use Rattle.h5_layout.specs.Data.{AreDataRead, chunk_shape, data_blocks, stored_chunks}
 use Rattle.h5_layout.specs.Described.{Described}
 use Rattle.h5_layout.specs.Kept.{slices_kept}
 use Rattle.h5_layout.specs.HeldChunks.{held_chunks}
-use Rattle.h5_layout.specs.Trimmed.{IsTrimmed, IsTrimmedTo, grid_cell, offsets_across, reaches_beyond}
+use Rattle.h5_layout.specs.Trimmed.{IsTrimmed, IsTrimmedTo, grid_cell}
 use Rattle.h5_layout.proofs.ArrayMoved.{array_still, data_moved, said_still}
 use Rattle.h5_layout.proofs.CornerInside.{corner_inside}
 use Rattle.h5_layout.proofs.EdgeCells.{reaches_outside, slices_index}

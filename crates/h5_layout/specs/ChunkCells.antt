@@ -1,5 +1,5 @@
 -- The cells of an array in chunks, one behind another in a row of a chunk (File Format Specification 3.0, section III.A.1).
-use Rattle.std.specs.Prelude.{◌≡◌, ℕ, ◌+◌, ◌^◌, ◌<◌, ◌≤◌, ℤ, Option, None, Some, List, length}
+use Rattle.std.specs.Prelude.{◌≡◌, ℕ, ◌+◌, ◌-◌, ◌%◌, ◌^◌, ◌<◌, ◌≤◌, min, ℤ, Option, None, Some, List, length, get_or}
 use Rattle.std.specs.FinMap.{get}
 use Rattle.h5_bytes.specs.Bytes.{part}
 use Rattle.h5_model.specs.Format.Cells.{value_in_chunk}
@@ -43,6 +43,13 @@ pub record AreBeside (sizes chunk : List ℕ) (place n : ℕ) : Type 0 where
   pub corner : (j : ℕ) → j < n → corner_of chunk (index_of sizes (place + j)) ≡ corner_of chunk (index_of sizes place)
   pub inner : (j : ℕ) → j < n
       → place_of chunk (inner_of chunk (index_of sizes (place + j))) ≡ place_of chunk (inner_of chunk (index_of sizes place)) + j
+
+-- how many cells from a place on are left in its row of the chunk and of the array, where there are dimensions
+abbrev pub left_in_row : List ℕ → List ℕ → ℕ → ℕ
+left_in_row sizes chunk place =
+    let last = length sizes - 1 in
+    let number = place % get_or sizes last 0 in
+    min (get_or sizes last 0 - number) (get_or chunk last 0 - number % get_or chunk last 0)
 
 -- these are the bytes of the chunk, where it is stored
 abbrev pub AreChunkBytes : Grid → Option ℕ → Option (List ℕ) → Type 0

@@ -7,6 +7,7 @@ pub mod ChunkCells
 pub mod Data
 pub mod Described
 pub mod Extents
+pub mod FoundChunks
 pub mod GridKept
 pub mod HeldChunks
 pub mod Judged

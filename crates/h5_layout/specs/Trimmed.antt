@@ -1,21 +1,17 @@
 -- Arrays in chunks that store nothing outside an extent (File Format Specification 3.0, section III.A.1).
-use Rattle.std.specs.Prelude.{◌≡◌, ℕ, ℤ, ◌+◌, ◌*◌, ◌||◌, Bool, false, true, nat_lt, Option, Some, List, [], ◌∷◌, length}
+use Rattle.std.specs.Prelude.{◌≡◌, ℕ, ℤ, ◌*◌, false, true, Option, Some, List, length}
 use Rattle.std.specs.FinMap.{get}
-use Rattle.std.specs.List.{filter}
 use Rattle.h5_model.specs.Format.Cells.{cell_of}
-use Rattle.h5_model.specs.Format.Chunks.{Chunks}
 use Rattle.h5_model.specs.Format.Layout.{InChunks}
 use Rattle.h5_model.specs.Format.Plain.{cells_bytes}
 use Rattle.h5_model.specs.Tree.Places.{IsInside, cells, is_inside}
 use Rattle.h5_space.specs.Space.{Space}
 use Rattle.h5_header.specs.Listed.{Listed, messages_in}
-use Rattle.h5_chunks.specs.Lists.{offsets_outside}
-use Rattle.h5_chunks.specs.Lists.{ChunkOffsets}
+use Rattle.h5_chunks.specs.Lists.{ChunkOffsets, offsets_across, offsets_outside}
 use Rattle.h5_layout.specs.ArrayChunks.{ArrayChunks}
 use Rattle.h5_layout.specs.ArrayEdits.{IsArrayMoved, described_in}
 use Rattle.h5_layout.specs.Data.{stored_chunks}
 use Rattle.h5_layout.specs.Described.{Described}
-use Rattle.h5_layout.specs.HeldChunks.{held_chunks}
 use Rattle.h5_layout.specs.Kept.{corner_values, slices_kept}
 use Rattle.h5_layout.specs.declared.trimmed.Outside.{Outside}
 
@@ -29,17 +25,6 @@ pub record IsTrimmed (image : List ℕ) (a : Described) (sizes : List ℕ) : Typ
   pub filled : (index : List ℕ) → length index ≡ length sizes → is_inside sizes index ≡ false → grid_cell image a index ≡ a.fill
 
 -- ---- what is stored outside
-
--- a chunk of these sizes at these offsets reaches past an extent
-abbrev pub reaches_beyond : List ℕ → List ℕ → List ℕ → Bool
-reaches_beyond [] chunk offsets = false
-reaches_beyond (n ∷ ns) [] offsets = false
-reaches_beyond (n ∷ ns) (c ∷ cs) [] = false
-reaches_beyond (n ∷ ns) (c ∷ cs) (o ∷ os) = nat_lt n (o + c) || reaches_beyond ns cs os
-
--- of these chunks those with cells on both sides of the edge of an extent of these sizes: their offsets, ascending
-abbrev pub offsets_across : List ℕ → List ℕ → Chunks → List (List ℕ)
-offsets_across sizes chunk chunks = filter (reaches_beyond sizes chunk) (held_chunks sizes chunks)
 
 -- chunks of an array, of these sizes, at these offsets
 abbrev pub chunk_list : Described → List ℕ → List (List ℕ) → ChunkOffsets

@@ -1,6 +1,6 @@
 //! The cells of an array in chunks (File Format Specification 3.0, section III.A.1).
 
-ghost use Rattle.std.specs.Prelude.{◌≡◌, ℕ, ◌+◌, ◌*◌, ◌^◌, ◌<◌, ◌≤◌, IfSome, length, option_map};
+ghost use Rattle.std.specs.Prelude.{◌≡◌, ℕ, ◌+◌, ◌*◌, ◌^◌, ◌<◌, ◌≤◌, IfSome, IsTrue, length, option_map, take};
 ghost use Rattle.std.specs.FinMap.{get};
 ghost use Rattle.std.specs.List.{AllByRecursion};
 ghost use Rattle.h5_model.specs.Tree.Grid.{corner_of, inner_of};
@@ -9,9 +9,13 @@ ghost use Rattle.h5_chunks.specs.Cursor.{IsCursor};
 ghost use Rattle.h5_chunks.specs.Read.{AreChunksRead};
 ghost use Rattle.h5_chunks.specs.Shapes.{AreChunkSizes};
 ghost use Rattle.h5_chunks.specs.Told.{chunks_told};
-ghost use Rattle.h5_layout.specs.ChunkCells.{AreBeside, AreChunkBytes, IsGrid, chunk_of, place_in_chunk};
+ghost use Rattle.h5_shape.specs.InBox.{IsCorner};
+ghost use Rattle.h5_layout.specs.ChunkCells.{AreBeside, AreChunkBytes, IsGrid, chunk_of, left_in_row, place_in_chunk};
+ghost use Rattle.h5_layout.specs.FoundChunks.{AreChunksBeside};
+ghost use Rattle.h5_layout.specs.GridKept.{HasNext, IsRowOf};
 
-use crate::index::ChunkIndex;
+use crate::beside::RowCursor;
+use crate::index::{ChunkIndex, FoundRow};
 use h5_chunks::{ChunkCursor, ChunkShape, chunk_from};
 use h5_msg::ChunkSizes;
 use h5_shape::{CellRun, Dims};
@@ -229,6 +233,92 @@ impl<'a, 'g> GridRef<'a, 'g> {
         }
     }
 
+    /// Makes the row that was found last the one from this place on.
+    // Inlined, as `row_at` is.
+    #[inline(always)]
+    pub(crate) fn find_row(&self, cursor: &mut RowCursor, row: &mut FoundRow, place: u64)
+        requires below { place < cells_of self.now.sizes }
+        requires cursor { IsCursor self.now.image self.now.shape self.now.root cursor.old.tree }
+        requires beside { AreChunksBeside (chunks_told self.now.image self.now.shape self.now.root)
+            self.now.shape.sizes cursor.old.beside }
+        requires row { 0 < row.old.cells → IsRowOf self.now row.old }
+        ensures cursor { IsCursor self.now.image self.now.shape self.now.root cursor.new.tree }
+        ensures beside { AreChunksBeside (chunks_told self.now.image self.now.shape self.now.root)
+            self.now.shape.sizes cursor.new.beside }
+        ensures row { IsRowOf self.now row.new }
+        ensures start { row.new.start ≡ place }
+        ensures some { 0 < row.new.cells }
+    {
+        let run = self.run_from(row, place);
+        row.start = place;
+        row.cells = run.length;
+        row.inner = run.place;
+        row.at = self.address_beside(cursor, &row.corner[..self.sizes.len()]);
+    }
+
+    /// The cells from this place on in a row of a chunk, by their place in the chunk, whose first index `row` has then.
+    /// Where the array's row of cells goes on behind the row that was found last, that is the next chunk, and nothing is
+    /// divided.
+    #[inline(always)]
+    fn run_from(&self, row: &mut FoundRow, place: u64) -> CellRun
+        requires below { place < cells_of self.now.sizes }
+        requires row { 0 < row.old.cells → IsRowOf self.now row.old }
+        ensures corner { take (length self.now.sizes) row.new.corner
+            ≡ corner_of self.now.shape.sizes (index_of self.now.sizes place) }
+        ensures inner { result.place ≡ place_in_chunk self.now place }
+        ensures some { 0 < result.length }
+        ensures beside { AreBeside self.now.sizes self.now.shape.sizes place result.length }
+        ensures all { 0 < length self.now.sizes
+            → result.length ≡ left_in_row self.now.sizes self.now.shape.sizes place }
+    {
+        let rank = self.sizes.len();
+        if !self.goes_on(row, place) {
+            return locate(self.sizes, self.chunk, place, &mut row.corner[..rank]);
+        }
+        let size = self.chunk[rank - 1];
+        row.corner[rank - 1] += size;
+        CellRun {
+            place: row.inner + row.cells - size,
+            length: size.min(self.sizes[rank - 1] - row.corner[rank - 1]),
+        }
+    }
+
+    /// Whether the cell at this place is the one behind this row, and the next chunk has it.
+    #[inline(always)]
+    fn goes_on(&self, row: &FoundRow, place: u64) -> bool
+        ensures { IsTrue result → HasNext self.now.sizes self.now.shape.sizes row.now place }
+    {
+        let Some(last) = self.sizes.len().checked_sub(1) else {
+            return false;
+        };
+        row.cells > 0
+            && place >= row.start
+            && place - row.start == row.cells
+            && self.sizes[last].saturating_sub(row.corner[last]) > self.chunk[last]
+    }
+
+    /// The address of the chunk with this first index, where it is stored. The tree is read only where it is none of
+    /// those that were found beside one another; then it comes among them.
+    #[inline(always)]
+    fn address_beside(&self, cursor: &mut RowCursor, corner: &[u64]) -> Option<u64>
+        requires corner { IsCorner self.now.shape.sizes corner.now }
+        requires cursor { IsCursor self.now.image self.now.shape self.now.root cursor.old.tree }
+        requires beside { AreChunksBeside (chunks_told self.now.image self.now.shape self.now.root)
+            self.now.shape.sizes cursor.old.beside }
+        ensures exact { result
+            ≡ get (chunks_told self.now.image self.now.shape self.now.root) corner.now }
+        ensures cursor { IsCursor self.now.image self.now.shape self.now.root cursor.new.tree }
+        ensures beside { AreChunksBeside (chunks_told self.now.image self.now.shape self.now.root)
+            self.now.shape.sizes cursor.new.beside }
+    {
+        if let Some(at) = cursor.beside.address_of(self.chunk, corner) {
+            return Some(at);
+        }
+        let at = self.address_of(&mut cursor.tree, corner)?;
+        cursor.beside.put(self.chunk, corner, at);
+        Some(at)
+    }
+
     /// The address of the chunk with this first index, where it is stored.
     #[inline(always)]
     fn address_of(&self, cursor: &mut ChunkCursor, corner: &[u64]) -> Option<u64>
@@ -271,7 +361,7 @@ pub(crate) fn bytes_of(chunk: &[u64], size: u64) -> u64
 }
 
 /// Writes the first index of the chunk that has the cell at a place. Returns the cell's place in the chunk, and how many cells
-/// from it on stay in its row of the chunk.
+/// from it on stay in its row of the chunk and of the array.
 fn locate(sizes: &[u64], chunk: &[u64], place: u64, corner: &mut [u64]) -> CellRun
     requires rank { length chunk.now ≡ length sizes.now }
     requires room { length corner.old ≡ length sizes.now }
@@ -283,6 +373,7 @@ fn locate(sizes: &[u64], chunk: &[u64], place: u64, corner: &mut [u64]) -> CellR
         ≡ place_of chunk.now (inner_of chunk.now (index_of sizes.now place)) }
     ensures some { 0 < result.length }
     ensures beside { AreBeside sizes.now chunk.now place result.length }
+    ensures all { 0 < length sizes.now → result.length ≡ left_in_row sizes.now chunk.now place }
 {
     let mut rest = place;
     let mut inner = 0;

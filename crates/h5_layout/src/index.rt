@@ -1,32 +1,34 @@
 //! The chunks of an array by its sizes, those of a chunk, and their tree (File Format Specification 3.0, section III.A.1).
 
-ghost use Rattle.std.specs.Prelude.{◌≡◌, ◌+◌, ◌*◌, ◌^◌, ◌<◌, ◌≤◌, IfSome, None, length};
+ghost use Rattle.std.specs.Prelude.{◌≡◌, ◌+◌, ◌*◌, ◌^◌, ◌<◌, ◌≤◌, IfSome, None, [], length, replicate};
 ghost use Rattle.h5_model.specs.Tree.Places.{cells as cells_of};
 ghost use Rattle.h5_chunks.specs.Shapes.{AreChunkSizes};
 ghost use Rattle.h5_layout.specs.ChunkCells.{AreBeside, chunk_of, place_in_chunk};
 ghost use Rattle.h5_layout.specs.GridKept.{IsGridKept, grid_in};
 
+use crate::beside::RowCursor;
 use crate::grid::{ChunkRow, GridRef, bytes_of, copy_sizes};
-use h5_chunks::ChunkCursor;
 use h5_msg::ChunkSizes;
 use h5_shape::{Dims, MAX_RANK};
 use h5_space::Image;
 use std::marker::Model;
 
-/// Cells of an array that stand one behind another in a row of a chunk.
-#[derive(Clone, Copy, Debug)]
+/// Cells of an array that stand one behind another in a row of a chunk, up to the end of the row.
+#[derive(Debug, Drop)]
 pub(crate) struct FoundRow {
     /// The place of the first of them in the array.
-    start: u64,
+    pub(crate) start: u64,
     /// How many there are.
-    cells: u64,
+    pub(crate) cells: u64,
     /// The place of the first of them in the chunk.
-    inner: u64,
+    pub(crate) inner: u64,
     /// The address of the chunk, where it is stored.
-    at: Option<u64>,
+    pub(crate) at: Option<u64>,
+    /// The first index of the chunk.
+    pub(crate) corner: [u64; 32],
 }
 
-/// An array in chunks: its sizes, those of a chunk, how many bytes a chunk has, the root of the tree, where the last chunk was
+/// An array in chunks: its sizes, those of a chunk, how many bytes a chunk has, the root of the tree, where chunks were
 /// found, and the last row of a chunk, which has no cell at first. It borrows nothing, so that it can outlive the array's
 /// description, and the image can be written meanwhile.
 #[derive(Debug, Drop)]
@@ -36,10 +38,8 @@ pub(crate) struct ChunkIndex {
     sizes: [u64; 32],
     chunk: [u64; 32],
     chunk_bytes: u64,
-    cursor: ChunkCursor,
+    cursor: RowCursor,
     row: FoundRow,
-    /// Room for the first index of a chunk.
-    corner: [u64; 32],
 }
 
 impl Model for ChunkIndex {
@@ -69,8 +69,8 @@ impl ChunkIndex {
           sizes = dims.now;
           shape = record { sizes = chunk_sizes.now; bytes = cells_of chunk_sizes.now * size };
           root = root;
-          cursor = None;
-          row = record { start = 0; cells = 0; inner = 0; at = None };
+          cursor = record { tree = None; beside = record { first = replicate (length dims.now) 0; at = [] } };
+          row = record { start = 0; cells = 0; inner = 0; at = None; corner = replicate 32 0 };
         } }
         ensures sound { AreChunkSizes chunk_sizes.now }
     {
@@ -86,14 +86,14 @@ impl ChunkIndex {
             sizes,
             chunk,
             chunk_bytes,
-            cursor: ChunkCursor::new(),
+            cursor: RowCursor::new(rank),
             row: FoundRow {
                 start: 0,
                 cells: 0,
                 inner: 0,
                 at: None,
+                corner: [0; MAX_RANK],
             },
-            corner: [0; MAX_RANK],
         }
     }
 
@@ -159,13 +159,6 @@ impl ChunkIndex {
             self.chunk_bytes,
             self.root,
         );
-        let corner = &mut self.corner[..];
-        let row = grid.row_at(&mut self.cursor, &mut corner[..self.rank], place);
-        self.row = FoundRow {
-            start: place,
-            cells: row.cells,
-            inner: row.place,
-            at: row.at,
-        };
+        grid.find_row(&mut self.cursor, &mut self.row, place);
     }
 }

@@ -8,6 +8,7 @@
 
 mod address;
 mod array;
+mod beside;
 mod bodies;
 mod buffer;
 mod cells;

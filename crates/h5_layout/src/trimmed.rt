@@ -1,28 +1,26 @@
 //! Chunks and cells outside an extent, taken away where the array stands (File Format Specification 3.0, section
 //! III.A.1).
 
-ghost use Rattle.std.specs.Prelude.{◌≡◌, ◌+◌, ◌*◌, ◌++◌, ◌<◌, ◌≤◌, ℕ, IfOk, OnOk, Some, [], ◌∷◌, length, slice_index, true};
+ghost use Rattle.std.specs.Prelude.{◌≡◌, ◌*◌, ◌<◌, ◌≤◌, ℕ, IfOk, Some, length, slice_index, true};
 ghost use Rattle.std.specs.FinMap.{get};
-ghost use Rattle.std.specs.List.{filter};
 ghost use Rattle.h5_bytes.specs.Bytes.{part};
 ghost use Rattle.h5_model.specs.Edits.Refusal.{is_chunked};
 ghost use Rattle.h5_model.specs.Format.Chunks.{offsets_in};
 ghost use Rattle.h5_model.specs.Format.Reads.{storage_of};
 ghost use Rattle.h5_chunks.specs.Read.{AreChunksRead};
-ghost use Rattle.h5_chunks.specs.Shapes.{AreChunkSizes};
 ghost use Rattle.h5_chunks.specs.Told.{chunks_told};
 ghost use Rattle.h5_space.specs.Lending.{with_bytes_at};
 ghost use Rattle.h5_space.specs.Moves.{Spends};
 ghost use Rattle.h5_layout.specs.ArrayEdits.{IsArrayApart, described_in};
 ghost use Rattle.h5_layout.specs.Data.{chunk_shape};
-ghost use Rattle.h5_chunks.specs.Lists.{IsKeyOf, key_length as length_of_key};
-ghost use Rattle.h5_layout.specs.Trimmed.{AreEdges, AreLost, IsTrimmedTo, offsets_across, reaches_beyond as reaches, trimmed_bytes};
+ghost use Rattle.h5_chunks.specs.Lists.{key_length as length_of_key};
+ghost use Rattle.h5_layout.specs.Trimmed.{AreEdges, AreLost, IsTrimmedTo, trimmed_bytes};
 
 use crate::chunked::ChunkedArray;
 use crate::corner::{Span, fill_corner, write_spans};
 use crate::named_tree::lacks_tree;
 use h5_bytes::u64_at;
-use h5_chunks::{ChunkList, OFFSETS, chunk_at, chunks_outside, drop_outside, held_places};
+use h5_chunks::{Beyond, ChunkList, OFFSETS, chunk_at, chunks_beyond, drop_outside};
 use h5_header::Messages;
 use h5_shape::MAX_RANK;
 use h5_space::Image;
@@ -40,8 +38,7 @@ pub struct Outside {
 
 /// What an array in chunks stores outside an extent of these sizes.
 ///
-/// Takes memory for the keys of these chunks, for the place of each chunk that holds a cell of the extent, and for the
-/// addresses of the nodes of two rows of the tree. That the array was read, with its data, that it is in chunks, and that
+/// Takes memory for the keys of these chunks. That the array was read, with its data, that it is in chunks, and that
 /// there is a size for each of its own, are the caller's conditions.
 ///
 /// # Errors
@@ -66,78 +63,17 @@ pub fn outside_of(
     let shape = array.shape();
     match array.root() {
         Some(root) => {
-            let lost = chunks_outside(alloc, image, &shape, root, sizes)?;
-            let edge = chunks_across(alloc, image, &array, root, sizes)?;
-            Ok(Outside { lost, edge })
+            let Beyond { outside, across } = chunks_beyond(alloc, image, &shape, root, sizes)?;
+            Ok(Outside {
+                lost: outside,
+                edge: across,
+            })
         }
         None => Ok(Outside {
             lost: ChunkList::new(alloc, &shape),
             edge: ChunkList::new(alloc, &shape),
         }),
     }
-}
-
-/// The chunks below this root with cells on both sides of the edge of an extent of these sizes.
-fn chunks_across(
-    alloc: Global,
-    image: &Image,
-    array: &ChunkedArray,
-    root: u64,
-    sizes: &[u64],
-) -> Result<ChunkList, AllocError>
-    requires chunks { AreChunksRead image.now.bytes (chunk_shape array.now.fixed array.now.chunk) root }
-    requires rank { length sizes.now ≡ length array.now.chunk }
-    ensures { IfOk result (λ edge. edge ≡ record {
-      rank = length array.now.chunk;
-      bytes = (chunk_shape array.now.fixed array.now.chunk).bytes;
-      offsets = offsets_across sizes.now array.now.chunk
-          (chunks_told image.now.bytes (chunk_shape array.now.fixed array.now.chunk) root);
-    }) }
-{
-    let shape = array.shape();
-    let places = held_places(alloc, image, &shape, root, sizes)?;
-    let mut edge = ChunkList::new(alloc, &shape);
-    for place in &places {
-        push_across(&mut edge, array.sizes(), sizes, place.key)?;
-    }
-    Ok(edge)
-}
-
-/// Appends the chunk with this key where it reaches past an extent of these sizes.
-fn push_across(
-    edge: &mut ChunkList,
-    chunk: &[u64],
-    sizes: &[u64],
-    key: &[u8],
-) -> Result<(), AllocError>
-    requires sizes { AreChunkSizes chunk.now }
-    requires rank { length sizes.now ≡ length chunk.now }
-    requires ranks { edge.old.rank ≡ length chunk.now }
-    requires key { IsKeyOf edge.old.rank edge.old.bytes key.now }
-    ensures { OnOk result (edge.new ≡ record edge.old {
-      offsets = edge.old.offsets
-          ++ filter (reaches sizes.now chunk.now) (offsets_in (length chunk.now) key.now ∷ []);
-    }) }
-{
-    if !reaches_beyond(chunk, sizes, key) {
-        return Ok(());
-    }
-    edge.push_key(key)
-}
-
-/// Whether the chunk with this key reaches past an extent of these sizes.
-fn reaches_beyond(chunk: &[u64], sizes: &[u64], key: &[u8]) -> bool
-    requires sizes { AreChunkSizes chunk.now }
-    requires rank { length sizes.now ≡ length chunk.now }
-    requires long { length key.now ≡ length_of_key (length chunk.now) }
-    ensures { result ≡ reaches sizes.now chunk.now (offsets_in (length chunk.now) key.now) }
-{
-    for d in 0..chunk.len() {
-        if sizes[d].saturating_sub(u64_at(key, OFFSETS + 8 * d)) < chunk[d] {
-            return true;
-        }
-    }
-    false
 }
 
 /// Takes away what an array stores outside an extent of these sizes: chunks with no cell inside go, and are given back;

@@ -97,8 +97,10 @@ pub mod StorageOpened
 pub mod StorageCalls
 pub mod ResizedCalls
 pub mod RunsWritten
+pub mod EachRun
 pub mod CompactOpened
 pub mod CompactFirst
 pub mod FirstRun
+pub mod PieceWritten
 pub use Rattle.h5_layout.proofs.RoomLaws
 pub use Rattle.h5_layout.proofs.FillLaws

@@ -1,15 +1,14 @@
 -- The links that are lost with an object of an opened image, as the tree counts them.
-use Rattle.std.proofs.Common.{◌≡◌, ℕ, ◌+◌, ◌<◌, ◌≤◌, ◌==◌, Bool, cond, List, [], ◌∷◌, ◌++◌, get_or, length, map, take, refl, sym, ap, ◌∙◌, subst, arith, Option, Some, None, IsSome}
+use Rattle.std.proofs.Common.{◌≡◌, ℕ, ◌+◌, ◌<◌, ◌≤◌, ◌==◌, Bool, cond, inl, List, [], ◌∷◌, ◌++◌, map, append_assoc, append-nil, refl, sym, ap, ◌∙◌, subst, arith, Option, Some, None, IsSome}
 use Rattle.std.specs.Prelude.{MatchOption, if◌then◌else◌, slice_get}
-use Rattle.std.proofs.lemmas.List.{map_more, take-map, take_all}
-use Rattle.std.proofs.lemmas.List.Sums.{sum_by-cons, sum_by_push, sum_by-take-le}
+use Rattle.std.proofs.lemmas.List.Sums.{sum_by-append, sum_by-cons, sum_by_push}
 use Rattle.std.specs.BTreeMap.{BTreeMap, get as lookup}
 use Rattle.std.specs.FinMap.{FinMap, get}
 use Rattle.std.specs.List.{count_by}
 use Rattle.std.specs.Option.{option_map_or}
 use Rattle.std.specs.Ordering.{nat_cmp}
 use Rattle.h5_laws.specs.Trees.Unlinked.{links_from}
-use Rattle.h5_laws.proofs.Lists.{In, in_map}
+use Rattle.h5_laws.proofs.Lists.{In, in_right}
 use Rattle.h5_model.specs.Format.Messages.{Message}
 use Rattle.h5_model.specs.declared.link.Link.{Link as Lent}
 use Rattle.h5_model.specs.declared.link.LinkTo.{LinkTo}
@@ -28,7 +27,7 @@ use Rattle.h5_open.specs.Opened.Kept.{IsContentKept, IsOpened}
 use Rattle.h5_open.specs.Opened.Objects.{content_in, content_links, link_to, table_of, tree_of}
 use Rattle.h5_open.specs.Opened.Sound.{IsHeaderIn, IsObjectOf}
 use Rattle.h5_open.specs.Opened.State.{opened_state}
-use Rattle.h5_open.proofs.LostLaws.{at_itself, in_get, more_is, more_then}
+use Rattle.h5_open.proofs.LostLaws.{at_itself, more_is, more_then}
 use Rattle.h5_open.proofs.OpenedLaws.Entries.{group_entries}
 use Rattle.h5_open.proofs.OpenedLaws.HeaderNumbers.{number_is}
 use Rattle.h5_open.proofs.OpenedLaws.LinkedHeaders.{linked_header}
@@ -101,58 +100,55 @@ module _ (image : Space) (slots : List (Option OpenedObject)) (numbers : BTreeMa
           (lookup nat_cmp numbers header) (opened.index header)
       go content.Array kind there = absurd there
 
-    -- ---- its links, as they are listed one by one
+    -- ---- its links, one by one
 
-    module _ (links : List (Lent ℕ)) (are : map lent_link links ≡ content_links image.bytes p.content) where
-      -- how many of the first so many lead to an object
-      abbrev pub so_far : ℕ → ℕ → ℕ
-      so_far i n = found_links_to table (map lent_link (take i links)) n
+    -- these are the first of its links, this one is the next, and the others are left
+    module _ (first left : List (List ℕ × Target)) (here : Lent ℕ) (are : content_links image.bytes p.content ≡ first ++ lent_link here ∷ left) where
+      next_far : (n : ℕ) → found_links_to table (first ++ lent_link here ∷ []) n ≡ found_links_to table first n + (if leads_to n (link_to table (lent_target here.to)) then 1 else 0)
+      next_far n = led_more table first (lent_link here) n
 
-      all_far : (i n : ℕ) → so_far i n ≤ links_from tree (number ∷ []) n
-      all_far i n =
-          let first = sum_by-take-le (λ (x : List ℕ × Target). cond (leads_by table n x) 1 0) (map lent_link links) i in
-          let taken = ap (λ (ls : List (List ℕ × Target)). found_links_to table ls n) (take-map lent_link i links) in
-          let whole = ap (λ (ls : List (List ℕ × Target)). found_links_to table ls n) are in
-          omega (arith, first, taken, whole, object_loses n)
+      all_far : (n : ℕ) → found_links_to table (first ++ lent_link here ∷ []) n ≤ links_from tree (number ∷ []) n
+      all_far n =
+          let both = are ∙ sym (append_assoc first (lent_link here ∷ []) left) in
+          let whole = ap (λ (ls : List (List ℕ × Target)). found_links_to table ls n) both in
+          let parts = sum_by-append (λ (x : List ℕ × Target). cond (leads_by table n x) 1 0) (first ++ lent_link here ∷ []) left in
+          omega (arith, whole, parts, object_loses n)
 
-      module _ (i : ℕ) (d : Lent ℕ) (low : i < length links) where
-        abbrev here : Lent ℕ
-        here = get_or links i d
+      module _ (header : ℕ) (leads : here.to ≡ to.Object header) where
+        pub target_known : IsSome (lookup nat_cmp numbers header)
+        target_known =
+            link_known here.name.now header
+            (subst (λ (t : LinkTo ℕ). In (here.name.now, lent_target t) (content_links image.bytes p.content)) leads
+            (subst (In (lent_link here)) (sym are) (in_right (lent_link here) first (lent_link here ∷ left) (inl refl))))
 
-        next_far : (n : ℕ) → so_far (i + 1) n ≡ so_far i n + (if leads_to n (link_to table (lent_target here.to)) then 1 else 0)
-        next_far n = ap (λ (ls : List (List ℕ × Target)). found_links_to table ls n) (map_more lent_link links i d low) ∙ led_more table (map lent_link (take i links)) (lent_link here) n
+        module _ (target : ℕ) (found : lookup nat_cmp numbers header ≡ Some target) where
+          target_far : (n : ℕ) → found_links_to table (first ++ lent_link here ∷ []) n ≡ found_links_to table first n + (if n == target then 1 else 0)
+          target_far n =
+              next_far n ∙ ap (λ (t : LinkTo ℕ). found_links_to table first n + (if leads_to n (link_to table (lent_target t)) then 1 else 0)) leads
+              ∙ ap (λ (b : Bool). found_links_to table first n + (if b then 1 else 0)) (found_leads header target found n)
 
-        module _ (header : ℕ) (leads : here.to ≡ to.Object header) where
-          pub target_known : IsSome (lookup nat_cmp numbers header)
-          target_known =
-              link_known here.name.now header
-              (subst (λ (t : LinkTo ℕ). In (here.name.now, lent_target t) (content_links image.bytes p.content)) leads
-              (subst (In (lent_link here)) are (in_map lent_link here links (in_get links i d low))))
+          pub target_few : (old lost : LostLinks) → AreMoreLost old lost (found_links_to table first) → ((n : ℕ) → links_lost old.counts n + links_from tree (number ∷ []) n ≤ 65535)
+              → links_lost lost.counts target < 65535
+          target_few old lost is few =
+              let one = at_itself target in
+              omega (arith, is.counts target, few target, all_far target, target_far target, one)
 
-          module _ (target : ℕ) (found : lookup nat_cmp numbers header ≡ Some target) where
-            target_far : (n : ℕ) → so_far (i + 1) n ≡ so_far i n + (if n == target then 1 else 0)
-            target_far n =
-                next_far n ∙ ap (λ (t : LinkTo ℕ). so_far i n + (if leads_to n (link_to table (lent_target t)) then 1 else 0)) leads
-                ∙ ap (λ (b : Bool). so_far i n + (if b then 1 else 0)) (found_leads header target found n)
+          pub target_lost : (old lost new : LostLinks) → AreMoreLost old lost (found_links_to table first) → AreMoreLost lost new (λ n. if n == target then 1 else 0)
+              → AreMoreLost old new (found_links_to table (first ++ lent_link here ∷ []))
+          target_lost old lost new is more =
+              more_is old new (λ n. found_links_to table first n + (if n == target then 1 else 0)) (found_links_to table (first ++ lent_link here ∷ [])) (λ n. sym (target_far n))
+              (more_then old lost new (found_links_to table first) (λ n. if n == target then 1 else 0) is more)
 
-            pub target_few : (old lost : LostLinks) → AreMoreLost old lost (so_far i) → ((n : ℕ) → links_lost old.counts n + links_from tree (number ∷ []) n ≤ 65535) → links_lost lost.counts target < 65535
-            target_few old lost is few =
-                let one = at_itself target in
-                omega (arith, is.counts target, few target, all_far (i + 1) target, target_far target, one)
+      -- a text leads to no object
+      pub text_passed : ((header : ℕ) → here.to ≡ to.Object header → ⊥) → (old lost : LostLinks) → AreMoreLost old lost (found_links_to table first)
+          → AreMoreLost old lost (found_links_to table (first ++ lent_link here ∷ []))
+      text_passed soft old lost is = more_is old lost (found_links_to table first) (found_links_to table (first ++ lent_link here ∷ [])) (λ n. let none = go here.to refl n in omega (arith, next_far n, none)) is where
+        go : (t : LinkTo ℕ) → here.to ≡ t → (n : ℕ) → ◌≡◌ {A = ℕ} (if leads_to n (link_to table (lent_target t)) then 1 else 0) 0
+        go (to.Object header) leads n = absurd (soft header leads)
+        go (to.Soft text) leads n = refl
 
-            pub target_lost : (old lost new : LostLinks) → AreMoreLost old lost (so_far i) → AreMoreLost lost new (λ n. if n == target then 1 else 0) → AreMoreLost old new (so_far (i + 1))
-            target_lost old lost new is more =
-                more_is old new (λ n. so_far i n + (if n == target then 1 else 0)) (so_far (i + 1)) (λ n. sym (target_far n))
-                (more_then old lost new (so_far i) (λ n. if n == target then 1 else 0) is more)
-
-        -- a text leads to no object
-        pub text_passed : ((header : ℕ) → here.to ≡ to.Object header → ⊥) → (old lost : LostLinks) → AreMoreLost old lost (so_far i) → AreMoreLost old lost (so_far (i + 1))
-        text_passed soft old lost is = more_is old lost (so_far i) (so_far (i + 1)) (λ n. let none = go here.to refl n in omega (arith, next_far n, none)) is where
-          go : (t : LinkTo ℕ) → here.to ≡ t → (n : ℕ) → ◌≡◌ {A = ℕ} (if leads_to n (link_to table (lent_target t)) then 1 else 0) 0
-          go (to.Object header) leads n = absurd (soft header leads)
-          go (to.Soft text) leads n = refl
-
-      pub all_lost : (i : ℕ) → length links ≤ i → (old lost : LostLinks) → AreMoreLost old lost (so_far i) → AreMoreLost old lost (links_from tree (number ∷ []))
-      all_lost i past old lost is =
-          more_is old lost (so_far i) (links_from tree (number ∷ []))
-          (λ n. ap (λ (ls : List (Lent ℕ)). found_links_to table (map lent_link ls) n) (take_all i links past) ∙ ap (λ (ls : List (List ℕ × Target)). found_links_to table ls n) are ∙ sym (object_loses n)) is
+    pub all_lost : (first : List (List ℕ × Target)) → content_links image.bytes p.content ≡ first ++ [] → (old lost : LostLinks) → AreMoreLost old lost (found_links_to table first)
+        → AreMoreLost old lost (links_from tree (number ∷ []))
+    all_lost first are old lost is =
+        more_is old lost (found_links_to table first) (links_from tree (number ∷ []))
+        (λ n. ap (λ (ls : List (List ℕ × Target)). found_links_to table ls n) (sym (are ∙ append-nil first)) ∙ sym (object_loses n)) is

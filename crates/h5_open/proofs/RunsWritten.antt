@@ -1,12 +1,11 @@
 -- Cells of an array that are written run by run: what one run leaves, and what two of them make.
-use Rattle.std.proofs.Common.{◌≡◌, ℕ, suc, ◌+◌, ◌-◌, ◌≤◌, inl, inr, ℤ, List, [], ◌∷◌, ◌++◌, length, length-append, take, drop, refl, sym, ap, ◌∙◌, subst, arith, Option, Some, None}
+use Rattle.std.proofs.Common.{◌≡◌, ℕ, zero, suc, ◌+◌, inl, inr, ℤ, List, [], ◌∷◌, ◌++◌, length, length-append, refl, sym, ap, ◌∙◌, subst, arith, Option, Some, None}
 use Rattle.std.specs.Prelude.{slice_set}
 use Rattle.std.specs.Cmp.{nat_cmp_total}
 use Rattle.std.specs.FinMap.{get, insert, nat_cmp-IsAntisymmetric, same_map}
 use Rattle.std.specs.List.{range_with_len}
 use Rattle.std.specs.Option.{option_and_then, option_map_or}
-use Rattle.std.proofs.Math.Seq.{take-add}
-use Rattle.std.proofs.lemmas.List.{length-drop, length-take-le, take-append-drop, take_all}
+use Rattle.std.proofs.lemmas.List.FromFn.{length-range_with_len}
 use Rattle.std.proofs.lemmas.Option.{same_Some}
 use Rattle.h5_bytes.specs.Blocks.{cover}
 use Rattle.h5_bytes.specs.declared.Block.{Block}
@@ -17,33 +16,43 @@ use Rattle.h5_layout.proofs.StandingWritten.{parts_of_type}
 use Rattle.h5_open.specs.ChangedInPlace.{IsChangedInPlace}
 use Rattle.h5_open.specs.Opened.Sound.{IsSound}
 use Rattle.h5_open.specs.Opened.State.{FileState}
-use Rattle.h5_open.specs.Written.{with_run, AreCellsWritten, IsCellStored, IsStoredRun}
+use Rattle.h5_open.specs.Written.{with_places, with_run, AreCellsWritten, AreWrittenAt, IsCellStored, IsStoredRun}
 use Rattle.h5_open.proofs.ChangedThen.{changed_none as none_changed, changed_then}
 
 -- ---- cells
 
-cells_append : (cs vs ws : List ℤ) (place : ℕ) → with_cells cs (range_with_len place (length (vs ++ ws))) (vs ++ ws)
-    ≡ with_cells (with_cells cs (range_with_len place (length vs)) vs) (range_with_len (place + length vs) (length ws)) ws
-cells_append cs [] ws place =
-    let here : place ≡ place + 0 = omega arith in
-    ap (λ (p : ℕ). with_cells cs (range_with_len p (length ws)) ws) here
-cells_append cs (v ∷ vs) ws place =
-    let on : (place + 1) + length vs ≡ place + suc (length vs) = omega arith in
-    cells_append (slice_set cs place v) vs ws (place + 1)
-    ∙ ap (λ (p : ℕ). with_cells (with_cells (slice_set cs place v) (range_with_len (place + 1) (length vs)) vs) (range_with_len p (length ws)) ws) on
+-- some places, and others behind them
+cells_append : (cs : List ℤ) (ps qs : List ℕ) (vs ws : List ℤ) → length ps ≡ length vs
+    → with_cells cs (ps ++ qs) (vs ++ ws) ≡ with_cells (with_cells cs ps vs) qs ws
+cells_append cs [] qs [] ws same = refl
+cells_append cs [] qs (v ∷ vs) ws same = absurd (omega (arith, same))
+cells_append cs (p ∷ ps) qs [] ws same = absurd (omega (arith, same))
+cells_append cs (p ∷ ps) qs (v ∷ vs) ws same = cells_append (slice_set cs p v) ps qs vs ws (omega (arith, same))
 
-no_run : (place : ℕ) (o : Object) → with_dataset (with_run place []) o ≡ o
-no_run place o = go o.content where
-  go : (c : Content) → with_dataset (with_run place []) (record o { content = c }) ≡ record o { content = c }
+range_append : (from n m : ℕ) → range_with_len from (n + m) ≡ range_with_len from n ++ range_with_len (from + n) m
+range_append from zero m =
+    let here : from ≡ from + 0 = omega arith in
+    let all : 0 + m ≡ m = omega arith in
+    ap (range_with_len from) all ∙ ap (λ (k : ℕ). range_with_len k m) here
+range_append from (suc n) m =
+    let more : suc n + m ≡ suc (n + m) = omega arith in
+    let on : (from + 1) + n ≡ from + suc n = omega arith in
+    ap (range_with_len from) more
+    ∙ ap (λ (ks : List ℕ). from ∷ ks) (range_append (from + 1) n m ∙ ap (λ (k : ℕ). range_with_len (from + 1) n ++ range_with_len k m) on)
+
+no_cells : (o : Object) → with_dataset (with_places [] []) o ≡ o
+no_cells o = go o.content where
+  go : (c : Content) → with_dataset (with_places [] []) (record o { content = c }) ≡ record o { content = c }
   go (Group links) = refl
   go (Array d) = refl
 
-two_runs : (place : ℕ) (vs ws : List ℤ) (o : Object)
-    → with_dataset (with_run (place + length vs) ws) (with_dataset (with_run place vs) o) ≡ with_dataset (with_run place (vs ++ ws)) o
-two_runs place vs ws o = go o.content where
-  go : (c : Content) → with_dataset (with_run (place + length vs) ws) (with_dataset (with_run place vs) (record o { content = c })) ≡ with_dataset (with_run place (vs ++ ws)) (record o { content = c })
+both_cells : (ps qs : List ℕ) (vs ws : List ℤ) → length ps ≡ length vs → (o : Object)
+    → with_dataset (with_places qs ws) (with_dataset (with_places ps vs) o) ≡ with_dataset (with_places (ps ++ qs) (vs ++ ws)) o
+both_cells ps qs vs ws same o = go o.content where
+  go : (c : Content) → with_dataset (with_places qs ws) (with_dataset (with_places ps vs) (record o { content = c }))
+      ≡ with_dataset (with_places (ps ++ qs) (vs ++ ws)) (record o { content = c })
   go (Group links) = refl
-  go (Array d) = ap (λ (cs : List ℤ). record o { content = Array (record d { cells = cs }) }) (sym (cells_append d.cells vs ws place))
+  go (Array d) = ap (λ (cs : List ℤ). record o { content = Array (record d { cells = cs }) }) (sym (cells_append d.cells ps qs vs ws same))
 
 -- ---- an object of the tree
 
@@ -102,10 +111,10 @@ array_changed tree number change d is = go (get tree number) refl is where
 -- ---- an opened image
 
 -- where no cell is written, all is as before
-pub none_written : (f : FileState) (number place : ℕ) → IsSound f → AreCellsWritten f number place [] f
-none_written f number place sound = record {
-  changed = ap (λ (t : Tree). record f { tree = t }) (sym (unchanged f.tree number (with_dataset (with_run place [])) (no_run place)));
-  in_place = subst (λ (t : Tree). IsChangedInPlace f f t f.next (number ∷ []) 0) (sym (unchanged f.tree number (with_dataset (with_run place [])) (no_run place)))
+pub none_written : (f : FileState) (number : ℕ) → IsSound f → AreWrittenAt f number [] [] f
+none_written f number sound = record {
+  changed = ap (λ (t : Tree). record f { tree = t }) (sym (unchanged f.tree number (with_dataset (with_places [] [])) no_cells));
+  in_place = subst (λ (t : Tree). IsChangedInPlace f f t f.next (number ∷ []) 0) (sym (unchanged f.tree number (with_dataset (with_places [] [])) no_cells))
       (none_changed f (number ∷ []) sound);
   k = refl;
   whole = λ whole. whole;
@@ -114,41 +123,30 @@ none_written f number place sound = record {
   again = λ a there. (a, there, refl);
 }
 
-module _ (f g : FileState) (number place : ℕ) (vs : List ℤ) (first : AreCellsWritten f number place vs g) where
-  tree_then : g.tree ≡ with_object f.tree number (with_dataset (with_run place vs))
+module _ (f g : FileState) (number : ℕ) (ps : List ℕ) (vs : List ℤ) (same : length ps ≡ length vs) (first : AreWrittenAt f number ps vs g) where
+  tree_then : g.tree ≡ with_object f.tree number (with_dataset (with_places ps vs))
   tree_then = ap (λ (s : FileState). s.tree) first.changed
 
-  array_then : (d : Dataset) → dataset_of f.tree number ≡ Some d → dataset_of g.tree number ≡ Some (with_run place vs d)
-  array_then d array = ap (λ (t : Tree). dataset_of t number) tree_then ∙ array_changed f.tree number (with_run place vs) d array
+  pub array_then : (d : Dataset) → dataset_of f.tree number ≡ Some d → dataset_of g.tree number ≡ Some (with_places ps vs d)
+  array_then d array = ap (λ (t : Tree). dataset_of t number) tree_then ∙ array_changed f.tree number (with_places ps vs) d array
 
-  -- the cells behind can be written next
-  pub run_behind : (ws : List ℤ) (d : Dataset) → IsStoredRun f number place (vs ++ ws) d → IsStoredRun g number (place + length vs) ws (with_run place vs d)
-  run_behind ws d run =
-      let long = length-append vs ws in
-      record {
-        array = array_then d run.array;
-        stored = λ k low.
-            let on : place + (length vs + k) ≡ (place + length vs) + k = omega arith in
-            first.stored ((place + length vs) + k) (subst (IsCellStored f number) on (run.stored (length vs + k) (omega (arith, long, low))));
-        room = omega (arith, long, run.room);
-        of_type = (parts_of_type d.fixed vs ws run.of_type).1;
-      }
-
-  tree_both : (ws : List ℤ) → with_object (with_object f.tree number (with_dataset (with_run place vs))) number (with_dataset (with_run (place + length vs) ws))
-      ≡ with_object f.tree number (with_dataset (with_run place (vs ++ ws)))
-  tree_both ws = changed_twice f.tree number (with_dataset (with_run place vs)) (with_dataset (with_run (place + length vs) ws)) (with_dataset (with_run place (vs ++ ws))) (two_runs place vs ws)
+  tree_both : (qs : List ℕ) (ws : List ℤ) → with_object (with_object f.tree number (with_dataset (with_places ps vs))) number (with_dataset (with_places qs ws))
+      ≡ with_object f.tree number (with_dataset (with_places (ps ++ qs) (vs ++ ws)))
+  tree_both qs ws =
+      changed_twice f.tree number (with_dataset (with_places ps vs)) (with_dataset (with_places qs ws)) (with_dataset (with_places (ps ++ qs) (vs ++ ws)))
+      (both_cells ps qs vs ws same)
 
   -- both together
-  pub both_written : IsSound f → (ws : List ℤ) (h : FileState) → AreCellsWritten g number (place + length vs) ws h → AreCellsWritten f number place (vs ++ ws) h
-  both_written sound ws h next = record {
+  pub both_written : IsSound f → (qs : List ℕ) (ws : List ℤ) (h : FileState) → AreWrittenAt g number qs ws h → AreWrittenAt f number (ps ++ qs) (vs ++ ws) h
+  both_written sound qs ws h next = record {
     changed = next.changed
-        ∙ ap (λ (s : FileState). record s { image = h.image; tree = with_object s.tree number (with_dataset (with_run (place + length vs) ws)) }) first.changed
-        ∙ ap (λ (t : Tree). record f { image = h.image; tree = t }) (tree_both ws);
+        ∙ ap (λ (s : FileState). record s { image = h.image; tree = with_object s.tree number (with_dataset (with_places qs ws)) }) first.changed
+        ∙ ap (λ (t : Tree). record f { image = h.image; tree = t }) (tree_both qs ws);
     in_place =
         let then = changed_then f g h _ _ f.next g.next (number ∷ []) 0 0 sound first.in_place next.in_place in
         subst (λ (t : Tree). IsChangedInPlace f h t f.next (number ∷ []) 0)
-        (ap (λ (t : Tree). with_object t number (with_dataset (with_run (place + length vs) ws))) tree_then ∙ tree_both ws)
-        (subst (λ (n : ℕ). IsChangedInPlace f h (with_object g.tree number (with_dataset (with_run (place + length vs) ws))) n (number ∷ []) 0)
+        (ap (λ (t : Tree). with_object t number (with_dataset (with_places qs ws))) tree_then ∙ tree_both qs ws)
+        (subst (λ (n : ℕ). IsChangedInPlace f h (with_object g.tree number (with_dataset (with_places qs ws))) n (number ∷ []) 0)
         (ap (λ (s : FileState). s.next) first.changed) then);
     k = next.k ∙ first.k;
     whole = λ whole. next.whole (first.whole whole);
@@ -167,29 +165,31 @@ module _ (f g : FileState) (number place : ℕ) (vs : List ℤ) (first : AreCell
         (then.0, then.1, then.2 ∙ now.2);
   }
 
--- ---- values of which the first are written
+-- ---- a run of which the first cells are written
 
-module _ (f g : FileState) (number place : ℕ) (values : List ℤ) (done : ℕ) (within : done ≤ length values) (first : AreCellsWritten f number place (take done values) g) where
-  counted : length (take done values) ≡ done
-  counted = length-take-le done values within
+module _ (f g : FileState) (number place : ℕ) (vs : List ℤ) (first : AreCellsWritten f number place vs g) where
+  abbrev ps : List ℕ
+  ps = range_with_len place (length vs)
 
-  others : take (length values - done) (drop done values) ≡ drop done values
-  others = let long = length-drop done values in take_all (length values - done) (drop done values) (omega (arith, long))
+  as_many : length ps ≡ length vs
+  as_many = length-range_with_len place (length vs)
 
-  -- those that are left can be written
-  pub others_behind : (d : Dataset) → IsStoredRun f number place values d
-      → IsStoredRun g number (place + done) (take (length values - done) (drop done values)) (with_run place (take done values) d)
-  others_behind d run =
-      let all = run_behind f g number place (take done values) first (drop done values) d
-      (subst (λ (vs : List ℤ). IsStoredRun f number place vs d) (sym (take-append-drop done values)) run) in
-      subst (λ (vs : List ℤ). IsStoredRun g number (place + done) vs (with_run place (take done values) d)) (sym others)
-      (subst (λ (n : ℕ). IsStoredRun g number (place + n) (drop done values) (with_run place (take done values) d)) counted all)
+  -- the cells behind can be written next
+  pub run_behind : (ws : List ℤ) (d : Dataset) → IsStoredRun f number place (vs ++ ws) d → IsStoredRun g number (place + length vs) ws (with_run place vs d)
+  run_behind ws d run =
+      let long = length-append vs ws in
+      record {
+        array = array_then f g number ps vs as_many first d run.array;
+        stored = λ k low.
+            let on : place + (length vs + k) ≡ (place + length vs) + k = omega arith in
+            first.stored ((place + length vs) + k) (subst (IsCellStored f number) on (run.stored (length vs + k) (omega (arith, long, low))));
+        room = omega (arith, long, run.room);
+        of_type = (parts_of_type d.fixed vs ws run.of_type).1;
+      }
 
-  -- and where some of them are, so many more are written
-  pub more_written : IsSound f → (n : ℕ) (h : FileState) → AreCellsWritten g number (place + done) (take n (take (length values - done) (drop done values))) h
-      → AreCellsWritten f number place (take (done + n) values) h
-  more_written sound n h next =
-      let left = subst (λ (vs : List ℤ). AreCellsWritten g number (place + done) (take n vs) h) others next in
-      let there = subst (λ (k : ℕ). AreCellsWritten g number (place + k) (take n (drop done values)) h) (sym counted) left in
-      subst (λ (vs : List ℤ). AreCellsWritten f number place vs h) (sym (take-add done n values))
-      (both_written f g number place (take done values) first sound (take n (drop done values)) h there)
+  -- and once they are, all are
+  pub more_written : IsSound f → (ws : List ℤ) (h : FileState) → AreCellsWritten g number (place + length vs) ws h → AreCellsWritten f number place (vs ++ ws) h
+  more_written sound ws h next =
+      subst (λ (qs : List ℕ). AreWrittenAt f number qs (vs ++ ws) h)
+      (sym (ap (range_with_len place) (length-append vs ws) ∙ range_append place (length vs) (length ws)))
+      (both_written f g number ps vs as_many first sound (range_with_len (place + length vs) (length ws)) ws h next)

@@ -1,20 +1,16 @@
 -- The links of an object, followed one by one.
-use Rattle.std.proofs.Common.{◌≡◌, ◌≢◌, ◌⊎◌, inl, inr, ℕ, zero, suc, ◌+◌, ◌-◌, ◌<◌, ◌≤◌, List, [], ◌∷◌, ◌++◌, map, length, take, drop, get_or, refl, sym, ◌∙◌, ap, subst, append_assoc, add-one, arith}
+use Rattle.std.proofs.Common.{◌≡◌, ◌≢◌, ◌⊎◌, inl, inr, ℕ, suc, ◌+◌, ◌-◌, ◌≤◌, List, [], ◌∷◌, ◌++◌, length, refl, sym, ◌∙◌, ap, subst, append_assoc, arith}
 use Rattle.std.specs.List.{AllByRecursion, Contains}
-use Rattle.std.proofs.Math.Seq.{drop-cons, take-length}
-use Rattle.std.proofs.lemmas.List.{map-append, take_more, append-nil}
+use Rattle.std.proofs.lemmas.List.{append-nil}
 use Rattle.h5_bytes.specs.Blocks.{cover, Separate}
 use Rattle.h5_bytes.specs.declared.Block.{Block}
 use Rattle.h5_bytes.proofs.BlockLaws.{all_append, all_left}
 use Rattle.h5_model.specs.Format.Symbols.{Target, Header, Text}
 use Rattle.h5_model.specs.Format.Reached.{Named, named, ObjectHeader}
-use Rattle.h5_laws.proofs.Lists.{In, contains_in, in_left, in_right, in_map}
+use Rattle.h5_laws.proofs.Lists.{contains_in, in_left, in_right}
 use Rattle.h5_header.specs.Walk.Walked.{IsFollowed}
 use Rattle.h5_header.specs.Walk.Met.{IsMet}
-use Rattle.h5_group.specs.Links.{lent_link}
-use Rattle.h5_model.specs.declared.link.Link.{Link}
 use Rattle.h5_open.specs.declared.opened.object.OpenedObject.{OpenedObject}
-use Rattle.h5_open.specs.Counted.Counts.{AreCounted}
 use Rattle.h5_open.specs.Opened.Objects.{headers, content_links}
 use Rattle.h5_open.specs.Placed.Whole.{HasHeight, IsLed, AreLed}
 use Rattle.h5_open.specs.Read.{IsObjectRead, IsObjectFollowed, AreWaiting, IsOwn}
@@ -57,11 +53,6 @@ turn_of image base held followed depth (name, Header header) links (f ∷ fields
   waiting = waiting.3;
 }
 
-in_get : (links : List (Link ℕ)) (k : ℕ) (d : Link ℕ) → k < length links → In (get_or links k d) links
-in_get [] k d low = absurd (omega (arith, low))
-in_get (x ∷ links) zero d low = inl refl
-in_get (x ∷ links) (suc k) d low = inr (in_get links k d (omega (arith, low)))
-
 -- the walk has come to it
 ready_of : (image : List ℕ) (base held : List Block) (followed : List Named) (depth : ℕ) (link : List ℕ × Target) (links : List (List ℕ × Target))
     → (turn : HasTurn image base held followed depth link links) → (objects : List OpenedObject) → IsUnder image held followed objects → (o : OpenedObject) → Contains objects o
@@ -86,20 +77,10 @@ all_outer image base held now outer field grown free (y ∷ new) all own =
 
 -- ---- one link more
 
-module _ (image : List ℕ) (base held : List Block) (followed : List Named) (objects objects' : List OpenedObject) (outer header depth : ℕ) (links : List (Link ℕ)) (k : ℕ)
-    (under : IsUnder image base followed objects) (part : IsPartly image base held followed objects objects' outer header depth links k) (d : Link ℕ) (low : k < length links) where
-  abbrev link : List ℕ × Target
-  link = lent_link (get_or links k d)
-
-  abbrev later : List (List ℕ × Target)
-  later = map lent_link (drop (k + 1) links)
-
-  next : drop k links ≡ get_or links k d ∷ drop (k + 1) links
-  next = drop-cons links k d low ∙ ap (λ (n : ℕ). get_or links k d ∷ drop n links) (sym (add-one k))
-
+module _ (image : List ℕ) (base held : List Block) (followed : List Named) (objects objects' : List OpenedObject) (outer header depth : ℕ) (link : List ℕ × Target) (later : List (List ℕ × Target))
+    (under : IsUnder image base followed objects) (part : IsPartly image base held followed objects objects' outer header depth (link ∷ later)) where
   pub turn : HasTurn image base held (part.new ++ followed) depth link later
-  turn = turn_of image base held (part.new ++ followed) depth link later part.fields
-      (subst (λ (ls : List (Link ℕ)). AreWaiting image base held (part.new ++ followed) depth (map lent_link ls) part.fields) next part.waiting)
+  turn = turn_of image base held (part.new ++ followed) depth link later part.fields part.waiting
 
   pub link_ready : IsLinkReady image held (part.new ++ followed) objects' turn.field depth link
   link_ready = ready_of image base held (part.new ++ followed) depth link later turn objects' part.under part.object there at where
@@ -110,7 +91,7 @@ module _ (image : List ℕ) (base held : List Block) (followed : List Named) (ob
 
     at : Contains (content_links image part.object.content) link
     at = subst (λ (ls : List (List ℕ × Target)). Contains ls link) (sym part.links_are)
-        (contains_in link (map lent_link links) (in_map lent_link (get_or links k d) links (in_get links k d low)))
+        (contains_in link (part.first ++ link ∷ later) (in_right link part.first (link ∷ later) (inl refl)))
 
   grown : (p : ℕ) → cover p base ≤ cover p held
   grown = cover_grows image base held objects (part.object ∷ part.others) objects' (part.grown ∙ append_assoc objects (part.object ∷ []) part.others) under.covered (part.under).covered
@@ -128,47 +109,41 @@ module _ (image : List ℕ) (base held : List Block) (followed : List Named) (ob
     over : (P : List OpenedObject → Type 0) → P (objects' ++ got.more) → P after
     over P at = subst P (sym far.grown) at
 
-    pub step : IsPartly image base now followed objects after outer header depth links (k + 1)
+    pub step : IsPartly image base now followed objects after outer header depth later
     step = record {
       object = part.object;
       others = part.others ++ got.more;
       header_is = part.header_is;
       top = part.top;
       shallow = part.shallow;
-      links_are = part.links_are;
+      first = part.first ++ link ∷ [];
+      links_are = part.links_are ∙ sym (append_assoc part.first (link ∷ []) later);
       grown = far.grown ∙ ap (λ (xs : List OpenedObject). xs ++ got.more) part.grown ∙ append_assoc (objects ++ part.object ∷ []) part.others got.more;
       new = far.new ++ part.new;
       under = subst (λ (ys : List Named). IsUnder image now ys after) (sym seam) far.under;
       stands = all_append (IsOwn base outer) far.new part.new
           (all_outer image base held now outer turn.field grown turn.free far.new (all_left (IsFollowed image now) far.new (part.new ++ followed) ((far.under).walked).all) far.stands) part.stands;
       led = all_append (AreLed image after) part.others got.more (over (λ (xs : List OpenedObject). AllByRecursion (AreLed image xs) part.others) (objects_led_grow image objects' got.more part.others part.led)) far.led;
-      passed = subst (λ (ls : List (List ℕ × Target)). AllByRecursion (IsLed image after (64 - (depth + 1))) ls) (sym (ap (map lent_link) (take_more links k d low) ∙ map-append lent_link (take k links) (get_or links k d ∷ [])))
-          (all_append (IsLed image after (64 - (depth + 1))) (map lent_link (take k links)) (link ∷ []) (over (λ (xs : List OpenedObject). AllByRecursion (IsLed image xs (64 - (depth + 1))) (map lent_link (take k links))) (all_led_grow image objects' got.more (64 - (depth + 1)) (map lent_link (take k links)) part.passed)) (got.led, tt));
+      passed = all_append (IsLed image after (64 - (depth + 1))) part.first (link ∷ [])
+          (over (λ (xs : List OpenedObject). AllByRecursion (IsLed image xs (64 - (depth + 1))) part.first) (all_led_grow image objects' got.more (64 - (depth + 1)) part.first part.passed)) (got.led, tt);
       fields = turn.rest;
       waiting = subst (λ (ys : List Named). AreWaiting image base now ys depth later turn.rest) (sym seam)
           (still_waiting image base held now more_claimed (part.new ++ followed) far.new turn.field depth far.stands later turn.rest turn.others turn.waiting);
     }
 
--- the link whose turn it is waits before the later ones
-pub next_counted : (image : List ℕ) (objects : List OpenedObject) (counts : List ℕ) (links : List (Link ℕ)) (k : ℕ) (d : Link ℕ) (waiting : List (List ℕ × Target)) → k < length links
-    → AreCounted image objects counts (map lent_link (drop k links) ++ waiting)
-    → AreCounted image objects counts (lent_link (get_or links k d) ∷ (map lent_link (drop (k + 1) links) ++ waiting))
-next_counted image objects counts links k d waiting low are =
-    subst (λ (ls : List (Link ℕ)). AreCounted image objects counts (map lent_link ls ++ waiting))
-    (drop-cons links k d low ∙ ap (λ (n : ℕ). get_or links k d ∷ drop n links) (sym (add-one k))) are
-
 -- ---- the first and the last
 
 module _ (image : List ℕ) (held now : List Block) (followed : List Named) (objects : List OpenedObject) (field header depth : ℕ) (ready : IsReady image held followed objects field header depth)
     (new : Contains (headers objects) header → ⊥) (o : OpenedObject) (read : IsObjectRead image held now header depth o) (separate : Separate now)
-    (gone : IsObjectFollowed image held now followed field depth o) (links : List (Link ℕ)) (links_are : map lent_link links ≡ content_links image o.content) where
-  pub begun : (after : List OpenedObject) → after ≡ objects ++ o ∷ [] → IsPartly image held now followed objects after field header depth links 0
+    (gone : IsObjectFollowed image held now followed field depth o) (links : List (List ℕ × Target)) (links_are : links ≡ content_links image o.content) where
+  pub begun : (after : List OpenedObject) → after ≡ objects ++ o ∷ [] → IsPartly image held now followed objects after field header depth links
   begun after is = record {
     object = o;
     others = [];
     header_is = read.header_is;
     top = read.top;
     shallow = read.shallow;
+    first = [];
     links_are = sym links_are;
     grown = is ∙ sym (append-nil (objects ++ o ∷ []));
     new = gone.new;
@@ -191,11 +166,11 @@ higher image objects depth o low led = go (content_links image o.content) refl w
       let one : suc (64 - (depth + 1)) ≡ 64 - depth = omega (arith, low some) in
       subst (λ (h : ℕ). HasHeight image objects h o) one led
 
-pub finished : (image : List ℕ) (held now : List Block) (followed : List Named) (objects after : List OpenedObject) (field header depth : ℕ) (links : List (Link ℕ))
-    → IsPartly image held now followed objects after field header depth links (length links) → IsTreeRead image held now followed objects after field header depth
-finished image held now followed objects after field header depth links part =
+pub finished : (image : List ℕ) (held now : List Block) (followed : List Named) (objects after : List OpenedObject) (field header depth : ℕ)
+    → IsPartly image held now followed objects after field header depth [] → IsTreeRead image held now followed objects after field header depth
+finished image held now followed objects after field header depth part =
     let high : HasHeight image after (64 - depth) part.object = higher image after depth part.object part.shallow
-    (subst (AllByRecursion (IsLed image after (64 - (depth + 1)))) (ap (map lent_link) (take-length links) ∙ sym part.links_are) part.passed) in
+    (subst (AllByRecursion (IsLed image after (64 - (depth + 1)))) (sym (part.links_are ∙ append-nil part.first)) part.passed) in
     record {
       object = part.object;
       others = part.others;

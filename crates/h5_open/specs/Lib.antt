@@ -14,6 +14,7 @@ pub mod Losses
 pub mod LostLinks
 pub mod ObjectAdded
 pub mod Written
+pub mod WrittenRun
 pub mod Resized
 pub mod Attributed
 pub use Rattle.h5_layout.specs.Data

@@ -1,5 +1,5 @@
 -- How far the walk of opening has come (File Format Specification 3.0, section IV.A).
-use Rattle.std.specs.Prelude.{◌≡◌, ℕ, ◌+◌, ◌-◌, ◌^◌, ◌<◌, ◌≤◌, ◌⊎◌, true, Option, List, [], ◌∷◌, ◌++◌, length, map, take, drop}
+use Rattle.std.specs.Prelude.{◌≡◌, ℕ, ◌+◌, ◌-◌, ◌^◌, ◌<◌, ◌≤◌, ◌⊎◌, true, Option, List, [], ◌∷◌, ◌++◌, length}
 use Rattle.std.specs.List.{AllByRecursion, Contains, IsDistinct, flat_map}
 use Rattle.std.specs.Ordering.{nat_cmp, eq_by_cmp}
 use Rattle.std.specs.BTreeMap.{BTreeMap}
@@ -9,8 +9,6 @@ use Rattle.h5_model.specs.Format.Reached.{Named, named, ObjectHeader}
 use Rattle.h5_model.specs.Format.Symbols.{Target, Header, Text}
 use Rattle.h5_model.specs.Faults.Breaches.{is_header, AreLinkFields}
 use Rattle.h5_model.specs.declared.open_fault.Cause.{Cause}
-use Rattle.h5_group.specs.Links.{lent_link}
-use Rattle.h5_model.specs.declared.link.Link.{Link}
 use Rattle.h5_header.specs.Walk.Walked.{IsWalked}
 use Rattle.h5_header.specs.Walk.Met.{IsMet}
 use Rattle.h5_open.specs.declared.opened.object.OpenedObject.{OpenedObject}
@@ -115,19 +113,20 @@ abbrev pub CountsLink : List ℕ → List OpenedObject → List ℕ → List Ope
 CountsLink image objects counts objects' counts' link = (waiting : List (List ℕ × Target))
     → AreCounted image objects counts (link ∷ waiting) → AreCounted image objects' counts' waiting
 
--- Of the links of an object that was read, so many were followed; the others wait.
-pub record IsPartly (image : List ℕ) (held now : List Block) (followed : List Named) (objects objects' : List OpenedObject) (field header depth : ℕ) (links : List (Link ℕ)) (k : ℕ) : Type 0 where
+-- Of the links of an object that was read, the first ones were followed; these are left, and wait.
+pub record IsPartly (image : List ℕ) (held now : List Block) (followed : List Named) (objects objects' : List OpenedObject) (field header depth : ℕ) (left : List (List ℕ × Target)) : Type 0 where
   pub object : OpenedObject
   pub others : List OpenedObject
   pub header_is : object.messages.header ≡ header
   pub top : depth ≡ 0 → IsGroupContent object.content
   pub shallow : 1 ≤ length (content_links image object.content) → depth + 1 ≤ 64
-  pub links_are : content_links image object.content ≡ map lent_link links
+  pub first : List (List ℕ × Target)
+  pub links_are : content_links image object.content ≡ first ++ left
   pub grown : objects' ≡ (objects ++ object ∷ []) ++ others
   pub new : List Named
   pub under : IsUnder image now (new ++ followed) objects'
   pub stands : AllByRecursion (IsOwn held field) new
   pub led : AllByRecursion (AreLed image objects') others
-  pub passed : AllByRecursion (IsLed image objects' (64 - (depth + 1))) (map lent_link (take k links))
+  pub passed : AllByRecursion (IsLed image objects' (64 - (depth + 1))) first
   pub fields : List ℕ
-  pub waiting : AreWaiting image held now (new ++ followed) depth (map lent_link (drop k links)) fields
+  pub waiting : AreWaiting image held now (new ++ followed) depth left fields

@@ -11,7 +11,7 @@ mod opened;
 mod steps;
 
 pub use h5_attr::{AttrRef, get, list, new_body, sorted};
-pub use h5_group::{SymbolTable, entries, lookup};
+pub use h5_group::{Links, SymbolTable, group_links, lookup};
 pub use h5_layout::{
     ArrayExtent, ArrayRef, Dims, Layout, MAX_RANK, Piece, Runs, StoredArray, Values, known_array,
     known_extent,

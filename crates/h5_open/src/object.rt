@@ -1,7 +1,7 @@
 //! The reading of one object: its header, and its group or the cells of its array (File Format Specification 3.0, sections III and
 //! IV.A).
 
-ghost use Rattle.std.specs.Prelude.{◌≡◌, ◌⊎◌, ℕ, ◌+◌, ◌*◌, ◌^◌, ◌≤◌, Some, length, map, IfOk, IfErr, OnOk};
+ghost use Rattle.std.specs.Prelude.{◌≡◌, ◌⊎◌, ℕ, ◌+◌, ◌*◌, ◌^◌, ◌≤◌, Some, length, IfOk, IfErr, OnOk};
 ghost use Rattle.h5_bytes.specs.Blocks.{Separate};
 ghost use Rattle.h5_model.specs.Format.Superblock.{IsSuperblock};
 ghost use Rattle.h5_model.specs.Tree.Places.{cells as cells_of};
@@ -11,7 +11,7 @@ ghost use Rattle.h5_layout.specs.Data.{AreDataRead, data_blocks};
 ghost use Rattle.h5_header.specs.Kinds.{IsOfGroup, IsOfDataset};
 ghost use Rattle.h5_header.specs.Listed.{messages_in};
 ghost use Rattle.h5_header.specs.Refused.{IsHeaderReadable};
-ghost use Rattle.h5_group.specs.Links.{IsGroupRead, lent_link};
+ghost use Rattle.h5_group.specs.Links.{IsGroupRead};
 ghost use Rattle.h5_group.specs.Told.{links_told};
 ghost use Rattle.h5_model.specs.Format.Layout.{InChunks};
 ghost use Rattle.h5_open.specs.Followed.{FollowsData, IsDataFault};
@@ -24,10 +24,12 @@ use crate::judge::{judge_array, judge_group, judge_kind};
 use crate::opened::{OpenedContent, OpenedObject};
 use h5_bytes::Block;
 use h5_chunks::{ChunkShape, read_chunks};
-use h5_group::{SymbolTable, entries, has_exact_keys, links_at, read_group, symbol_nodes};
+use h5_group::{
+    Links, SymbolTable, group_links, has_exact_keys, links_at, read_group, symbol_nodes,
+};
 use h5_header::{Messages, ObjectKind, claim};
 use h5_layout::{ArrayRef, Dims, Layout, known_array};
-use h5_model::{Cause, Fixed, Link, OpenFault};
+use h5_model::{Cause, Fixed, OpenFault};
 use h5_space::{Claims, Image, fault};
 use std::alloc::Global;
 
@@ -256,16 +258,15 @@ pub(crate) fn links_in<'a>(
     alloc: Global,
     image: &'a Image,
     object: &OpenedObject,
-) -> Result<Vec<Link<'a, u64>>, OpenFault>
+) -> Result<Links<'a>, OpenFault>
     requires { IsObjectKept image.now.bytes object.now }
-    ensures links { IfOk result (λ links.
-        map lent_link links.items ≡ object_links image.now.bytes object.now.content) }
+    ensures links { IfOk result (λ links. links ≡ object_links image.now.bytes object.now.content) }
     ensures refused { IfErr result (λ fault. fault.cause ≡ Cause.NoMemory) }
 {
     let OpenedContent::Group(table) = &object.content else {
-        return Ok(Vec::new(alloc));
+        return Ok(Links::none(alloc, image));
     };
-    match entries(alloc, image, *table) {
+    match group_links(alloc, image, *table) {
         Ok(links) => Ok(links),
         Err(_) => Err(fault(Cause::NoMemory, object.messages.header())),
     }

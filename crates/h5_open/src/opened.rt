@@ -59,9 +59,9 @@ impl Opened {
     /// Opens an image: reads the root, and all objects to which links lead from there.
     ///
     /// Each block is looked at once. Memory is taken for the messages that stand in claimed blocks, for a number for
-    /// each object, for the nodes and leaves of one tree at a time, and for a reference to each link of the groups on
-    /// the way from the root. That the image begins with a superblock, ends where that says, and has no free block, are
-    /// the caller's conditions.
+    /// each object, for the nodes and leaves of one tree at a time, and for the addresses of the symbol nodes of the
+    /// groups on the way from the root. That the image begins with a superblock, ends where that says, and has no free
+    /// block, are the caller's conditions.
     ///
     /// # Errors
     ///

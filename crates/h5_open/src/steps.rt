@@ -98,8 +98,8 @@ fn read_tree(
     let object = read_object(alloc, image, claims, header, depth)?;
     let links = links_in(alloc, image, &object)?;
     push_counted(tally, object)?;
-    for link in &links {
-        follow(alloc, image, claims, tally, *link, depth)?;
+    for link in links {
+        follow(alloc, image, claims, tally, link, depth)?;
     }
     Ok(())
 }

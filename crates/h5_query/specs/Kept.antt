@@ -11,7 +11,6 @@ use Rattle.h5_model.specs.Format.Symbols.{Target}
 use Rattle.h5_open.specs.Told.{array_told, layout_told, type_told}
 use Rattle.h5_open.specs.GroupTold.{links_told}
 use Rattle.h5_model.specs.Format.Addresses.{SymbolTable}
-use Rattle.h5_model.specs.declared.link.Link.{Link}
 use Rattle.h5_open.specs.Data.{AreDataRead, dataset_told}
 use Rattle.h5_open.specs.StoredExtent.{StoredExtent, stored_extent}
 use Rattle.h5_open.specs.Opened.Judged.{IsArrayList}
@@ -49,9 +48,6 @@ pub record IsExtentAt (tree : Tree) (path : List ℕ) (at : ℕ × StoredExtent)
   pub there : IsArrayAt tree path (at.0, dataset)
   pub extent : at.1 ≡ stored_extent dataset.sizes dataset.maxima (is_chunked dataset.storage)
 
--- the names of a group's links, and of one that was lent
+-- the names of a group's links
 abbrev pub names_of_group : List ℕ → SymbolTable → List (List ℕ)
 names_of_group image table = map (λ (l : List ℕ × Target). l.0) (links_told image table)
-
-abbrev pub name_of : Link ℕ → List ℕ
-name_of l = l.name.now

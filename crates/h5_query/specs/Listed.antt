@@ -7,7 +7,7 @@ use Rattle.h5_model.specs.Tree.Objects as tree
 use Rattle.h5_open.specs.Links.{lent_target}
 use Rattle.h5_model.specs.declared.link.Link.{Link}
 use Rattle.h5_model.specs.declared.link.LinkTo.{LinkTo}
-use Rattle.h5_model.specs.declared.link.LinkTo.TheVariants as target
+use Rattle.h5_model.specs.Format.Symbols.{Target, Header, Text}
 use Rattle.h5_open.specs.Opened.Objects.{link_to}
 use Rattle.h5_open.specs.Opened.Sound.{IsHeaderIn}
 use Rattle.h5_model.specs.declared.object_no.ObjectNo.{ObjectNo}
@@ -24,16 +24,16 @@ AreGroupLinks whole number links = (all : Links) × (links_of whole number ≡ S
 -- ---- the links of the file
 
 -- the header of the link is an object's
-abbrev pub IsTargetLed : FinMap nat_cmp ℕ → LinkTo ℕ → Type 0
-IsTargetLed table (target.Object header) = IsHeaderIn table header
-IsTargetLed table (target.Soft text) = Unit {0}
+abbrev pub IsTargetLed : FinMap nat_cmp ℕ → Target → Type 0
+IsTargetLed table (Header header) = IsHeaderIn table header
+IsTargetLed table (Text text) = Unit {0}
 
-abbrev pub IsLinkLed : FinMap nat_cmp ℕ → Link ℕ → Type 0
-IsLinkLed table l = IsTargetLed table l.to
+abbrev pub IsLinkLed : FinMap nat_cmp ℕ → List ℕ × Target → Type 0
+IsLinkLed table l = IsTargetLed table l.1
 
 -- a link of the tree, with the number of the object whose header stands there
 abbrev pub target_in : FinMap nat_cmp ℕ → LinkTo ℕ → tree.Link
 target_in table t = link_to table (lent_target t)
 
-abbrev pub in_tree : FinMap nat_cmp ℕ → Link ℕ → List ℕ × tree.Link
-in_tree table l = (l.name.now, target_in table l.to)
+abbrev pub in_tree : FinMap nat_cmp ℕ → List ℕ × Target → List ℕ × tree.Link
+in_tree table l = (l.0, link_to table l.1)

@@ -3,11 +3,12 @@
 ghost use Rattle.std.specs.Prelude.{◌≡◌, IfOk, MatchOption, OnErr, map};
 ghost use Rattle.std.specs.List.{AllByRecursion};
 ghost use Rattle.h5_model.specs.Tree.Links.{tree_link, tree_target};
+ghost use Rattle.h5_open.specs.Links.{lent_target};
 ghost use Rattle.h5_query.specs.Listed.{IsNoGroup, AreGroupLinks, IsTargetLed, IsLinkLed, target_in, in_tree};
 
 use crate::step::number_of;
 use h5_model::{Link, LinkTo, ObjectNo};
-use h5_open::{Opened, OpenedContent, entries};
+use h5_open::{Links, Opened, OpenedContent, group_links};
 use std::alloc::{AllocError, Global};
 
 /// The links of the group with this number, in ascending order of the bytes of their names; `Ok(None)` if no group
@@ -34,8 +35,8 @@ pub fn links_of<'a>(
     let OpenedContent::Group(table) = &object.content else {
         return Ok(None);
     };
-    let found = entries(alloc, opened.image(), *table)?;
-    Ok(Some(tree_links(alloc, opened, &found)?))
+    let found = group_links(alloc, opened.image(), *table)?;
+    Ok(Some(tree_links(alloc, opened, found)?))
 }
 
 /// These links, with the number of the object to which each hard link leads in place of its address.
@@ -48,13 +49,13 @@ pub fn links_of<'a>(
 pub fn tree_links<'a>(
     alloc: Global,
     opened: &Opened,
-    found: &[Link<'a, u64>],
+    found: Links<'a>,
 ) -> Result<Vec<Link<'a, ObjectNo>>, AllocError>
-    requires { AllByRecursion (IsLinkLed opened.now.table) found.now }
+    requires { AllByRecursion (IsLinkLed opened.now.table) found }
     ensures { IfOk result (λ links.
-        map tree_link links.items ≡ map (in_tree opened.now.table) found.now) }
+        map tree_link links.items ≡ map (in_tree opened.now.table) found.entry) }
 {
-    let mut links = Vec::new(alloc);
+    let mut links = Vec::with_capacity(alloc, found.len())?;
     for link in found {
         links.push(Link {
             name: link.name,
@@ -66,7 +67,7 @@ pub fn tree_links<'a>(
 
 /// Where a link leads, with the number of the object.
 fn link_to<'a>(opened: &Opened, target: LinkTo<'a, u64>) -> LinkTo<'a, ObjectNo>
-    requires { IsTargetLed opened.now.table target }
+    requires { IsTargetLed opened.now.table (lent_target target) }
     ensures { tree_target result ≡ target_in opened.now.table target.entry }
 {
     match target {

@@ -6,15 +6,15 @@ ghost use Rattle.h5_model.specs.Format.Reads.{storage_of};
 ghost use Rattle.h5_model.specs.Scripts.Reading.{path_rules, shown_maximum};
 ghost use Rattle.h5_open.specs.Layouts.{layout_in};
 ghost use Rattle.h5_open.specs.Links.{IsGroupRead};
-ghost use Rattle.h5_query.specs.Kept.{name_of, names_of_group};
+ghost use Rattle.h5_query.specs.Kept.{names_of_group};
 ghost use Rattle.h5_query.specs.Look.{HasKind, HasLinksNamed, IsArrayKind, IsListRefused, IsStored};
 
 use crate::array::stored_array;
 use crate::kind::{Kind, StoreKind};
 use crate::place::{Place, look};
-use h5_model::{EditFault, Link};
+use h5_model::EditFault;
 use h5_open::{
-    ArrayRef, Dims, Layout, MAX_RANK, Opened, OpenedContent, StoredArray, SymbolTable, entries,
+    ArrayRef, Dims, Layout, MAX_RANK, Opened, OpenedContent, StoredArray, SymbolTable, group_links,
 };
 use h5_space::Image;
 use std::alloc::{AllocError, Global};
@@ -132,15 +132,8 @@ fn link_names<'a>(
     ensures { IfOk result (λ names.
         map (λ name. name.now) names.items ≡ names_of_group image.now.bytes table) }
 {
-    let links = entries(alloc, image, table)?;
-    names_of_links(alloc, &links)
-}
-
-/// The names of the links, in their order.
-fn names_of_links<'a>(alloc: Global, links: &[Link<'a, u64>]) -> Result<Vec<&'a [u8]>, AllocError>
-    ensures { IfOk result (λ names. map (λ name. name.now) names.items ≡ map name_of links.now) }
-{
-    let mut names = Vec::new(alloc);
+    let links = group_links(alloc, image, table)?;
+    let mut names = Vec::with_capacity(alloc, links.len())?;
     for link in links {
         names.push(link.name)?;
     }

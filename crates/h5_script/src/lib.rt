@@ -12,6 +12,7 @@ mod run;
 mod streams;
 
 pub use fault::RunFault;
+pub use h5_command::unescaped;
 pub use h5_dump::{
     Cause, DumpFault, File, MAXIMUM_IMAGE, OpenFault, Session, push_list, write_dump,
 };

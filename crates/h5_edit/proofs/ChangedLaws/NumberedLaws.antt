@@ -1,12 +1,11 @@
 -- Slots of which there is one more, and trees of which one object is changed.
-use Rattle.std.proofs.Common.{◌≡◌, inl, inr, ℕ, zero, suc, List, [], ◌∷◌, ◌++◌, length, Bool, true, false, cond, Option, Some, None, refl, sym, ap, ◌∙◌, arith}
+use Rattle.std.proofs.Common.{◌≡◌, ℕ, zero, suc, List, [], ◌∷◌, ◌++◌, length, Bool, true, false, cond, Option, Some, None, refl, sym, ap, ◌∙◌, arith}
 use Rattle.std.specs.Prelude.{◌==◌, slice_get, option_map}
 use Rattle.std.specs.Option.{option_flatten, option_map_or}
 use Rattle.std.specs.List.{AllZip}
 use Rattle.std.specs.Cmp.{nat_cmp_total, unsigned_tied}
-use Rattle.std.specs.FinMap.{get, insert, get-insert, same_map, nat_cmp-IsAntisymmetric}
+use Rattle.std.specs.FinMap.{get, insert, get-insert}
 use Rattle.std.proofs.lemmas.Bool.Decides.{nat_tests}
-use Rattle.h5_laws.proofs.SoundLaws.Inserted.{same_number_or_other, number_here, number_other}
 use Rattle.h5_model.specs.Tree.Objects.{Tree, Object, with_object}
 
 -- ---- lists
@@ -38,13 +37,6 @@ zip_append R (x ∷ xs) us [] vs each more = absurd each
 zip_append R (x ∷ xs) us (y ∷ ys) vs each more = (each.0, zip_append R xs us ys vs each.1 more)
 
 -- ---- trees
-
--- an object that stands there anyhow
-pub insert_there : (tree : Tree) (number : ℕ) (o : Object) → get tree number ≡ Some o → insert tree number o ≡ tree
-insert_there tree number o there = same_map nat_cmp_total nat_cmp-IsAntisymmetric (insert tree number o) tree (λ n. elim (same_number_or_other n number) [
-  | inl same ↦ ap (get (insert tree number o)) same ∙ number_here tree number o ∙ sym there ∙ ap (get tree) (sym same)
-  | inr other ↦ number_other tree number o n other
-])
 
 -- an object, where that of a number is changed
 abbrev pub at_place : ℕ → ℕ → (Object → Object) → Object → Object

@@ -46,8 +46,8 @@ struct LostLinks {
 
 /// What goes with a link to this object, or to a text where there is none.
 ///
-/// Of each group that is found the links are looked at once, since a group loses its one link. Takes memory for the links of one group at a
-/// time, for the objects that lose links, and for the blocks of those that go.
+/// Of each group that is found the links are looked at once, since a group loses its one link. Takes memory for the addresses of the
+/// symbol nodes of one group at a time, for the objects that lose links, and for the blocks of those that go.
 ///
 /// # Errors
 ///
@@ -100,11 +100,12 @@ fn lose_links(
     let Ok(links) = links_in(alloc, image, object) else {
         return Err(AllocError);
     };
-    for link in &links {
-        if let LinkTo::Object(header) = link.to {
-            let target = *index.numbers.get(&header).unwrap();
-            lose(lost, target)?;
-        }
+    for link in links {
+        let LinkTo::Object(header) = link.to else {
+            continue;
+        };
+        let target = *index.numbers.get(&header).unwrap();
+        lose(lost, target)?;
     }
     Ok(())
 }

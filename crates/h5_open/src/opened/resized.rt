@@ -41,8 +41,8 @@ impl Opened {
     ///
     /// It is done where the array stands (`resize_array` of `h5_layout`): chunks that hold no cell any more are given back, and cells
     /// outside the sizes become the fill. An array that was resized before, and only grows, has nothing outside: its chunks are not
-    /// looked at. Takes memory for the keys and the places of the chunks that are looked at, and for a message, before the first change.
-    /// A refusal changes nothing.
+    /// looked at. Takes memory for the keys of the chunks that have cells outside, and for a message, before the first change. A refusal
+    /// changes nothing.
     ///
     /// That the object of the number is an array, and that it can have these sizes, are the caller's conditions.
     ///

@@ -1,21 +1,26 @@
 //! Cells written where they stand (File Format Specification 3.0, section IV.A.2.i).
 
-ghost use Rattle.std.specs.Prelude.{◌≡◌, ℕ, ◌<◌, ◌∷◌, [], length};
+ghost use Rattle.std.specs.Prelude.{◌≡◌, ℕ, ◌<◌, ◌∷◌, [], List, Option, length};
+ghost use Rattle.std.specs.BTreeMap.{BTreeMap};
 ghost use Rattle.h5_model.specs.Edits.Applied.{with_dataset};
 ghost use Rattle.h5_model.specs.Format.Superblock.{k_values};
 ghost use Rattle.h5_model.specs.Tree.Objects.{Dataset, with_object};
 ghost use Rattle.h5_layout.specs.Described.{Described};
 ghost use Rattle.h5_layout.specs.Standing.{cell_blocks};
+ghost use Rattle.h5_shape.specs.Runs.{places_in};
+ghost use Rattle.h5_open.specs.declared.opened.object.OpenedObject.{OpenedObject};
 ghost use Rattle.h5_open.specs.ChangedInPlace.{IsChangedInPlace};
 ghost use Rattle.h5_open.specs.Opened.Kept.{IsOpened};
 ghost use Rattle.h5_open.specs.Opened.State.{opened_state};
 ghost use Rattle.h5_open.specs.Opened.Sound.{IsSound, IsWholeFile};
-ghost use Rattle.h5_open.specs.Written.{AreCellsWritten, AreStanding, IsArrayThere, IsCellStored, IsKeptOutside, IsStoredRun, with_run};
+ghost use Rattle.h5_open.specs.Written.{AreRunsStored, AreStanding, AreWrittenAt, IsArrayThere, IsCellStored, IsKeptOutside, IsStoredRun, with_places, with_run};
+ghost use Rattle.h5_open.specs.WrittenRun.{IsRunMade, IsRunReady};
 
 use super::Opened;
 use crate::index::Index;
 use h5_layout::{Buffer, CellPlaces, write_stored};
 use h5_model::Fixed;
+use h5_shape::CellRuns;
 use h5_space::Image;
 
 /// Cells of an array that stand one behind another in an image.
@@ -30,29 +35,29 @@ pub struct StandingCells {
 }
 
 impl Opened {
-    /// Writes values into the cells of an array where they stand, from this place on in row-major order. No byte changes
-    /// outside the blocks in which the array's cells stand; that those of other cells stay too is tested. Nothing is
-    /// read again, and what is kept of the objects stays. Takes no memory.
+    /// Writes values into the cells of an array where they stand: one value for each cell of these runs, in their order.
+    /// No byte changes outside the blocks in which the array's cells stand; that those of other cells stay too is
+    /// tested. The array's header is read once, and what is kept of the objects stays. Takes no memory.
     ///
-    /// These are the caller's conditions: the object with the number is an array, it has these cells, they are
-    /// stored, and the values are of its type.
-    pub fn write_cells(&mut self, number: u32, place: u64, values: &Buffer<'_>)
-        requires run { (d : Dataset) × IsStoredRun self.old number place values.now d }
+    /// These are the caller's conditions: the object with the number is an array, it has the cells of these runs, no run
+    /// is empty, the cells are stored, there is one value for each, and the values are of its type.
+    pub fn write_cells(&mut self, number: u32, runs: CellRuns, values: &Buffer<'_>)
+        requires run { (d : Dataset) × AreRunsStored self.old number runs values.now d }
         ensures changed { self.new ≡ record self.old {
           image = self.new.image;
-          tree = with_object self.old.tree number (with_dataset (with_run place values.now));
+          tree = with_object self.old.tree number (with_dataset (with_places (places_in runs) values.now));
         } }
         ensures k { k_values self.new.image ≡ k_values self.old.image }
         ensures sound { IsSound self.new }
         ensures whole { IsWholeFile self.old → IsWholeFile self.new }
         ensures in_place { IsChangedInPlace self.old self.new
-            (with_object self.old.tree number (with_dataset (with_run place values.now)))
+            (with_object self.old.tree number (with_dataset (with_places (places_in runs) values.now)))
             self.old.next (number ∷ []) 0 }
         ensures stored { (p : ℕ) → IsCellStored self.old number p → IsCellStored self.new number p }
         ensures local { (a : Described) (there : IsArrayThere self.old number a)
             → IsKeptOutside self.old.image self.new.image (cell_blocks self.old.image a there.blocks) }
     {
-        write_runs(&mut self.image, &self.index, number, place, values);
+        write_runs(&mut self.image, &self.index, number, runs, values);
     }
 
     /// Writes values into cells of an array that are known to stand one behind another. No byte changes outside the
@@ -83,26 +88,47 @@ impl Opened {
     }
 }
 
-/// Writes values into the cells of an array of an opened image where they stand, one run after another, from this place on. The array's
-/// header is read once, and what is kept of the objects stays right.
+/// Writes values into the cells of an array of an opened image where they stand: one value for each cell of these runs,
+/// in their order. The array's header is read once, and what is kept of the objects stays right.
 ///
 /// These are the caller's conditions: the index is the image's, and those of `Opened::write_cells`.
-fn write_runs(image: &mut Image, index: &Index, number: u32, place: u64, values: &Buffer<'_>)
+fn write_runs(image: &mut Image, index: &Index, number: u32, runs: CellRuns, values: &Buffer<'_>)
     requires opened { IsOpened image.old index.now.objects.items index.now.numbers }
     requires run { (d : Dataset)
-        × IsStoredRun (opened_state image.old index.now.objects.items) number place values.now d }
+        × AreRunsStored (opened_state image.old index.now.objects.items) number runs values.now d }
     ensures opened { IsOpened image.new index.now.objects.items index.now.numbers }
-    ensures written { AreCellsWritten (opened_state image.old index.now.objects.items) number place values.now
-        (opened_state image.new index.now.objects.items) }
+    ensures written { AreWrittenAt (opened_state image.old index.now.objects.items)
+        number (places_in runs) values.now (opened_state image.new index.now.objects.items) }
 {
     let object = index.objects[number as usize].as_ref().unwrap();
     let mut places = CellPlaces::new(image, &object.messages);
-    let mut done = 0;
-    while done < values.len() {
-        let (_written, left) = values.split_at(done);
-        let run = places.run_at(image, place + done as u64, left.len() as u64);
-        let (first, _behind) = left.split_at(run.cells as usize);
-        write_stored(image, &places.fixed(), run.at, &first);
-        done += run.cells as usize;
+    let mut left = values.lend();
+    for run in runs {
+        let (first, others) = left.split_at(run.length as usize);
+        write_run(image, &mut places, run.place, &first);
+        left = others;
+    }
+}
+
+/// Writes values into the cells of an array of an opened image where they stand, from this place on in row-major order:
+/// piece by piece, each of which stands in one block. `places` says where the cells stand, and is right still.
+///
+/// These are the caller's conditions: the places are those of the array's cells, it has these cells, they are stored,
+/// and the values are of its type.
+fn write_run(image: &mut Image, places: &mut CellPlaces, place: u64, values: &Buffer<'_>)
+    requires { (slots : List (Option OpenedObject)) × (numbers : BTreeMap ℕ ℕ) × (number : ℕ)
+        × IsRunReady image.old slots numbers number places.old place values.now }
+    ensures { (slots : List (Option OpenedObject)) (numbers : BTreeMap ℕ ℕ) (number : ℕ)
+        → IsRunReady image.old slots numbers number places.old place values.now
+        → IsRunMade image.old slots numbers number place values.now image.new places.new }
+{
+    let mut next = place;
+    let mut left = values.lend();
+    while left.len() > 0 {
+        let run = places.run_at(image, next, left.len() as u64);
+        let (piece, behind) = left.split_at(run.cells as usize);
+        write_stored(image, &places.fixed(), run.at, &piece);
+        next += run.cells;
+        left = behind;
     }
 }

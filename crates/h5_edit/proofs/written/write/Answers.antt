@@ -39,4 +39,4 @@ returns-in-Some c =
     let wrote = c.write_standing.ensures in
     selected_made at.write c.args.opened.now (target_has at c.in-Some.cells c.in-Some.is sound) sound c.write_standing.new.self
     (selected_written (target_ready at c.in-Some.cells c.in-Some.is sound).1 c.in-Some.cells (target_standing at c.in-Some.cells c.in-Some.is sound) c.write_standing.new.self
-    (rw c.in-Some.is at wrote.changed) wrote.k wrote.sound wrote.whole (rw c.in-Some.is at wrote.in_place) wrote.stored) _ refl refl
+    (rw c.in-Some.is at wrote.changed) wrote.k wrote.sound wrote.whole (rw c.in-Some.is at wrote.in_place)) _ refl refl

@@ -6,12 +6,14 @@ use Rattle.h5_edit.proofs.written.write_by_runs.Goals as goal
 pub selected_runs-runs-requires : goal.selected_runs-runs-requires
 selected_runs-runs-requires c = let ready = c.requires.1 in (c.requires.0, ready.array, ready.selects)
 
-pub write_runs-requires : goal.write_runs-requires
-write_runs-requires c =
+pub write_cells-requires : goal.write_cells-requires
+write_cells-requires c =
     let ready = c.requires.1 in
-    (c.requires.0, runs_ready ready c.selected_runs-runs.result (c.selected_runs-runs.ensures c.requires.0 ready.array))
+    record { run = (c.requires.0, runs_ready ready c.selected_runs-runs.result (c.selected_runs-runs.ensures c.requires.0 ready.array)) }
 
 pub returns : goal.returns
 returns c d array =
     let runs = c.selected_runs-runs.ensures d array in
-    subst (λ (ps : List ℕ). AreValuesWritten c.args.opened.now c.args.number ps c.args.values.now c.write_runs.new.opened) runs.places c.write_runs.ensures
+    let wrote = c.write_cells.ensures in
+    subst (λ (ps : List ℕ). AreValuesWritten c.args.opened.now c.args.number ps c.args.values.now c.write_cells.new.self) runs.places
+    (record { changed = wrote.changed; k = wrote.k; sound = λ _. wrote.sound; whole = wrote.whole; in_place = λ _. wrote.in_place })

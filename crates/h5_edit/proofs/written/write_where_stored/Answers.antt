@@ -16,4 +16,4 @@ write_standing-requires-clause-standing c = standing_asked c.requires.1 c.in-Som
 pub returns-in-Some : goal.returns-in-Some
 returns-in-Some c =
     let wrote = c.write_standing.ensures in
-    selected_written c.requires.1 c.in-Some.standing c.in-Some.ensures c.write_standing.new.self wrote.changed wrote.k wrote.sound wrote.whole wrote.in_place wrote.stored
+    selected_written c.requires.1 c.in-Some.standing c.in-Some.ensures c.write_standing.new.self wrote.changed wrote.k wrote.sound wrote.whole wrote.in_place

@@ -3,8 +3,8 @@ use Rattle.std.proofs.lemmas.Bool.{cases_lt}
 use Rattle.std.proofs.lemmas.List.{drop_all, length-set}
 use Rattle.h5_model.specs.Tree.Grid.{corner_of, inner_of}
 use Rattle.h5_model.specs.Tree.Places.{cells, place_of}
-use Rattle.h5_layout.specs.ChunkCells.{AreBeside}
-use Rattle.h5_layout.proofs.BesideLaws.{beside_one, by_one, left_beside, left_of, some_left}
+use Rattle.h5_layout.specs.ChunkCells.{AreBeside, left_in_row}
+use Rattle.h5_layout.proofs.BesideLaws.{beside_one, by_one, left_beside, some_left}
 use Rattle.h5_layout.proofs.LocateLaws.{all_from, corner_from, inner_from, inner_small, next_corner, next_inner, next_rest, next_stride, some_cells, some_size, stride_small}
 use Rattle.h5_layout.proofs.grid.locate.Goals as goal
 use Rattle.h5_layout.proofs.grid.locate.Goals.{then-k-sizes, else-k-sizes}
@@ -51,7 +51,7 @@ overflow_mul-stride c =
 
 -- the last dimension is the first one that is looked at
 last_left : (sizes chunk : List ℕ) (place k rest : ℕ) → rest ≡ place / cells (drop k sizes) → k ≡ length sizes
-    → min (get_or sizes (k - 1) 0 - rest % get_or sizes (k - 1) 0) (get_or chunk (k - 1) 0 - rest % get_or sizes (k - 1) 0 % get_or chunk (k - 1) 0) ≡ left_of sizes chunk place
+    → min (get_or sizes (k - 1) 0 - rest % get_or sizes (k - 1) 0) (get_or chunk (k - 1) 0 - rest % get_or sizes (k - 1) 0 % get_or chunk (k - 1) 0) ≡ left_in_row sizes chunk place
 last_left sizes chunk place k rest is end =
     let all : rest ≡ place = is ∙ ap (λ (xs : List ℕ). place / cells xs) (drop_all k sizes (omega (arith, end))) ∙ by_one place in
     ap₂ (λ (r n : ℕ). min (get_or sizes (n - 1) 0 - r % get_or sizes (n - 1) 0) (get_or chunk (n - 1) 0 - r % get_or sizes (n - 1) 0 % get_or chunk (n - 1) 0)) all end
@@ -102,7 +102,7 @@ returns-clause-inner c =
 
 -- what is left of the row, where there are dimensions and where there are none
 left_over : (sizes chunk : List ℕ) (place left : ℕ) → length chunk ≡ length sizes → ((d : ℕ) → d < length chunk → 1 ≤ get_or chunk d 0) → place < cells sizes
-    → (0 ≡ length sizes → left ≡ 1) → (0 < length sizes → left ≡ left_of sizes chunk place) → (0 < left) × AreBeside sizes chunk place left
+    → (0 ≡ length sizes → left ≡ 1) → (0 < length sizes → left ≡ left_in_row sizes chunk place) → (0 < left) × AreBeside sizes chunk place left
 left_over sizes chunk place left rank each below alone more = elim (cases_lt 0 (length sizes)) [
   | inl some ↦
       let all = more some in

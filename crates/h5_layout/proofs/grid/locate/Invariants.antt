@@ -1,6 +1,6 @@
 use Rattle.std.proofs.Common.{◌≡◌, ◌/◌, ◌<◌, ◌≤◌, length, drop}
 use Rattle.h5_model.specs.Tree.Places.{cells}
-use Rattle.h5_layout.proofs.BesideLaws.{left_of}
+use Rattle.h5_layout.specs.ChunkCells.{left_in_row}
 use Rattle.h5_layout.proofs.LocateLaws.{corner_from, inner_from}
 use Rattle.h5_layout.proofs.grid.locate.Given as goal
 
@@ -13,7 +13,7 @@ invariant-loop-k l = record {
   stride : l.stride ≡ cells (drop l.k l.chunk);
   inner : l.inner ≡ inner_from l.sizes l.chunk l.place l.k;
   alone : l.k ≡ length l.sizes → l.left ≡ 1;
-  left : l.k < length l.sizes → l.left ≡ left_of l.sizes l.chunk l.place;
+  left : l.k < length l.sizes → l.left ≡ left_in_row l.sizes l.chunk l.place;
   corner : drop l.k l.corner ≡ corner_from l.sizes l.chunk l.place l.k;
 }
 

@@ -12,10 +12,8 @@ use Rattle.h5_chunks.specs.Told.{chunks_told}
 use Rattle.h5_layout.specs.ArrayChunks.{ArrayChunks, IsInChunksOf}
 use Rattle.h5_layout.specs.ArrayEdits.{described_in}
 use Rattle.h5_chunks.specs.Edited.{AreChunksApart, HasChunksNow}
-use Rattle.h5_chunks.specs.Lists.{offsets_outside}
 use Rattle.h5_layout.specs.Data.{chunk_shape}
-use Rattle.h5_chunks.specs.Lists.{ChunkOffsets}
-use Rattle.h5_layout.specs.Trimmed.{offsets_across}
+use Rattle.h5_chunks.specs.Lists.{ChunkOffsets, offsets_across, offsets_outside}
 use Rattle.h5_layout.specs.Described.{Described}
 use Rattle.h5_layout.proofs.OutsideChunks.{chunked_is}
 use Rattle.h5_layout.proofs.TrimmedArray.{chunks_apart, edge_there, stored_by, trimmed_already, trimmed_to}

@@ -1,8 +1,7 @@
-use Rattle.std.proofs.Common.{◌≡◌, ◌+◌, ◌≤◌, List, [], ◌∷◌, ◌++◌, map, drop, length, ℕ, sym, subst, ap, ◌∙◌, arith}
-use Rattle.std.proofs.lemmas.List.{drop_all, length-append, length-map}
+use Rattle.std.proofs.Common.{◌≡◌, ◌+◌, List, [], ◌∷◌, ◌++◌, length, ℕ, sym, subst, ap, ◌∙◌, arith}
+use Rattle.std.proofs.lemmas.List.{length-append}
 use Rattle.std.proofs.lemmas.Result.{err_from_is_err_and, on_ok_weaker, MatchResult-weaker}
 use Rattle.h5_model.specs.Format.Symbols.{Target}
-use Rattle.h5_model.specs.declared.link.Link.{Link}
 use Rattle.h5_laws.proofs.Lists.{contains_in, in_at}
 use Rattle.h5_group.specs.Links.{lent_link}
 use Rattle.h5_open.specs.declared.index.Index.{Index}
@@ -15,7 +14,7 @@ use Rattle.h5_open.proofs.FollowLaws.{refused_again, ready_at, read_at, array_re
 use Rattle.h5_open.proofs.IndexLaws.{dense_length, object_of_slot}
 use Rattle.h5_open.proofs.RenumberedLaws.Renumbered.{on_ok_both}
 use Rattle.h5_open.proofs.UnderLaws.{header_met}
-use Rattle.h5_open.proofs.StepLaws.{begun, step, link_ready, finished, next_counted}
+use Rattle.h5_open.proofs.StepLaws.{begun, step, link_ready, finished}
 use Rattle.h5_open.proofs.steps.+tree.Goals as goal
 
 pub follow-returns-in_default-clause-counted : goal.follow-returns-in_default-clause-counted
@@ -113,7 +112,8 @@ read_tree-loop-link-init t c =
     let after = objects_of c.push_counted.new.tally.index.objects.items in
     let held = c.args.claims.now.held in
     let image = c.args.image.now.bytes in
-    let items = c.deref-link-items.ensures.value in
+    let given = c.into_iter-link-iterator.ensures.into_iter_gives in
+    let links = given ∙ c.in_ok-links.ensures.links in
     record {
       end = c.in_ok-object.ensures.end ∙ c.requires.end;
       index = c.in_ok-push_counted.ensures.index;
@@ -127,34 +127,34 @@ read_tree-loop-link-init t c =
         length-append objects (c.in_ok-object.object ∷ []),
         dense_length c.push_counted.new.tally.index.objects.items c.in_ok-push_counted.ensures.index.all,
       );
-      deep = λ some.
-          let same = sym (length-map c.in_ok-links.links.items lent_link) ∙ ap length c.in_ok-links.ensures.links in
-          c.in_ok-object.ensures.read.shallow (omega (arith, some, same, ap length items));
+      deep = λ some. c.in_ok-object.ensures.read.shallow (omega (arith, some, ap length links));
       read = λ followed field ready.
           begun image held c.read_object.new.claims.held followed objects field c.args.header c.args.depth ready c.requires.new
           c.in_ok-object.object c.in_ok-object.ensures.read c.in_ok-object.ensures.separate
           (c.in_ok-object.ensures.followed followed field (header_met image held followed objects field c.args.header c.args.depth ready c.requires.new))
-          c.deref-link-items.result.now (ap (map lent_link) items ∙ c.in_ok-links.ensures.links)
-          after c.in_ok-push_counted.ensures.pushed;
+          _ links after c.in_ok-push_counted.ensures.pushed;
       counted = λ name waiting are.
-          subst (λ (os : List OpenedObject). AreCounted image os c.push_counted.new.tally.counts.items (map lent_link c.deref-link-items.result.now ++ waiting)) (sym c.in_ok-push_counted.ensures.pushed)
-          (subst (λ (ns : List ℕ). AreCounted image (objects ++ c.in_ok-object.object ∷ []) ns (map lent_link c.deref-link-items.result.now ++ waiting)) (sym c.in_ok-push_counted.ensures.counted)
+          subst (λ (os : List OpenedObject). AreCounted image os c.push_counted.new.tally.counts.items (c.into_iter-link-iterator.result ++ waiting)) (sym c.in_ok-push_counted.ensures.pushed)
+          (subst (λ (ns : List ℕ). AreCounted image (objects ++ c.in_ok-object.object ∷ []) ns (c.into_iter-link-iterator.result ++ waiting)) (sym c.in_ok-push_counted.ensures.counted)
           (subst (λ (ls : List (List ℕ × Target)). AreCounted image (objects ++ c.in_ok-object.object ∷ []) (c.args.tally.now.counts.items ++ 1 ∷ []) (ls ++ waiting))
-          (sym (ap (map lent_link) items ∙ c.in_ok-links.ensures.links))
+          (sym links)
           (counted_push image objects c.args.tally.now.counts.items name c.args.header waiting are c.in_ok-object.object c.requires.new c.in_ok-object.ensures.read.header_is)));
     }
 
 pub read_tree-returns-in_err-follow-clause-refused : goal.read_tree-returns-in_err-follow-clause-refused
 read_tree-returns-in_err-follow-clause-refused t c =
+    let image = c.args.image.now.bytes in
+    let held = c.args.claims.now.held in
     let objects = objects_of c.args.tally.now.index.objects.items in
     let now = objects_of c.loop-link.tally.index.objects.items in
+    let later = c.next.new.self in
     let p = err_from_is_err_and c.from_residual-in_err-follow.result c.from_residual-in_err-follow.ensures.1 in
     rw (p.1, p.2) (λ name followed field waiting ready are.
-    let part = c.loop-link.invariant.read followed field ready in
-    c.in_err-follow.ensures.refused (part.new ++ followed) _ (map lent_link (drop (c.loop-link.link-index + 1) c.deref-link-items.result.now) ++ waiting)
-    (link_ready c.args.image.now.bytes c.args.claims.now.held c.loop-link.claims.held followed objects now field c.args.header c.args.depth
-    c.deref-link-items.result.now c.loop-link.link-index ready.under part _ c.loop-link-test.true)
-    (next_counted c.args.image.now.bytes now c.loop-link.tally.counts.items c.deref-link-items.result.now c.loop-link.link-index _ waiting c.loop-link-test.true
+    let part = subst (λ (ls : List (List ℕ × Target)). IsPartly image held c.loop-link.claims.held followed objects now field c.args.header c.args.depth ls)
+    c.in-Some.ensures.steps (c.loop-link.invariant.read followed field ready) in
+    c.in_err-follow.ensures.refused (part.new ++ followed) _ (later ++ waiting)
+    (link_ready image held c.loop-link.claims.held followed objects now field c.args.header c.args.depth (lent_link c.in-Some.link) later ready.under part)
+    (subst (λ (ls : List (List ℕ × Target)). AreCounted image now c.loop-link.tally.counts.items (ls ++ waiting)) c.in-Some.ensures.steps
     (c.loop-link.invariant.counted name waiting are)))
 
 pub read_tree-loop-link-preserved : goal.read_tree-loop-link-preserved
@@ -164,21 +164,22 @@ read_tree-loop-link-preserved t c =
     let after = objects_of c.follow.new.tally.index.objects.items in
     let image = c.args.image.now.bytes in
     let held = c.args.claims.now.held in
+    let later = c.next.new.self in
     record {
       end = c.in_ok-follow.ensures.end ∙ c.loop-link.invariant.end;
       index = c.in_ok-follow.ensures.index;
       long = c.in_ok-follow.ensures.length;
-      deep = c.loop-link.invariant.deep;
+      deep = λ some. c.loop-link.invariant.deep (omega (arith, some, ap length c.in-Some.ensures.steps));
       read = λ followed field ready.
-          let part = c.loop-link.invariant.read followed field ready in
-          step image held c.loop-link.claims.held followed objects now field c.args.header c.args.depth
-          c.deref-link-items.result.now c.loop-link.link-index ready.under part _ c.loop-link-test.true c.follow.new.claims.held after
+          let part = subst (λ (ls : List (List ℕ × Target)). IsPartly image held c.loop-link.claims.held followed objects now field c.args.header c.args.depth ls)
+          c.in-Some.ensures.steps (c.loop-link.invariant.read followed field ready) in
+          step image held c.loop-link.claims.held followed objects now field c.args.header c.args.depth (lent_link c.in-Some.link) later ready.under part
+          c.follow.new.claims.held after
           (c.in_ok-follow.ensures.read (part.new ++ followed) _
-          (link_ready image held c.loop-link.claims.held followed objects now field c.args.header c.args.depth
-          c.deref-link-items.result.now c.loop-link.link-index ready.under part _ c.loop-link-test.true));
+          (link_ready image held c.loop-link.claims.held followed objects now field c.args.header c.args.depth (lent_link c.in-Some.link) later ready.under part));
       counted = λ name waiting are.
-          c.in_ok-follow.ensures.counted (map lent_link (drop (c.loop-link.link-index + 1) c.deref-link-items.result.now) ++ waiting)
-          (next_counted image now c.loop-link.tally.counts.items c.deref-link-items.result.now c.loop-link.link-index _ waiting c.loop-link-test.true
+          c.in_ok-follow.ensures.counted (later ++ waiting)
+          (subst (λ (ls : List (List ℕ × Target)). AreCounted image now c.loop-link.tally.counts.items (ls ++ waiting)) c.in-Some.ensures.steps
           (c.loop-link.invariant.counted name waiting are));
     }
 
@@ -189,16 +190,12 @@ read_tree-returns-clause-read t c =
     let image = c.args.image.now.bytes in
     let held = c.args.claims.now.held in
     λ followed field ready.
-    let all : c.loop-link.link-index ≡ length c.deref-link-items.result.now = omega (arith, c.loop-link-test.false, c.loop-link.auto.link-index-end) in
     finished image held c.loop-link.claims.held followed objects now field c.args.header c.args.depth
-    c.deref-link-items.result.now
-    (subst (λ (k : ℕ). IsPartly image held c.loop-link.claims.held followed objects now field c.args.header c.args.depth
-    c.deref-link-items.result.now k) all (c.loop-link.invariant.read followed field ready))
+    (subst (λ (ls : List (List ℕ × Target)). IsPartly image held c.loop-link.claims.held followed objects now field c.args.header c.args.depth ls)
+    c.in-None.ensures.steps.0 (c.loop-link.invariant.read followed field ready))
 
 pub read_tree-returns-clause-counted : goal.read_tree-returns-clause-counted
 read_tree-returns-clause-counted t c =
-    let items = c.deref-link-items.result.now in
-    let all : length items ≤ c.loop-link.link-index = omega (arith, c.loop-link-test.false, c.loop-link.auto.link-index-end) in
     λ name waiting are.
-    subst (λ (ls : List (Link ℕ)). AreCounted c.args.image.now.bytes (objects_of c.loop-link.tally.index.objects.items) c.loop-link.tally.counts.items (map lent_link ls ++ waiting))
-    (drop_all c.loop-link.link-index items all) (c.loop-link.invariant.counted name waiting are)
+    subst (λ (ls : List (List ℕ × Target)). AreCounted c.args.image.now.bytes (objects_of c.loop-link.tally.index.objects.items) c.loop-link.tally.counts.items (ls ++ waiting))
+    c.in-None.ensures.steps.0 (c.loop-link.invariant.counted name waiting are)

@@ -9,18 +9,17 @@ pub returns-in_default-content-clause-found : goal.returns-in_default-content-cl
 returns-in_default-content-clause-found c =
     array_no_group c.args.opened.now c.args.number.0 c.in-Some.object.now c.in-Some.ensures.found c.in_default-content.is
 
-pub entries-requires : goal.entries-requires
-entries-requires c =
+pub group_links-requires : goal.group_links-requires
+group_links-requires c =
     rw c.image.ensures.bytes (group_read c.args.opened.now c.args.number.0 c.in-Some.object.now c.in-Some.ensures.found c.in-Group.table c.in-Group.is)
 
 pub tree_links-requires : goal.tree_links-requires
 tree_links-requires c =
     let found = rw c.image.ensures.bytes at c.in_ok-found.ensures in
-    rw c.deref.ensures.value (found_led c.args.opened.now c.object.ensures.sound c.args.number.0 c.in-Some.object.now c.in-Some.ensures.found
-    c.in-Group.table c.in-Group.is c.in_ok-found.found.items found)
+    rw found (found_led c.args.opened.now c.object.ensures.sound c.args.number.0 c.in-Some.object.now c.in-Some.ensures.found c.in-Group.table c.in-Group.is)
 
 pub returns-clause-found : goal.returns-clause-found
 returns-clause-found c =
     let found = rw c.image.ensures.bytes at c.in_ok-found.ensures in
     are_links c.args.opened.now c.object.ensures.sound c.args.number.0 c.in-Some.object.now c.in-Some.ensures.found c.in-Group.table c.in-Group.is
-    c.in_ok-found.found.items found c.in_ok-tree_links.field-0.items (rw c.deref.ensures.value at c.in_ok-tree_links.ensures)
+    c.in_ok-tree_links.field-0.items (rw found at c.in_ok-tree_links.ensures)

@@ -1,0 +1,15 @@
+use Rattle.std.proofs.Common.{ℕ, length, take, sym, ap, ◌∙◌, subst}
+use Rattle.h5_model.specs.Tree.Places.{index_of}
+use Rattle.h5_shape.specs.InBox.{IsCorner}
+use Rattle.h5_layout.specs.ChunkCells.{Grid, IsGrid}
+use Rattle.h5_layout.proofs.FoundBeside.{corner_is}
+use Rattle.h5_layout.proofs.LocateLaws.{length-index}
+use Rattle.h5_layout.proofs.grid.GridRef.find_row.Goals as goal
+
+pub address_beside-row-requires-clause-corner : goal.address_beside-row-requires-clause-corner
+address_beside-row-requires-clause-corner c =
+    let g = c.args.self.now in
+    let is : IsGrid g = subst IsGrid c.self.view_is c.self.invariant in
+    subst (λ (n : ℕ). IsCorner g.shape.sizes (take n c.run_from-run.new.row.corner)) (sym (ap (λ (x : Grid). length x.sizes) c.self.view_is))
+    (subst (IsCorner g.shape.sizes) (sym c.run_from-run.ensures.corner)
+    (corner_is g.shape.sizes (index_of g.sizes c.args.place) is.sizes.some (length-index g.sizes c.args.place ∙ sym is.rank)))

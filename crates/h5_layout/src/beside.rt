@@ -1,0 +1,144 @@
+//! Chunks that stand beside one another, as they were found (File Format Specification 3.0, section III.A.1).
+
+ghost use Rattle.std.specs.Prelude.{◌≡◌, ◌<◌, ◌≤◌, IfSome, None, [], ◌∷◌, ◌++◌, length, replicate};
+ghost use Rattle.std.specs.FinMap.{get};
+ghost use Rattle.h5_model.specs.Format.Chunks.{Chunks};
+ghost use Rattle.h5_shape.specs.InBox.{IsCorner};
+ghost use Rattle.h5_layout.specs.FoundChunks.{AreChunksBeside, corner_beside};
+
+use h5_chunks::ChunkCursor;
+use std::marker::Model;
+
+/// How many chunks beside one another are kept at most. Of a longer row of chunks it is the first ones.
+const MOST: usize = 64;
+
+/// Stored chunks that stand beside one another, along the last dimension, and were found.
+#[derive(Debug, Drop)]
+pub(crate) struct FoundChunks {
+    /// How many dimensions the array has.
+    rank: usize,
+    /// The first index of the first of them.
+    first: [u64; 32],
+    /// How many there are.
+    count: usize,
+    /// Their addresses.
+    at: [u64; 64],
+}
+
+/// Where chunks of an array were found: the last one in its tree, and those beside one another.
+#[derive(Debug, Drop)]
+pub(crate) struct RowCursor {
+    /// Where the last chunk stands in the tree.
+    pub(crate) tree: ChunkCursor,
+    /// Those of a row of chunks.
+    pub(crate) beside: FoundChunks,
+}
+
+impl RowCursor {
+    /// None was found yet, of an array with so many dimensions.
+    pub(crate) fn new(rank: usize) -> Self
+        requires { rank ≤ 32 }
+        ensures { result
+            ≡ record { tree = None; beside = record { first = replicate rank 0; at = [] } } }
+    {
+        RowCursor {
+            tree: ChunkCursor::new(),
+            beside: FoundChunks::new(rank),
+        }
+    }
+}
+
+impl Model for FoundChunks {
+    ghost use Rattle.std.specs.Prelude.{◌≤◌, take};
+    ghost use Rattle.h5_layout.specs.FoundChunks.{ChunksBeside};
+
+    ghost Value = { ChunksBeside };
+
+    ghost view = { λ f. record { first = take f.rank f.first; at = take f.count f.at } };
+
+    ghost invariant = { λ f. (f.rank ≤ 32) × (f.count ≤ 64) };
+}
+
+impl FoundChunks {
+    /// None yet, of an array with so many dimensions.
+    pub(crate) fn new(rank: usize) -> Self
+        requires { rank ≤ 32 }
+        ensures { result ≡ record { first = replicate rank 0; at = [] } }
+    {
+        FoundChunks {
+            rank,
+            first: [0; 32],
+            count: 0,
+            at: [0; 64],
+        }
+    }
+
+    /// The address of the chunk with this first index, where it is one of them.
+    pub(crate) fn address_of(&self, chunk: &[u64], corner: &[u64]) -> Option<u64>
+        requires first { IsCorner chunk.now self.now.first }
+        requires corner { IsCorner chunk.now corner.now }
+        ensures { (chunks : Chunks) → AreChunksBeside chunks chunk.now self.now
+            → IfSome result (λ at. get chunks corner.now ≡ Some at) }
+    {
+        let number = self.number_of(chunk, corner)?;
+        if number >= self.count as u64 {
+            return None;
+        }
+        Some(self.at[number as usize])
+    }
+
+    /// Keeps the address of the chunk with this first index, which is none of them.
+    pub(crate) fn put(&mut self, chunk: &[u64], corner: &[u64], at: u64)
+        requires first { IsCorner chunk.now self.old.first }
+        requires corner { IsCorner chunk.now corner.now }
+        ensures { (chunks : Chunks) → AreChunksBeside chunks chunk.now self.old
+            → get chunks corner.now ≡ Some at → AreChunksBeside chunks chunk.now self.new }
+    {
+        let Some(number) = self.number_of(chunk, corner) else {
+            self.begin(corner, at);
+            return;
+        };
+        // Of a longer row of chunks the first ones are kept.
+        if self.count == MOST {
+            return;
+        }
+        if number == self.count as u64 {
+            self.push(at);
+        } else {
+            self.begin(corner, at);
+        }
+    }
+
+    /// How many chunks behind the first of them the one with this first index stands; `None` where it does not stand
+    /// beside them, or stands before the first.
+    fn number_of(&self, chunk: &[u64], corner: &[u64]) -> Option<u64>
+        requires first { IsCorner chunk.now self.now.first }
+        requires corner { IsCorner chunk.now corner.now }
+        ensures { IfSome result (λ k. corner.now ≡ corner_beside chunk.now self.now.first k) }
+    {
+        let last = self.rank.checked_sub(1)?;
+        if self.first[..last] != corner[..last] || corner[last] < self.first[last] {
+            return None;
+        }
+        Some((corner[last] - self.first[last]) / chunk[last])
+    }
+
+    /// Keeps this address of the chunk behind the last of them.
+    fn push(&mut self, at: u64)
+        requires { length self.old.at < MOST }
+        ensures { self.new ≡ record self.old { at = self.old.at ++ at ∷ [] } }
+    {
+        self.at[self.count] = at;
+        self.count += 1;
+    }
+
+    /// Keeps this address alone, of the chunk with this first index.
+    fn begin(&mut self, corner: &[u64], at: u64)
+        requires { length corner.now ≡ length self.old.first }
+        ensures { self.new ≡ record { first = corner.now; at = at ∷ [] } }
+    {
+        self.first[..self.rank].copy_from_slice(corner);
+        self.at[0] = at;
+        self.count = 1;
+    }
+}
