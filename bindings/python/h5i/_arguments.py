@@ -4,6 +4,7 @@ from __future__ import annotations
 
 import numbers
 import operator
+from array import array
 from typing import Any
 
 import numpy as np
@@ -40,29 +41,30 @@ def as_sizes(sizes: Any) -> tuple[Any, ...]:
     return (operator.index(sizes),) if isinstance(sizes, numbers.Integral) else tuple(sizes)
 
 
-def as_list(items: Any, dtype: type = np.uint64) -> tuple[np.ndarray, int, int]:
-    """Numbers as a list of the library's: what keeps them, their address and how many they are."""
-    items = [operator.index(item) for item in items]
-    if any(item < 0 or item > np.iinfo(dtype).max for item in items):
-        raise ValueError(f"a size is a number from 0 to {np.iinfo(dtype).max}, and not one of {items}")
-    kept = np.array(items, dtype)
-    return kept, kept.ctypes.data, kept.size
+def as_list(items: Any, code: str = "Q") -> tuple[array, int, int]:
+    """Numbers as a list of the library's, of 8 bytes each, or of 4 with the code 'I': what keeps them, their address and how many they are."""
+    try:
+        kept = array(code, items)
+    except OverflowError:
+        most = 2 ** (8 * array(code).itemsize) - 1
+        raise ValueError(f"a size is a number from 0 to {most}, and not one of {list(items)}") from None
+    return kept, *kept.buffer_info()
 
 
 def whole(data: npt.ArrayLike, dtype: npt.DTypeLike | None) -> np.ndarray:
     """Data as an array of whole numbers; a value that is none of the type is refused, and not wrapped."""
-    array = np.asarray(data)
-    if array.dtype.kind == "b" or (array.size == 0 and array.dtype.kind == "f"):
-        array = array.astype(np.int8)
-    if array.dtype.kind == "O" and all(isinstance(value, numbers.Integral) for value in array.flat):
+    given = np.asarray(data)
+    if given.dtype.kind == "b" or (given.size == 0 and given.dtype.kind == "f"):
+        given = given.astype(np.int8)
+    if given.dtype.kind == "O" and all(isinstance(value, numbers.Integral) for value in given.flat):
         raise Refused("ValueRange", "a value is one of no type of at most 8 bytes")
-    if array.dtype.kind not in "iu":
-        raise TypeError(f"whole numbers, and not {array.dtype}")
-    if dtype is None or np.dtype(dtype) == array.dtype:
-        return array
+    if given.dtype.kind not in "iu":
+        raise TypeError(f"whole numbers, and not {given.dtype}")
+    if dtype is None or np.dtype(dtype) == given.dtype:
+        return given
     type_of(np.dtype(dtype))
-    made = array.astype(dtype)
-    if not np.array_equal(made, array):
+    made = given.astype(dtype)
+    if not np.array_equal(made, given):
         raise Refused("ValueRange", f"a value is not one of {np.dtype(dtype)}")
     return made
 

@@ -261,7 +261,7 @@ class Group(_Object, MutableMapping[str, Any]):
         cell = type_of(kind)
         dims, dims_at, rank = as_list(shape)
         maxima, maxima_at, maxima_count = as_list([_library.UNLIMITED if n is None else n for n in limits])
-        parts, parts_at, parts_count = as_list(sizes, np.uint32)
+        parts, parts_at, parts_count = as_list(sizes, "I")
         with self._file._parents(path):
             self._file._edit(
                 library.h5i_create_array, path, len(path), cell, dims_at, rank, maxima_at, maxima_count,

@@ -3,6 +3,7 @@
 from __future__ import annotations
 
 import operator
+from array import array
 from types import EllipsisType
 
 import numpy as np
@@ -16,7 +17,7 @@ class Selection:
     """What an index selects of an array of these sizes.
 
     `shape` is the shape of what is selected, in which an axis of an integer is left out. `lists` has start, stride,
-    count and block, one row each, in the memory that the library reads them from.
+    count and block, one behind another, in the memory that the library reads them from.
     """
 
     __slots__ = ("lists", "shape")
@@ -31,27 +32,32 @@ class Selection:
             raise IndexError(f"an index of {len(parts) - len(wide)} axes, and the array has {len(sizes)}")
         at = wide[0] if wide else len(parts)
         parts = parts[:at] + (slice(None),) * missing + parts[at + 1 :]
-        self.lists = np.empty((4, len(sizes)), np.uint64)
-        self.lists[3] = 1
-        shape = []
-        for axis, (part, size) in enumerate(zip(parts, sizes)):
+        starts, strides, counts, shape = [], [], [], []
+        for part, size in zip(parts, sizes):
             if isinstance(part, slice):
                 start, stop, step = part.indices(size)
                 if step < 1:
                     raise IndexError("a step is 1 at least")
                 count = len(range(start, stop, step))
                 shape.append(count)
-                self.lists[:3, axis] = (start if count else 0), step, count
+                starts.append(start if count else 0)
+                # Without a second place no step is taken, and one of any length is allowed.
+                strides.append(step if count > 1 else 1)
+                counts.append(count)
             else:
                 if isinstance(part, (bool, np.bool_)) or not hasattr(part, "__index__"):
                     raise TypeError(f"an index has integers, slices and '...', and not {part!r}")
                 place = operator.index(part)
                 if not -size <= place < size:
                     raise IndexError(f"{place} is outside an axis of {size}")
-                self.lists[:3, axis] = place % size, 1, 1
+                starts.append(place % size)
+                strides.append(1)
+                counts.append(1)
+        self.lists = array("Q", [*starts, *strides, *counts, *[1] * len(sizes)])
         self.shape = tuple(shape)
 
-    def arguments(self) -> list[int]:
+    def arguments(self) -> tuple[int, ...]:
         """The four lists, as addresses and lengths."""
-        first, step, rank = self.lists.ctypes.data, self.lists.strides[0], self.lists.shape[1]
-        return [word for row in range(4) for word in (first + row * step, rank)]
+        first, count = self.lists.buffer_info()
+        rank, step = count // 4, self.lists.itemsize * (count // 4)
+        return first, rank, first + step, rank, first + 2 * step, rank, first + 3 * step, rank

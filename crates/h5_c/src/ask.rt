@@ -9,7 +9,7 @@ use crate::held::Held;
 use crate::room::copy;
 use crate::slot::Slot;
 use crate::status::{DONE, NO_MEMORY, NOT_A_SOFT_LINK, WRONG_STATE};
-use h5_file::{Dims, Fixed, Kind, StoreKind};
+use h5_file::{Dims, Fixed, Kind, Names, StoreKind};
 use h5_types::encode;
 use std::alloc::{AllocError, Global};
 
@@ -99,6 +99,18 @@ fn tell_kind(kind: &Kind<'_>, about: &mut About)
     }
 }
 
+/// The names in a group, each followed by a zero byte.
+fn ended_links(alloc: Global, names: Names<'_>) -> Result<Vec<u8>, AllocError>
+    ensures { IfOk result (λ text. text.items ≡ ended names.entry) }
+{
+    let mut text = Vec::new(alloc);
+    for name in names {
+        text.extend_from_slice(name)?;
+        text.push(0)?;
+    }
+    Ok(text)
+}
+
 /// The names, each followed by a zero byte.
 fn ended_names(alloc: Global, names: &[&[u8]]) -> Result<Vec<u8>, AllocError>
     ensures { IfOk result (λ text. text.items ≡ ended (map (λ name. name.now) names.now)) }
@@ -143,7 +155,7 @@ impl Held {
         ensures { HasListed self.old path.now self.new result }
     {
         match self.session.file().list(path) {
-            Ok(names) => match ended_names(alloc, &names) {
+            Ok(names) => match ended_links(alloc, names) {
                 Ok(text) => {
                     self.text = text;
                     DONE

@@ -22,9 +22,9 @@ ghost use Rattle.h5_file.specs.Opening.{IsReadable, Refused};
 
 use crate::open_error::OpenError;
 use h5_edit::{
-    AttrRef, Found, HyperRef, Kind, Opened, Runs, StoredArray, array_at, array_of, attributes_at,
-    empty_image, found_at, kind_at, links_of, names_at, names_of_attributes, number_at,
-    one_attribute, one_cell, open_written, runs_at,
+    AttrRef, Found, HyperRef, Kind, Names, Opened, Runs, StoredArray, array_at, array_of,
+    attributes_at, empty_image, found_at, kind_at, links_of, names_at, names_of_attributes,
+    number_at, one_attribute, one_cell, open_written, runs_at,
 };
 use h5_model::{Cause, EditFault, Link, ObjectNo, OpenFault};
 use h5_space::{Image, end_of_file, superblock_fault};
@@ -159,15 +159,15 @@ impl File {
         found_at(self.alloc, &self.opened, path)
     }
 
-    /// The names in the group at the path, in ascending order of their bytes.
+    /// The names in the group at the path, one by one, in ascending order of their bytes. Takes memory for the addresses
+    /// of the group's symbol nodes.
     ///
     /// # Errors
     ///
     /// Those of [`File::kind`]; `NotAGroup` if no group stands at the path; last, `NoMemory`: memory is refused. No other
     /// refusal holds then.
-    pub fn list(&self, path: &[u8]) -> Result<Vec<&[u8]>, EditFault>
-        ensures { MatchResult result (λ names.
-            HasLinksNamed self.now.tree path.now (map (λ name. name.now) names.items))
+    pub fn list(&self, path: &[u8]) -> Result<Names<'_>, EditFault>
+        ensures { MatchResult result (HasLinksNamed self.now.tree path.now)
             (IsListRefused self.now.tree path.now) }
     {
         names_at(self.alloc, &self.opened, path)

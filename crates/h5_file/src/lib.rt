@@ -49,8 +49,8 @@ mod views;
 
 pub use file::File;
 pub use h5_edit::{
-    ArrayRef, AttrRef, Buffer, Dims, Found, HyperRef, Kind, MAX_DEPTH, MAX_RANK, Piece, Runs, Slab,
-    SlabFault, StoreKind, StoredArray, Values, store_of,
+    ArrayRef, AttrRef, Buffer, Dims, Found, HyperRef, Kind, MAX_DEPTH, MAX_RANK, Names, Piece,
+    Runs, Slab, SlabFault, StoreKind, StoredArray, Values, store_of,
 };
 pub use h5_model::{
     AttrSpec, Cause, Edit, EditFault, Edited, Fixed, Hyper, Items, Link, LinkTo, ObjectNo,

@@ -10,7 +10,7 @@ fn holds(alloc: Global, image: Vec<u8>, names: usize) -> bool {
         return false;
     };
     match file.list(b"/") {
-        Ok(found) => found.len() == names,
+        Ok(found) => found.count() == names,
         Err(_) => false,
     }
 }

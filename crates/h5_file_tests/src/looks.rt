@@ -48,8 +48,8 @@ fn tells_what_stands_at_a_path(rt: HostRuntime) -> Result<(), Fail> {
     assert!(rt; is_line(&file, b"/e") && letter(&file, b"/x") == '?');
     assert!(rt; file.cell(b"/e", &[2])? == -7);
     assert!(rt; file.cell(b"/e", &[3]) == Err(EditFault::OutOfExtent));
-    let names = file.list(b"/")?;
-    assert!(rt; names.len() == 3 && names[0] == b"e".as_slice());
+    let mut names = file.list(b"/")?;
+    assert!(rt; names.next() == Some(b"e".as_slice()) && names.count() == 2);
     Ok(())
 }
 

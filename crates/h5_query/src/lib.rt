@@ -10,6 +10,7 @@ mod found;
 mod group;
 mod kind;
 mod links;
+mod names;
 mod path;
 mod place;
 mod selection;
@@ -27,7 +28,8 @@ pub use h5_open::{
 };
 pub use h5_shape::{HyperRef, Slab, SlabFault};
 pub use kind::{Kind, StoreKind};
-pub use links::{kind_at, names_at, store_of};
+pub use links::{kind_at, store_of};
+pub use names::{Names, names_at};
 pub use path::MAX_DEPTH;
 pub use place::{Place, Spot, look, look_up, number_at};
 pub use selection::{runs_at, selected_at, slab_within, standing_cells};

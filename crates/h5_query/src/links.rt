@@ -1,23 +1,17 @@
-//! What the link at a path leads to, and the names in a group.
+//! What the link at a path leads to.
 
-ghost use Rattle.std.specs.Prelude.{◌≡◌, ℕ, List, Some, IfOk, MatchResult, length, map};
+ghost use Rattle.std.specs.Prelude.{◌≡◌, ℕ, List, Some, MatchResult, length, map};
 ghost use Rattle.h5_model.specs.Edits.Refusal.{first_holding};
 ghost use Rattle.h5_model.specs.Format.Reads.{storage_of};
 ghost use Rattle.h5_model.specs.Scripts.Reading.{path_rules, shown_maximum};
 ghost use Rattle.h5_open.specs.Layouts.{layout_in};
-ghost use Rattle.h5_open.specs.Links.{IsGroupRead};
-ghost use Rattle.h5_query.specs.Kept.{names_of_group};
-ghost use Rattle.h5_query.specs.Look.{HasKind, HasLinksNamed, IsArrayKind, IsListRefused, IsStored};
+ghost use Rattle.h5_query.specs.Look.{HasKind, IsArrayKind, IsStored};
 
 use crate::array::stored_array;
 use crate::kind::{Kind, StoreKind};
 use crate::place::{Place, look};
 use h5_model::EditFault;
-use h5_open::{
-    ArrayRef, Dims, Layout, MAX_RANK, Opened, OpenedContent, StoredArray, SymbolTable, group_links,
-};
-use h5_space::Image;
-use std::alloc::{AllocError, Global};
+use h5_open::{ArrayRef, Dims, Layout, MAX_RANK, Opened, OpenedContent, StoredArray};
 
 /// How a maximum that is unlimited is shown.
 const UNLIMITED: u64 = u64::MAX;
@@ -93,49 +87,4 @@ fn store_kind(layout: &Layout<'_>) -> StoreKind
         Layout::Contiguous(_) => StoreKind::Contiguous,
         Layout::Chunked { sizes, .. } => StoreKind::Chunked(sizes.dims()),
     }
-}
-
-/// The names in the group at the path, in ascending order of their bytes.
-///
-/// # Errors
-///
-/// Those of [`crate::look`]; `NotAGroup` if no group stands at the path; last, `NoMemory`: memory is refused. No other
-/// refusal holds then.
-pub fn names_at<'a>(
-    alloc: Global,
-    opened: &'a Opened,
-    path: &[u8],
-) -> Result<Vec<&'a [u8]>, EditFault>
-    ensures { let tree = opened.now.tree in
-        MatchResult result (λ names.
-        HasLinksNamed tree path.now (map (λ name. name.now) names.items)) (IsListRefused tree path.now) }
-{
-    let Place::Object { object, .. } = look(opened, path)? else {
-        return Err(EditFault::NotAGroup);
-    };
-    let OpenedContent::Group(table) = &object.content else {
-        return Err(EditFault::NotAGroup);
-    };
-    match link_names(alloc, opened.image(), *table) {
-        Ok(names) => Ok(names),
-        Err(_) => Err(EditFault::NoMemory),
-    }
-}
-
-/// The names of the group's links.
-fn link_names<'a>(
-    alloc: Global,
-    image: &'a Image,
-    table: SymbolTable,
-) -> Result<Vec<&'a [u8]>, AllocError>
-    requires { IsGroupRead image.now.bytes table }
-    ensures { IfOk result (λ names.
-        map (λ name. name.now) names.items ≡ names_of_group image.now.bytes table) }
-{
-    let links = group_links(alloc, image, table)?;
-    let mut names = Vec::with_capacity(alloc, links.len())?;
-    for link in links {
-        names.push(link.name)?;
-    }
-    Ok(names)
 }

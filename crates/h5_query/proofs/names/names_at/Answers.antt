@@ -4,7 +4,7 @@ use Rattle.h5_query.specs.Kept.{names_of_group}
 use Rattle.h5_query.proofs.Calls.{array_no_list, group_names}
 use Rattle.h5_query.proofs.Indexed.{group_read}
 use Rattle.h5_query.proofs.RefusedLaws.{list_refused}
-use Rattle.h5_query.proofs.links.names_at.Goals as goal
+use Rattle.h5_query.proofs.names.names_at.Goals as goal
 
 pub returns-in_err-object : goal.returns-in_err-object
 returns-in_err-object c =
@@ -17,8 +17,8 @@ returns-in_default-content c =
     array_no_list c.args.opened.now c.in-Object.number c.in-Object.object.now place.1 c.args.path.now place.0
     c.in_default-content.is
 
-pub link_names-requires : goal.link_names-requires
-link_names-requires c =
+pub group_names-requires : goal.group_names-requires
+group_names-requires c =
     let place = rw c.in-Object.is at c.in_ok-object.ensures in
     rw c.image.ensures.bytes (group_read c.args.opened.now c.in-Object.number c.in-Object.object.now place.1 c.in-Group.table c.in-Group.is)
 

@@ -1,0 +1,7 @@
+use Rattle.std.proofs.Common.{◌≡◌, ◌++◌}
+use Rattle.h5_c.specs.Asked.{ended}
+use Rattle.h5_c.proofs.ask.ended_links.Given as goal
+
+-- the names so far, and those that are left
+abbrev pub invariant-loop-name : goal.invariant-loop-name
+invariant-loop-name l = l.text.items ++ ended l.name-iterator ≡ ended l.initial.name-iterator
