@@ -11,7 +11,7 @@ use crate::status::Status;
 use crate::tell::{failed_on, no_memory, refused};
 use h5_script::{File, MAXIMUM_IMAGE};
 use std::alloc::{AllocError, Global};
-use std::fs::{self, OpenFile};
+use std::fs::{self, OpenFile, OpenOptions};
 use std::io::{self, Read, Write};
 use std::rt::Files;
 
@@ -97,8 +97,21 @@ pub(crate) fn write_whole<R: Files, E: Write>(
 ) -> Status
     ensures { (result ≡ status) ⊎ (result ≡ StreamFailed) }
 {
-    match fs::write(rt, file, image) {
+    match write_over(rt, file, image) {
         Ok(()) => status,
         Err(_) => failed_on("cannot write", file, errors),
     }
+}
+
+/// Writes bytes over those of the file of this name, which is made where there is none, and cuts off what stands behind.
+///
+/// It is not cut off first: its pages would be given up and taken again, and of a run that is stopped half way nothing
+/// would be left but what was written until then.
+fn write_over<R: Files>(rt: &R, file: &str, bytes: &[u8]) -> io::Result<()> {
+    let mut opened = OpenOptions::new().write(true).create(true).open(rt, file)?;
+    opened.write_all(bytes)?;
+    if opened.metadata()?.len() > bytes.len() as u64 {
+        opened.set_len(bytes.len() as u64)?;
+    }
+    Ok(())
 }
