@@ -1,6 +1,6 @@
 //! The messages of an object header (File Format Specification 3.0, section IV.A.1.a).
 
-ghost use Rattle.std.specs.Prelude.{◌≡◌, ◌+◌, ◌<◌, ◌≤◌, Some, length, ◌++◌, ◌-◌, ◌^◌, max, take, drop, slice_get, slice_set, option_map, IfOk, IfErr, OnOk, OnErr, IsOk};
+ghost use Rattle.std.specs.Prelude.{◌≡◌, ◌+◌, ◌<◌, ◌≤◌, [], Some, length, ◌++◌, ◌-◌, ◌^◌, max, take, drop, slice_get, slice_set, option_map, IfOk, IfErr, OnOk, OnErr, IsOk};
 ghost use Rattle.std.specs.List.{insert};
 ghost use Rattle.h5_bytes.specs.Blocks.{Separate};
 ghost use Rattle.h5_bytes.specs.Bytes.{byte_at};
@@ -12,8 +12,8 @@ ghost use Rattle.h5_header.specs.Progress.{ReadThrough, Stops};
 
 use crate::block::read_block;
 use crate::claims::{PREFIX, claim_prefix};
-use crate::message::Message;
-use h5_bytes::{Block, u32_at};
+use crate::message::{HEAD, Message};
+use h5_bytes::{Block, u16_at, u32_at};
 use h5_model::message_type::{CONTINUATION, NIL};
 use h5_model::{Cause, OpenFault};
 use h5_space::{Claims, Image, claim, fault};
@@ -216,7 +216,9 @@ pub(crate) fn read_header(
         Stops image.now header claims.old.held fault.cause fault.address) }
 {
     let first = claim_prefix(image, claims, header)?;
-    let mut list = Vec::new(alloc);
+    let Ok(mut list) = list_for(alloc, image, first) else {
+        return Err(fault(Cause::NoMemory, header));
+    };
     let mut blocks = Vec::new(alloc);
     if blocks.push(first).is_err() {
         return Err(fault(Cause::NoMemory, header));
@@ -238,4 +240,17 @@ pub(crate) fn read_header(
         next += 1;
     }
     Ok(Messages::of(header, list, blocks))
+}
+
+/// An empty list with room for the messages of a header with this first block: for as many as the header says it has, if
+/// the block can hold so many.
+fn list_for(alloc: Global, image: &[u8], first: Block) -> Result<Vec<Message>, AllocError>
+    requires prefix { PREFIX ≤ first.len }
+    requires inside { first.at + first.len ≤ length image.now }
+    ensures { IfOk result (λ list. list.items ≡ []) }
+{
+    let said = u64::from(u16_at(image, first.at as usize + 2));
+    let mut list = Vec::new(alloc);
+    list.reserve(said.min(first.len / HEAD) as usize)?;
+    Ok(list)
 }

@@ -6,7 +6,7 @@ use Rattle.h5_model.specs.Format.Messages.{prefix_at, first_size}
 use Rattle.h5_header.specs.Progress.{ReadTo, without_memory, at_message, at_block}
 use Rattle.h5_header.proofs.ThroughLaws.{first_through, first_stops, stops_at_block, next_through, next_smaller}
 use Rattle.h5_header.proofs.header.read_header.Goals as goal
-use Rattle.h5_header.proofs.header.read_header.Goals.{In_default-read_block}
+use Rattle.h5_header.proofs.header.read_header.Goals.{In_default-read_block-2}
 
 pub returns-in-Err-clause-refused : goal.returns-in-Err-clause-refused
 returns-in-Err-clause-refused c = rw c.fault-in-Err.ensures (elim c.in-Err.ensures.refused [
@@ -26,7 +26,7 @@ loop-next-init c =
       c.in_ok-first.ensures.separate,
       first_through c.args.image.now c.args.header c.args.claims.now.held c.claim_prefix.new.claims.held
           c.read_block.new.list.items c.read_block.new.blocks.items c.in_ok-first.first (block (c.args.header + 16) (c.in_ok-first.first.len - 16))
-          header_is (ap (λ n. block (c.args.header + 16) n) (omega (arith, long))) c.in_ok-first.ensures.inside c.in_ok-first.ensures.claimed (rw (c.new-list.ensures.items, blocks) at c.in_default.ensures.read),
+          header_is (ap (λ n. block (c.args.header + 16) n) (omega (arith, long))) c.in_ok-first.ensures.inside c.in_ok-first.ensures.claimed (rw (c.in-Ok.ensures, blocks) at c.in_default-read_block.ensures.read),
     )
 
 pub returns-in_err-claim-clause-refused : goal.returns-in_err-claim-clause-refused
@@ -37,7 +37,7 @@ returns-in_err-claim-clause-refused c =
     rw (p.1, p.2) (at_block (stops_at_block c.args.image.now c.args.header c.args.claims.now.held c.loop-next.claims.held c.loop-next.list.items c.loop-next.blocks.items c.loop-next.next c.index-block.result.now
     c.loop-next.invariant.2 more c.index-block.ensures _ _ c.loop-next.invariant.1 refused))
 
-module _ (c : In_default-read_block) where
+module _ (c : In_default-read_block-2) where
   more : c.loop-next.next < length c.loop-next.blocks.items
   more = search rules
 
@@ -45,7 +45,7 @@ module _ (c : In_default-read_block) where
   inside = omega (arith, c.in_ok-claim.ensures.inside, c.loop-next.invariant.0)
 
   read : ReadTo c.args.image.now c.index-block.result.now c.loop-next.list.items c.read_block-in-loop-next.new.list.items c.loop-next.blocks.items c.read_block-in-loop-next.new.blocks.items c.index-block.result.now.len
-  read = c.in_default-read_block.ensures.read
+  read = c.in_default-read_block-2.ensures.read
 
 pub loop-next-smaller : goal.loop-next-smaller
 loop-next-smaller c =
