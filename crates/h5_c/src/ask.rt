@@ -1,6 +1,6 @@
 //! What stands at a path, with its attributes.
 
-ghost use Rattle.std.specs.Prelude.{◌≡◌, IfOk, true, false, length, map, take};
+ghost use Rattle.std.specs.Prelude.{◌≡◌, ◌∷◌, [], ◌++◌, IfOk, OnOk, true, false, length, map, take};
 ghost use Rattle.h5_c.specs.Asked.{HasAttributeBytes, HasAttributesListed, HasLinkText, HasListed, HasNumber, HasTold, HasToldAttribute, IsStorageTold, IsAbout, IsType, ended};
 ghost use Rattle.h5_c.specs.Calls.{IsKeptOpen};
 
@@ -105,8 +105,7 @@ fn ended_links(alloc: Global, names: Names<'_>) -> Result<Vec<u8>, AllocError>
 {
     let mut text = Vec::new(alloc);
     for name in names {
-        text.extend_from_slice(name)?;
-        text.push(0)?;
+        push_ended(&mut text, name)?;
     }
     Ok(text)
 }
@@ -120,10 +119,18 @@ fn ended_names(alloc: Global, names: &[&[u8]]) -> Result<Vec<u8>, AllocError>
     });
     let mut text = Vec::with_capacity(alloc, room)?;
     for name in names {
-        text.extend_from_slice(name)?;
-        text.push(0)?;
+        push_ended(&mut text, name)?;
     }
     Ok(text)
+}
+
+/// Appends a name and a zero byte.
+fn push_ended(text: &mut Vec<u8>, name: &[u8]) -> Result<(), AllocError>
+    ensures { OnOk result (text.new.items ≡ text.old.items ++ name.now ++ 0 ∷ []) }
+{
+    text.extend_from_slice(name)?;
+    text.push(0)?;
+    Ok(())
 }
 
 impl Held {
