@@ -9,7 +9,7 @@ use crate::held::Held;
 use crate::room::copy;
 use crate::slot::Slot;
 use crate::status::{DONE, NO_MEMORY, NOT_A_SOFT_LINK, WRONG_STATE};
-use h5_file::{Dims, Fixed, Kind, Names, StoreKind};
+use h5_file::{Dims, Fixed, Kind, LinkNames, StoreKind};
 use h5_types::encode;
 use std::alloc::{AllocError, Global};
 
@@ -100,7 +100,7 @@ fn tell_kind(kind: &Kind<'_>, about: &mut About)
 }
 
 /// The names in a group, each followed by a zero byte.
-fn ended_links(alloc: Global, names: Names<'_>) -> Result<Vec<u8>, AllocError>
+fn ended_links(alloc: Global, names: LinkNames<'_>) -> Result<Vec<u8>, AllocError>
     ensures { IfOk result (λ text. text.items ≡ ended names.entry) }
 {
     let mut text = Vec::new(alloc);

@@ -22,7 +22,7 @@ ghost use Rattle.h5_file.specs.Opening.{IsReadable, Refused};
 
 use crate::open_error::OpenError;
 use h5_edit::{
-    AttrRef, Found, HyperRef, Kind, Names, Opened, Runs, StoredArray, array_at, array_of,
+    AttrRef, Found, HyperRef, Kind, LinkNames, Opened, Runs, StoredArray, array_at, array_of,
     attributes_at, empty_image, found_at, kind_at, links_of, names_at, names_of_attributes,
     number_at, one_attribute, one_cell, open_written, runs_at,
 };
@@ -166,7 +166,7 @@ impl File {
     ///
     /// Those of [`File::kind`]; `NotAGroup` if no group stands at the path; last, `NoMemory`: memory is refused. No other
     /// refusal holds then.
-    pub fn list(&self, path: &[u8]) -> Result<Names<'_>, EditFault>
+    pub fn list(&self, path: &[u8]) -> Result<LinkNames<'_>, EditFault>
         ensures { MatchResult result (HasLinksNamed self.now.tree path.now)
             (IsListRefused self.now.tree path.now) }
     {

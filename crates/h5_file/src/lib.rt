@@ -49,7 +49,7 @@ mod views;
 
 pub use file::File;
 pub use h5_edit::{
-    ArrayRef, AttrRef, Buffer, Dims, Found, HyperRef, Kind, MAX_DEPTH, MAX_RANK, Names, Piece,
+    ArrayRef, AttrRef, Buffer, Dims, Found, HyperRef, Kind, LinkNames, MAX_DEPTH, MAX_RANK, Piece,
     Runs, Slab, SlabFault, StoreKind, StoredArray, Values, store_of,
 };
 pub use h5_model::{

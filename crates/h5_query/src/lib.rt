@@ -29,7 +29,7 @@ pub use h5_open::{
 pub use h5_shape::{HyperRef, Slab, SlabFault};
 pub use kind::{Kind, StoreKind};
 pub use links::{kind_at, store_of};
-pub use names::{Names, names_at};
+pub use names::{LinkNames, names_at};
 pub use path::MAX_DEPTH;
 pub use place::{Place, Spot, look, look_up, number_at};
 pub use selection::{runs_at, selected_at, slab_within, standing_cells};

@@ -15,11 +15,11 @@ use std::marker::Model;
 
 /// The names in a group that are left, in ascending order of their bytes. No step takes memory.
 #[derive(Drop)]
-pub struct Names<'a> {
+pub struct LinkNames<'a> {
     links: Links<'a>,
 }
 
-impl<'a> Model for Names<'a> {
+impl<'a> Model for LinkNames<'a> {
     ghost use Rattle.std.specs.Prelude.{ℕ, List, map};
 
     ghost Value = { List (List ℕ) };
@@ -27,7 +27,7 @@ impl<'a> Model for Names<'a> {
     ghost view = { λ n. map (λ link. link.0) n.links };
 }
 
-impl<'a> Iterator for Names<'a> {
+impl<'a> Iterator for LinkNames<'a> {
     type Item = &'a [u8];
 
     ghost next_gives = { YieldsFirstBy (λ name. name.now) (λ left. left) };
@@ -47,7 +47,11 @@ impl<'a> Iterator for Names<'a> {
 ///
 /// Those of [`crate::look`]; `NotAGroup` if no group stands at the path; last, `NoMemory`: memory is refused. No other
 /// refusal holds then.
-pub fn names_at<'a>(alloc: Global, opened: &'a Opened, path: &[u8]) -> Result<Names<'a>, EditFault>
+pub fn names_at<'a>(
+    alloc: Global,
+    opened: &'a Opened,
+    path: &[u8],
+) -> Result<LinkNames<'a>, EditFault>
     ensures { MatchResult result (HasLinksNamed opened.now.tree path.now)
         (IsListRefused opened.now.tree path.now) }
 {
@@ -68,10 +72,10 @@ fn group_names<'a>(
     alloc: Global,
     image: &'a Image,
     table: SymbolTable,
-) -> Result<Names<'a>, AllocError>
+) -> Result<LinkNames<'a>, AllocError>
     requires { IsGroupRead image.now.bytes table }
     ensures { IfOk result (λ names. names ≡ names_of_group image.now.bytes table) }
 {
     let links = group_links(alloc, image, table)?;
-    Ok(Names { links })
+    Ok(LinkNames { links })
 }
