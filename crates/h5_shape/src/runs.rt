@@ -67,7 +67,7 @@ impl Iterator for CellRuns {
         let place = self.nest.origin + self.place;
         let mut end = self.place + self.nest.length;
         self.has_more = false;
-        while let Some(next) = self.nest.next_place() {
+        while let Some(next) = self.nest.next_place(self.place) {
             self.place = next;
             if next != end {
                 self.has_more = true;

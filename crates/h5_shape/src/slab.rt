@@ -166,7 +166,7 @@ impl Slab {
 /// What stands behind the last axis.
 const NO_AXIS: Axis = Axis {
     start: 0,
-    stride: 1,
+    stride: 0,
     count: 0,
     block: 0,
 };

@@ -1,10 +1,11 @@
-use Rattle.std.proofs.Common.{◌≡◌, ◌^◌, true, false, Bool, not, List, length, sym, ap, subst, ◌∙◌, arith}
+use Rattle.std.proofs.Common.{◌≡◌, ◌^◌, true, false, Bool, not, take, sym, ap, subst, ◌∙◌, arith}
 use Rattle.h5_model.specs.Views.Selection.{selection_of, selects_none}
 use Rattle.h5_shape.specs.declared.loops.LoopNest.{LoopNest}
-use Rattle.h5_model.specs.declared.Axis.{Axis}
 use Rattle.h5_shape.specs.Loops.{ArePlacesBelow}
 use Rattle.h5_shape.specs.Left.{left_of, IsRoomy}
 use Rattle.h5_shape.specs.Runs.{AreMaximal, places_in, cell_runs}
+use Rattle.h5_model.specs.Tree.Places.{cells}
+use Rattle.h5_shape.proofs.LoopLaws.{depth_low, start-stands}
 use Rattle.h5_shape.proofs.RunLaws.{places_of_runs, runs-maximal}
 use Rattle.h5_shape.proofs.SlabRuns.{within_fits, left_some, below_selection, selection_none}
 use Rattle.h5_shape.proofs.slab.Slab.runs.Goals as goal
@@ -28,16 +29,17 @@ new-requires c =
           left_some nest dims slab _ _ w.sizes.ensures.numbers w.axes-then-has_more.ensures.axes
           w.select.ensures.fresh w.select.ensures.origin w.select.ensures.selected c.requires.rank c.requires.within some c.axes.ensures.sound.apart in
           let room : IsRoomy nest 0 true = record {
-            depth = (let ranks : length w.axes-then-has_more.result.now ≡ length slab = ap (λ (a : List Axis). length a) w.axes-then-has_more.ensures.axes in omega (arith, w.select.ensures.depth, ranks, c.axes.ensures.sound.rank));
+            depth = (let sizes : cells w.sizes.result.now ≡ cells dims = ap cells w.sizes.ensures.numbers in depth_low nest.depth (omega (arith, w.select.ensures.depth, sizes, c.requires.small)));
             long = w.select.ensures.long;
             small = subst (ArePlacesBelow (2 ^ 41)) (sym listing) (below_selection (2 ^ 41) dims slab (omega (arith, c.requires.small)));
+            stands = start-stands (take nest.depth nest.loops) w.select.ensures.fresh;
           } in
           subst (λ (b : Bool). IsRoomy c.if-has_more.nest 0 b) (sym flag) (subst (λ (l : LoopNest). IsRoomy l 0 true) (sym w.nest-is) room)
       | else-has_more w ↦
           let flag : not c.is_empty-has_more.result ≡ false = ap not w.if-has_more.false in
           let depth : c.if-has_more.nest.depth ≡ 0 = ap (λ (l : LoopNest). l.depth) w.nest-is ∙ c.one_cell-nest.ensures.none in
           let long : c.if-has_more.nest.length ≡ 1 = ap (λ (l : LoopNest). l.length) w.nest-is ∙ c.one_cell-nest.ensures.one in
-          let room : IsRoomy c.if-has_more.nest 0 false = record { depth = omega (arith, depth); long = omega (arith, long); small = tt } in
+          let room : IsRoomy c.if-has_more.nest 0 false = record { depth = omega (arith, depth); long = omega (arith, long); small = tt; stands = tt } in
           subst (λ (b : Bool). IsRoomy c.if-has_more.nest 0 b) (sym flag) room
     ]
 
