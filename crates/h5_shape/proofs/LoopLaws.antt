@@ -1,14 +1,14 @@
 -- Spaced places, and loops over them.
-use Rattle.std.proofs.Common.{◌≡◌, ℕ, zero, suc, ◌+◌, ◌-◌, ◌*◌, ◌^◌, ◌<◌, ◌≤◌, List, [], ◌∷◌, ◌++◌, inl, inr, drop, set, get_or, length, subst, map, refl, sym, ap, ◌∙◌, arith}
+use Rattle.std.proofs.Common.{◌≡◌, ℕ, zero, Option, Some, None, IfSome, take, suc, ◌+◌, ◌-◌, ◌*◌, ◌^◌, ◌<◌, ◌≤◌, List, [], ◌∷◌, ◌++◌, inl, inr, drop, set, get_or, length, subst, map, refl, sym, ap, ◌∙◌, arith}
 use Rattle.std.proofs.lemmas.Bool.{cases_lt}
 use Rattle.std.proofs.lemmas.Grind.{flat_map-append, pow_more}
-use Rattle.std.proofs.lemmas.List.{append-nil, drop_more, drop-set}
+use Rattle.std.proofs.lemmas.List.{append-nil, drop_more, drop-set, drop-set-lt, get_or-take, get_or-set_same, take-take, take-set}
 use Rattle.std.proofs.lemmas.Nat.{pow_below}
 use Rattle.std.proofs.Math.Nat.{mul-le-mul_left, pow-le-pow_right}
 use Rattle.std.specs.List.{flat_map}
 use Rattle.h5_shape.specs.declared.loops.Loop.{Loop}
 use Rattle.h5_shape.specs.declared.loops.LoopNest.{LoopNest}
-use Rattle.h5_shape.specs.Loops.{spaced, loop_places, nest_places, standing, ahead, AreAtStart, AreWithin, IsStanding, ArePlacesBelow, nest_cells}
+use Rattle.h5_shape.specs.Loops.{spaced, loop_places, nest_places, standing, ahead, AreAtStart, AreWithin, IsStanding, ArePlacesBelow, GoesOn, nest_cells}
 
 -- ---- lists
 
@@ -177,24 +177,74 @@ step_below bound loops k place d low some stands h =
     subst (ArePlacesBelow bound) (own_step loops k place d low some stands).next h in
     moved.0
 
--- where the loops around loop k stand, at whose last place all do
-pub around_stands : (loops : List Loop) (k place : ℕ) (d : Loop) → k < length loops → (get_or loops k d).left ≡ 0 → IsStanding (drop k loops) place
-    → (place ≡ (get_or loops k d).more * (get_or loops k d).step + standing (drop (k + 1) loops)) × AreWithin (drop (k + 1) loops)
-around_stands loops k place d low last h =
+-- ---- behind the last place of a loop
+
+rest_below : (bound : ℕ) (l : Loop) (ls : List Loop) → ArePlacesBelow bound (ahead (l ∷ ls)) → ArePlacesBelow bound (ahead ls)
+rest_below bound l ls h =
+    below-starts bound l (ahead ls) (below-right bound (spaced l.left l.step (standing (l ∷ ls) + l.step)) (flat_map (loop_places l) (ahead ls)) h)
+
+-- where the loops around loop k stand
+pub record StandsAround (loops : List Loop) (k place bound : ℕ) (d : Loop) (after : List Loop) : Type 0 where
+  pub enough : (get_or loops k d).more * (get_or loops k d).step ≤ place
+  pub stands : IsStanding (drop (k + 1) after) (place - (get_or loops k d).more * (get_or loops k d).step)
+  pub small : ArePlacesBelow bound (ahead (drop (k + 1) after))
+
+pub around : (loops : List Loop) (k place bound : ℕ) (d v : Loop) → k < length loops → (get_or loops k d).left ≡ 0 → IsStanding (drop k loops) place
+    → ArePlacesBelow bound (ahead (drop k loops)) → StandsAround loops k place bound d (set loops k v)
+around loops k place bound d v low last h small =
     let l = get_or loops k d in
     let rest = drop (k + 1) loops in
     let all : drop k loops ≡ l ∷ rest = drop_more loops k d low in
+    let same : drop (k + 1) (set loops k v) ≡ rest = drop-set-lt (k + 1) loops k v (omega arith) in
     let within : AreWithin (l ∷ rest) = subst AreWithin all h.within in
     let whole : l.more - l.left ≡ l.more = omega (arith, last) in
-    (h.at ∙ ap standing all ∙ ap (λ (n : ℕ). n * l.step + standing rest) whole, within.1)
+    let at : place ≡ l.more * l.step + standing rest = h.at ∙ ap standing all ∙ ap (λ (n : ℕ). n * l.step + standing rest) whole in
+    record {
+      enough = omega (arith, at);
+      stands = rw same (record { at = omega (arith, at); within = within.1 });
+      small = rw same (rest_below bound l rest (subst (λ (xs : List Loop). ArePlacesBelow bound (ahead xs)) all small));
+    }
 
-pub rest_below : (bound : ℕ) (loops : List Loop) (k : ℕ) (d : Loop) → k < length loops
-    → ArePlacesBelow bound (ahead (drop k loops)) → ArePlacesBelow bound (ahead (drop (k + 1) loops))
-rest_below bound loops k d low h =
+module _ (l : Loop) (ls after : List Loop) (last : l.left ≡ 0) where
+  goes_around : (given : Option ℕ) → GoesOn (ahead ls) given (ahead after) → IfSome given (IsStanding after)
+      → GoesOn (ahead (l ∷ ls)) given (ahead (restarted l ∷ after))
+  goes_around None none stands = rw (last, none) refl
+  goes_around (Some p) next stands =
+      let none : l.more - l.more ≡ 0 = omega arith in
+      let at : (l.more - l.more) * l.step + standing after ≡ p = rw none (omega (arith, stands.at)) in
+      rw (last, next, at) refl
+
+  stands_around : (given : Option ℕ) → IfSome given (IsStanding after) → IfSome given (IsStanding (restarted l ∷ after))
+  stands_around None stands = tt
+  stands_around (Some p) stands =
+      let none : l.more - l.more ≡ 0 = omega arith in
+      record { at = rw none (omega (arith, stands.at)); within = (omega arith, stands.within) }
+
+-- what a step of the loops around loop k gives and leaves, which starts again
+pub record GoesAround (loops : List Loop) (k : ℕ) (given : Option ℕ) (after : List Loop) : Type 0 where
+  pub next : GoesOn (ahead (drop k loops)) given (ahead (drop k after))
+  pub stands : IfSome given (IsStanding (drop k after))
+  pub kept : take k after ≡ take k loops
+
+pub step_around : (loops after : List Loop) (k : ℕ) (d : Loop) (given : Option ℕ) → k < length loops → k < length after → (get_or loops k d).left ≡ 0
+    → (let between = set loops k (restarted (get_or loops k d)) in
+    (GoesOn (ahead (drop (k + 1) between)) given (ahead (drop (k + 1) after))) × (IfSome given (IsStanding (drop (k + 1) after)))
+    × (take (k + 1) after ≡ take (k + 1) between)) → GoesAround loops k given after
+step_around loops after k d given low long last h =
     let l = get_or loops k d in
-    let whole : ArePlacesBelow bound (ahead (l ∷ drop (k + 1) loops)) = subst (λ (xs : List Loop). ArePlacesBelow bound (ahead xs)) (drop_more loops k d low) h in
+    let between = set loops k (restarted l) in
     let rest = drop (k + 1) loops in
-    below-starts bound l (ahead rest) (below-right bound (spaced l.left l.step (standing (l ∷ rest) + l.step)) (flat_map (loop_places l) (ahead rest)) whole)
+    let first : k < k + 1 = omega arith in
+    let all : drop k loops ≡ l ∷ rest = drop_more loops k d low in
+    let same : drop (k + 1) between ≡ rest = drop-set-lt (k + 1) loops k (restarted l) first in
+    let here : get_or after k d ≡ restarted l =
+    sym (get_or-take (k + 1) after k d first) ∙ ap (λ (xs : List Loop). get_or xs k d) h.2 ∙ get_or-take (k + 1) between k d first ∙ get_or-set_same loops k (restarted l) d low in
+    let now : drop k after ≡ restarted l ∷ drop (k + 1) after = drop_more after k d long ∙ ap (λ (x : Loop). x ∷ drop (k + 1) after) here in
+    record {
+      next = rw (all, now) (goes_around l rest (drop (k + 1) after) last given (rw same at h.0) h.1);
+      stands = rw now (stands_around l rest (drop (k + 1) after) last given h.1);
+      kept = sym (take-take k (k + 1) after (omega arith)) ∙ ap (take k) h.2 ∙ take-take k (k + 1) between (omega arith) ∙ take-set loops k (restarted l);
+    }
 
 -- ---- how many loops there are
 

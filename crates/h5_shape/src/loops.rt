@@ -133,6 +133,7 @@ fn advance(loops: &mut [Loop], k: usize, place: u64) -> Option<u64>
     requires small { ArePlacesBelow (2 ^ 64) (ahead (drop k loops.old)) }
     ensures next { GoesOn (ahead (drop k loops.old)) result (ahead (drop k loops.new)) }
     ensures stands { IfSome result (IsStanding (drop k loops.new)) }
+    ensures kept { take k loops.new ≡ take k loops.old }
 {
     if k >= loops.len() {
         return None;
@@ -146,11 +147,10 @@ fn advance(loops: &mut [Loop], k: usize, place: u64) -> Option<u64>
         };
         return Some(place + now.step);
     }
-    let place = advance(loops, k + 1, place - now.more * now.step)?;
     loops[k] = Loop {
         step: now.step,
         more: now.more,
         left: now.more,
     };
-    Some(place)
+    advance(loops, k + 1, place - now.more * now.step)
 }
