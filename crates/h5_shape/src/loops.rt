@@ -51,6 +51,17 @@ impl LoopNest {
         }
     }
 
+    /// Goes over to the one cell at 0.
+    pub(crate) fn clear(&mut self)
+        ensures none { self.new.depth ≡ 0 }
+        ensures one { self.new.length ≡ 1 }
+        ensures start { self.new.origin ≡ 0 }
+    {
+        self.depth = 0;
+        self.length = 1;
+        self.origin = 0;
+    }
+
     /// Goes from one cell over to the cells of a selection. Returns how many cells the sizes have.
     pub(crate) fn select(&mut self, sizes: &[u64], axes: &[Axis]) -> u64
         requires rank { length sizes.now ≡ length axes.now }
