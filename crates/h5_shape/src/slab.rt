@@ -159,10 +159,11 @@ impl Slab {
         ensures value { result ≡ parts_of self.now chunk.now }
         ensures parted { AreParted self.now chunk.now result }
     {
-        if is_empty(self.axes()) {
-            return ChunkParts::none(self.axes(), chunk);
+        let mut parts = ChunkParts::none(self.axes(), chunk);
+        if !is_empty(self.axes()) {
+            parts.select(self.axes(), chunk);
         }
-        ChunkParts::new(self.axes(), chunk)
+        parts
     }
 }
 

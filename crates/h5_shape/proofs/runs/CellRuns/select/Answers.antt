@@ -1,4 +1,4 @@
-use Rattle.std.proofs.Common.{◌≡◌, ◌^◌, true, take, subst, sym, ap, ◌∙◌, arith}
+use Rattle.std.proofs.Common.{◌≡◌, ◌^◌, true, take, subst, sym, ap, arith}
 use Rattle.h5_model.specs.Views.Selection.{selection_of}
 use Rattle.h5_shape.specs.Loops.{ArePlacesBelow}
 use Rattle.h5_shape.specs.Left.{left_of}
