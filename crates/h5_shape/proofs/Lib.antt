@@ -6,7 +6,6 @@ pub mod RunLaws
 pub mod JoinLaws
 pub mod InnerSteps
 pub mod LeftLaws
-mod SlabRules
 pub mod SlabRuns
 pub mod OneRunLaws
 pub mod AlongLaws

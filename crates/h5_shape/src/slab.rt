@@ -1,5 +1,5 @@
 //! Hyperslab selections (HDF5 dataspace reference, H5Sselect_hyperslab).
-ghost use Rattle.std.specs.Prelude.{◌≡◌, ◌-◌, ◌^◌, ◌≤◌, ◌↔◌, IsTrue, EachIndex, length, min, replicate, slice_index, take};
+ghost use Rattle.std.specs.Prelude.{◌≡◌, ◌-◌, ◌^◌, ◌≤◌, ◌↔◌, IsTrue, EachIndex, length, min, replicate, slice_index};
 ghost use Rattle.std.specs.List.{list_any};
 ghost use Rattle.h5_model.specs.Views.Selection.{Within, axes_from, fits_along, fits_all, has_no_stride, is_one_run, is_within as is_within_sizes, overlaps, selected_cells, selection_of, selects_none};
 ghost use Rattle.h5_model.specs.Tree.Places.{cells as cells_of};
@@ -72,20 +72,15 @@ impl Slab {
         if rank > MAX_RANK || stride.len() != rank || count.len() != rank || block.len() != rank {
             return Err(SlabFault::RankMismatch);
         }
-        // The axes stand in their place from the start: a selection is too long to be moved for nothing.
-        let mut slab = Slab {
-            axes: [NO_AXIS; 32],
-            rank: 0,
-        };
-        fill(&mut slab.axes, start, stride, count, block);
-        if has_zero_stride(&slab.axes[..rank]) {
+        let mut axes = [NO_AXIS; 32];
+        fill(&mut axes[..rank], start, stride, count, block);
+        if has_zero_stride(&axes[..rank]) {
             return Err(SlabFault::StrideZero);
         }
-        if has_overlap(&slab.axes[..rank]) {
+        if has_overlap(&axes[..rank]) {
             return Err(SlabFault::BlocksOverlap);
         }
-        slab.rank = rank;
-        Ok(slab)
+        Ok(Slab { axes, rank })
     }
 
     /// The axes, the one that runs slowest first.
@@ -175,15 +170,15 @@ const NO_AXIS: Axis = Axis {
     block: 0,
 };
 
-/// Writes the axes of four lists to the front.
-fn fill(axes: &mut [Axis; 32], start: &[u64], stride: &[u64], count: &[u64], block: &[u64])
-    requires starts { length start.now ≤ 32 }
-    requires strides { length stride.now ≡ length start.now }
-    requires counts { length count.now ≡ length start.now }
-    requires blocks { length block.now ≡ length start.now }
-    ensures { take (length start.now) axes.new ≡ axes_from start.now stride.now count.now block.now }
+/// Writes the axes of four lists.
+fn fill(axes: &mut [Axis], start: &[u64], stride: &[u64], count: &[u64], block: &[u64])
+    requires starts { length start.now ≡ length axes.old }
+    requires strides { length stride.now ≡ length axes.old }
+    requires counts { length count.now ≡ length axes.old }
+    requires blocks { length block.now ≡ length axes.old }
+    ensures { axes.new ≡ axes_from start.now stride.now count.now block.now }
 {
-    for k in 0..start.len() {
+    for k in 0..axes.len() {
         axes[k] = Axis {
             start: start[k],
             stride: stride[k],
