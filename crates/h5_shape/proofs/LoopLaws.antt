@@ -8,7 +8,7 @@ use Rattle.std.proofs.Math.Nat.{mul-le-mul_left, pow-le-pow_right}
 use Rattle.std.specs.List.{flat_map}
 use Rattle.h5_shape.specs.declared.loops.Loop.{Loop}
 use Rattle.h5_shape.specs.declared.loops.LoopNest.{LoopNest}
-use Rattle.h5_shape.specs.Loops.{spaced, loop_places, nest_places, standing, ahead, AreAtStart, AreWithin, IsStanding, ArePlacesBelow, GoesOn, nest_cells}
+use Rattle.h5_shape.specs.Loops.{spaced, loop_places, nest_places, place_reached, ahead, AreAtStart, AreWithin, IsStanding, ArePlacesBelow, GoesOn, nest_cells}
 
 -- ---- lists
 
@@ -58,11 +58,11 @@ start-push [] l all whole = (whole, tt)
 start-push (k ∷ ls) l all whole = (all.0, start-push ls l all.1 whole)
 
 -- where each loop stands at its first place, that is 0, and what follows is all the rest
-start-zero : (ls : List Loop) → AreAtStart ls → standing ls ≡ 0
+start-zero : (ls : List Loop) → AreAtStart ls → place_reached ls ≡ 0
 start-zero [] h = refl
 start-zero (l ∷ ls) h =
     let none : l.more - l.left ≡ 0 = omega (arith, h.0) in
-    let rest : standing ls ≡ 0 = start-zero ls h.1 in
+    let rest : place_reached ls ≡ 0 = start-zero ls h.1 in
     rw (none, rest) (omega arith)
 
 start-within : (ls : List Loop) → AreAtStart ls → AreWithin ls
@@ -135,16 +135,16 @@ stepped l = record { step = l.step; more = l.more; left = l.left - 1 }
 abbrev pub restarted : Loop → Loop
 restarted l = record { step = l.step; more = l.more; left = l.more }
 
-stands_after : (l : Loop) (ls : List Loop) → 0 < l.left → l.left ≤ l.more → standing (stepped l ∷ ls) ≡ standing (l ∷ ls) + l.step
+stands_after : (l : Loop) (ls : List Loop) → 0 < l.left → l.left ≤ l.more → place_reached (stepped l ∷ ls) ≡ place_reached (l ∷ ls) + l.step
 stands_after l ls some low =
     let more : l.more - (l.left - 1) ≡ suc (l.more - l.left) = omega arith in
     rw more (omega arith)
 
 step_first : (l : Loop) (ls : List Loop) → 0 < l.left → l.left ≤ l.more
-    → ahead (l ∷ ls) ≡ (standing (l ∷ ls) + l.step) ∷ ahead (stepped l ∷ ls)
+    → ahead (l ∷ ls) ≡ (place_reached (l ∷ ls) + l.step) ∷ ahead (stepped l ∷ ls)
 step_first l ls some low =
-    ap (λ (xs : List ℕ). xs ++ flat_map (loop_places l) (ahead ls)) (spaced-step l.left l.step (standing (l ∷ ls) + l.step) some)
-    ∙ ap (λ (p : ℕ). (standing (l ∷ ls) + l.step) ∷ (spaced (l.left - 1) l.step (p + l.step) ++ flat_map (loop_places l) (ahead ls))) (sym (stands_after l ls some low))
+    ap (λ (xs : List ℕ). xs ++ flat_map (loop_places l) (ahead ls)) (spaced-step l.left l.step (place_reached (l ∷ ls) + l.step) some)
+    ∙ ap (λ (p : ℕ). (place_reached (l ∷ ls) + l.step) ∷ (spaced (l.left - 1) l.step (p + l.step) ++ flat_map (loop_places l) (ahead ls))) (sym (stands_after l ls some low))
 
 -- what a step of loop k gives and leaves
 pub record StepsTo (loops : List Loop) (k place : ℕ) (after : List Loop) : Type 0 where
@@ -158,7 +158,7 @@ own_step loops k place d low some h =
     let rest = drop (k + 1) loops in
     let all : drop k loops ≡ l ∷ rest = drop_more loops k d low in
     let after : drop k (set loops k (stepped l)) ≡ stepped l ∷ rest = drop-set loops k (stepped l) low in
-    let at : place ≡ standing (l ∷ rest) = h.at ∙ ap standing all in
+    let at : place ≡ place_reached (l ∷ rest) = h.at ∙ ap place_reached all in
     let within : AreWithin (l ∷ rest) = subst AreWithin all h.within in
     record {
       next = ap ahead all ∙ step_first l rest some within.0 ∙ ap (λ (p : ℕ). (p + l.step) ∷ ahead (stepped l ∷ rest)) (sym at)
@@ -181,7 +181,7 @@ step_below bound loops k place d low some stands h =
 
 rest_below : (bound : ℕ) (l : Loop) (ls : List Loop) → ArePlacesBelow bound (ahead (l ∷ ls)) → ArePlacesBelow bound (ahead ls)
 rest_below bound l ls h =
-    below-starts bound l (ahead ls) (below-right bound (spaced l.left l.step (standing (l ∷ ls) + l.step)) (flat_map (loop_places l) (ahead ls)) h)
+    below-starts bound l (ahead ls) (below-right bound (spaced l.left l.step (place_reached (l ∷ ls) + l.step)) (flat_map (loop_places l) (ahead ls)) h)
 
 -- where the loops around loop k stand
 pub record StandsAround (loops : List Loop) (k place bound : ℕ) (d : Loop) (after : List Loop) : Type 0 where
@@ -198,7 +198,7 @@ around loops k place bound d v low last h small =
     let same : drop (k + 1) (set loops k v) ≡ rest = drop-set-lt (k + 1) loops k v (omega arith) in
     let within : AreWithin (l ∷ rest) = subst AreWithin all h.within in
     let whole : l.more - l.left ≡ l.more = omega (arith, last) in
-    let at : place ≡ l.more * l.step + standing rest = h.at ∙ ap standing all ∙ ap (λ (n : ℕ). n * l.step + standing rest) whole in
+    let at : place ≡ l.more * l.step + place_reached rest = h.at ∙ ap place_reached all ∙ ap (λ (n : ℕ). n * l.step + place_reached rest) whole in
     record {
       enough = omega (arith, at);
       stands = rw same (record { at = omega (arith, at); within = within.1 });
@@ -211,7 +211,7 @@ module _ (l : Loop) (ls after : List Loop) (last : l.left ≡ 0) where
   goes_around None none stands = rw (last, none) refl
   goes_around (Some p) next stands =
       let none : l.more - l.more ≡ 0 = omega arith in
-      let at : (l.more - l.more) * l.step + standing after ≡ p = rw none (omega (arith, stands.at)) in
+      let at : (l.more - l.more) * l.step + place_reached after ≡ p = rw none (omega (arith, stands.at)) in
       rw (last, next, at) refl
 
   stands_around : (given : Option ℕ) → IfSome given (IsStanding after) → IfSome given (IsStanding (restarted l ∷ after))

@@ -13,13 +13,13 @@ abbrev pub left_of : LoopNest → ℕ → Bool → List ℕ
 left_of nest place more = if more then cells_at nest (place ∷ nest_ahead nest) else []
 
 -- the loops stand at this place, where cells are left
-abbrev pub StandsAt : LoopNest → ℕ → Bool → Type 0
-StandsAt nest place true = IsStanding (take nest.depth nest.loops) place
-StandsAt nest place false = ⊤
+abbrev pub IsStandingIfMore : LoopNest → ℕ → Bool → Type 0
+IsStandingIfMore nest place true = IsStanding (take nest.depth nest.loops) place
+IsStandingIfMore nest place false = ⊤
 
 -- room for the next run
 pub record IsRoomy (nest : LoopNest) (place : ℕ) (more : Bool) : Type 0 where
   pub depth : nest.depth ≤ 40
   pub long : 0 < nest.length
   pub small : ArePlacesBelow (2 ^ 41) (left_of nest place more)
-  pub stands : StandsAt nest place more
+  pub stands : IsStandingIfMore nest place more

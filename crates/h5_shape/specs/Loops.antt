@@ -22,14 +22,14 @@ nest_places [] place = place ∷ []
 nest_places (l ∷ ls) place = flat_map (loop_places l) (nest_places ls place)
 
 -- the place where the loops stand
-abbrev pub standing : List Loop → ℕ
-standing [] = 0
-standing (l ∷ ls) = (l.more - l.left) * l.step + standing ls
+abbrev pub place_reached : List Loop → ℕ
+place_reached [] = 0
+place_reached (l ∷ ls) = (l.more - l.left) * l.step + place_reached ls
 
 -- the places that follow this one
 abbrev pub ahead : List Loop → List ℕ
 ahead [] = []
-ahead (l ∷ ls) = spaced l.left l.step (standing (l ∷ ls) + l.step) ++ flat_map (loop_places l) (ahead ls)
+ahead (l ∷ ls) = spaced l.left l.step (place_reached (l ∷ ls) + l.step) ++ flat_map (loop_places l) (ahead ls)
 
 -- the same of a nest
 abbrev pub nest_ahead : LoopNest → List ℕ
@@ -51,7 +51,7 @@ AreWithin (l ∷ ls) = (l.left ≤ l.more) × AreWithin ls
 
 -- the loops stand at this place
 pub record IsStanding (loops : List Loop) (place : ℕ) : Type 0 where
-  pub at : place ≡ standing loops
+  pub at : place ≡ place_reached loops
   pub within : AreWithin loops
 
 -- each number is below the bound
