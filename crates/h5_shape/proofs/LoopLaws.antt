@@ -1,5 +1,5 @@
 -- Spaced places, and loops over them.
-use Rattle.std.proofs.Common.{◌≡◌, ℕ, zero, Option, Some, None, IfSome, take, suc, ◌+◌, ◌-◌, ◌*◌, ◌^◌, ◌<◌, ◌≤◌, List, [], ◌∷◌, ◌++◌, inl, inr, drop, set, get_or, length, subst, map, refl, sym, ap, ◌∙◌, arith}
+use Rattle.std.proofs.Common.{◌≡◌, ℕ, zero, suc, Option, Some, None, IfSome, ◌+◌, ◌-◌, ◌*◌, ◌^◌, ◌<◌, ◌≤◌, List, [], ◌∷◌, ◌++◌, inl, inr, take, drop, set, get_or, length, subst, map, refl, sym, ap, ◌∙◌, arith}
 use Rattle.std.proofs.lemmas.Bool.{cases_lt}
 use Rattle.std.proofs.lemmas.Grind.{flat_map-append, pow_more}
 use Rattle.std.proofs.lemmas.List.{append-nil, drop_more, drop-set, drop-set-lt, get_or-take, get_or-set_same, take-take, take-set}

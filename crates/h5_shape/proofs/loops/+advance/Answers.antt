@@ -22,15 +22,18 @@ advance-requires t c =
 
 pub returns-clause-next : goal.returns-clause-next
 returns-clause-next t c =
-    (step_around c.args.loops.now c.advance.new.loops c.args.k none c.advance.result (omega arith) (omega (arith, length-set c.args.loops.now c.args.k (restarted (get_or c.args.loops.now c.args.k none)))) (omega arith)
+    let long = length-set c.args.loops.now c.args.k (restarted (get_or c.args.loops.now c.args.k none)) in
+    (step_around c.args.loops.now c.advance.new.loops c.args.k none c.advance.result (omega arith) (omega (arith, long)) (omega arith)
     (c.advance.ensures.next, c.advance.ensures.stands, c.advance.ensures.kept)).next
 
 pub returns-clause-stands : goal.returns-clause-stands
 returns-clause-stands t c =
-    (step_around c.args.loops.now c.advance.new.loops c.args.k none c.advance.result (omega arith) (omega (arith, length-set c.args.loops.now c.args.k (restarted (get_or c.args.loops.now c.args.k none)))) (omega arith)
+    let long = length-set c.args.loops.now c.args.k (restarted (get_or c.args.loops.now c.args.k none)) in
+    (step_around c.args.loops.now c.advance.new.loops c.args.k none c.advance.result (omega arith) (omega (arith, long)) (omega arith)
     (c.advance.ensures.next, c.advance.ensures.stands, c.advance.ensures.kept)).stands
 
 pub returns-clause-kept : goal.returns-clause-kept
 returns-clause-kept t c =
-    (step_around c.args.loops.now c.advance.new.loops c.args.k none c.advance.result (omega arith) (omega (arith, length-set c.args.loops.now c.args.k (restarted (get_or c.args.loops.now c.args.k none)))) (omega arith)
+    let long = length-set c.args.loops.now c.args.k (restarted (get_or c.args.loops.now c.args.k none)) in
+    (step_around c.args.loops.now c.advance.new.loops c.args.k none c.advance.result (omega arith) (omega (arith, long)) (omega arith)
     (c.advance.ensures.next, c.advance.ensures.stands, c.advance.ensures.kept)).kept

@@ -17,8 +17,10 @@ repeat-requires-then-axis-gt1-clause-small t c =
 pub overflow_mul-axis : goal.overflow_mul-axis
 overflow_mul-axis t c =
     let a = get_or c.args.axes.now 0 none in
-    let room = step_room c.args.sizes.now c.args.axes.now none (omega arith) (omega arith) c.requires.fits (omega arith) c.requires.small c.select-below.result c.select-below.ensures.cells in
-    let once : 1 * (a.stride * c.select-below.result) ≤ a.count * (a.stride * c.select-below.result) = mul-le-mul_right (a.stride * c.select-below.result) (omega arith) in
+    let step = a.stride * c.select-below.result in
+    let room = step_room c.args.sizes.now c.args.axes.now none (omega arith) (omega arith) c.requires.fits (omega arith) c.requires.small
+    c.select-below.result c.select-below.ensures.cells in
+    let once : 1 * step ≤ a.count * step = mul-le-mul_right step (omega arith) in
     omega (arith, room, once)
 
 pub repeat-requires-clause-room : goal.repeat-requires-clause-room

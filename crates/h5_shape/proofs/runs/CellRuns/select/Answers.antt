@@ -16,8 +16,9 @@ invariant_of-self c =
     let axes = c.args.axes.now in
     let nest = c.select.new.self in
     let done = c.select.ensures in
+    let fits = within_fits sizes axes c.requires.within c.requires.some in
     let listing : left_of nest 0 true ≡ selection_of sizes axes =
-    left_some nest sizes axes done.fresh done.origin done.selected c.requires.rank (within_fits sizes axes c.requires.within c.requires.some) c.requires.apart in
+    left_some nest sizes axes done.fresh done.origin done.selected c.requires.rank fits c.requires.apart in
     record {
       depth = depth_low nest.depth (omega (arith, done.depth, c.requires.small));
       long = done.long;
@@ -30,4 +31,5 @@ returns c =
     let sizes = c.args.sizes.now in
     let axes = c.args.axes.now in
     let done = c.select.ensures in
-    ap cell_runs (left_some c.select.new.self sizes axes done.fresh done.origin done.selected c.requires.rank (within_fits sizes axes c.requires.within c.requires.some) c.requires.apart)
+    let fits = within_fits sizes axes c.requires.within c.requires.some in
+    ap cell_runs (left_some c.select.new.self sizes axes done.fresh done.origin done.selected c.requires.rank fits c.requires.apart)
