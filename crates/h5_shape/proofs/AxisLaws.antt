@@ -1,13 +1,14 @@
 -- A selection with one more dimension, by loops over its blocks and over the cells of a block.
-use Rattle.std.proofs.Common.{◌≡◌, ℕ, suc, ◌+◌, ◌-◌, ◌*◌, ◌^◌, ◌<◌, ◌≤◌, List, [], ◌∷◌, length, take, drop, get_or, sym, ap, ◌∙◌, arith, true, false}
+use Rattle.std.proofs.Common.{◌≡◌, ℕ, suc, ◌+◌, ◌-◌, ◌*◌, ◌^◌, ◌<◌, ◌≤◌, List, [], ◌∷◌, length, take, drop, get_or, inl, inr, sym, ap, ◌∙◌, arith, true, false}
+use Rattle.std.proofs.lemmas.Bool.{cases_lt}
 use Rattle.std.proofs.lemmas.Bool.Decides.{nat_tests}
 use Rattle.std.proofs.lemmas.List.{append-nil}
 use Rattle.std.proofs.Math.Seq.{take-length}
-use Rattle.std.proofs.Math.Nat.{mul-le-mul_right}
-use Rattle.std.specs.List.{flat_map}
+use Rattle.std.proofs.Math.Nat.{mul-le-mul_left, mul-le-mul_right}
+use Rattle.std.specs.List.{flat_map, list_any}
 use Rattle.h5_model.specs.Tree.Places.{cells}
 use Rattle.h5_model.specs.declared.Axis.{Axis}
-use Rattle.h5_model.specs.Views.Selection.{Slab, fits_along, fits_all, has_no_cell, selects_none}
+use Rattle.h5_model.specs.Views.Selection.{Slab, fits_along, fits_all, has_no_cell, overlaps, selects_none}
 use Rattle.h5_model.proofs.WithinLaws.{both, neither}
 use Rattle.h5_shape.specs.Loops.{spaced, selected_from, first_place}
 use Rattle.h5_shape.proofs.LoopLaws.{same_flat, flat_flat}
@@ -94,3 +95,39 @@ some_count [] a0 wide some = absurd (omega arith)
 some_count (a ∷ rest) a0 wide some =
     let parts : (has_no_cell a ≡ false) × (selects_none rest ≡ false) = neither (has_no_cell a) (selects_none rest) some in
     grind (arith, nat_tests, parts.0)
+
+-- an axis selects no more numbers than the size
+axis_cells : (a : Axis) (d : ℕ) → fits_along d a ≡ true → overlaps a ≡ false → 0 < a.count → a.count * a.block ≤ d
+axis_cells a d fits apart some =
+    let room : a.start + (a.count - 1) * a.stride + a.block ≤ d = grind (arith, nat_tests) in
+    elim (cases_lt a.stride a.block) [
+      | inl less ↦
+          let few : a.count ≤ 1 = grind (arith, nat_tests) in
+          let one : a.count * a.block ≤ 1 * a.block = mul-le-mul_right a.block few in
+          omega (arith, one, room)
+      | inr least ↦
+          let more : (a.count - 1) * a.block ≤ (a.count - 1) * a.stride = mul-le-mul_left (a.count - 1) least in
+          let all : a.count * a.block ≡ (a.count - 1 + 1) * a.block = ap (λ n. n * a.block) (omega (arith, some)) in
+          omega (arith, more, all, room)
+    ]
+
+-- so do as many things as there are cells in the dimensions below, or fewer, once for each cell of a block, and once for each block
+pub depth_room : (sizes : List ℕ) (slab : Slab) (a0 : Axis) → 1 ≤ length sizes → 1 ≤ length slab → fits_all sizes slab ≡ true → selects_none slab ≡ false
+    → list_any overlaps slab ≡ false → (c n m : ℕ) → c ≡ cells (take (length sizes - 1) (drop 1 sizes)) → n ≤ c → m ≤ n * (get_or slab 0 a0).block
+    → (m ≤ cells sizes) × (m * (get_or slab 0 a0).count ≤ cells sizes)
+depth_room [] slab a0 long wide fits some apart c n m below low few = absurd (omega arith)
+depth_room (d ∷ ds) [] a0 long wide fits some apart c n m below low few = absurd (omega arith)
+depth_room (d ∷ ds) (a ∷ rest) a0 long wide fits some apart c n m below low few =
+    let under : c ≡ cells ds = rw (tail_is d ds) at below in
+    let split : (fits_along d a ≡ true) × (fits_all ds rest ≡ true) = both (fits_along d a) (fits_all ds rest) fits in
+    let parts : (has_no_cell a ≡ false) × (selects_none rest ≡ false) = neither (has_no_cell a) (selects_none rest) some in
+    let blocks : (overlaps a ≡ false) × (list_any overlaps rest ≡ false) = neither (overlaps a) (list_any overlaps rest) apart in
+    let count : 0 < a.count = grind (arith, nat_tests, parts.0) in
+    let cells_along : a.count * a.block ≤ d = axis_cells a d split.0 blocks.0 count in
+    let rows : (a.count * a.block) * c ≤ d * c = mul-le-mul_right c cells_along in
+    let first : n * (a.count * a.block) ≤ c * (a.count * a.block) = mul-le-mul_right (a.count * a.block) low in
+    let times : m * a.count ≤ (n * a.block) * a.count = mul-le-mul_right a.count few in
+    let once : m * 1 ≤ m * a.count = mul-le-mul_left m count in
+    let top : d * c ≡ d * cells ds = ap (λ (k : ℕ). d * k) under in
+    let all : m * a.count ≤ d * cells ds = omega (arith, top, times, first, rows) in
+    (omega (arith, once, all), all)

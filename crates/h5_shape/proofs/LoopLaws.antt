@@ -1,11 +1,14 @@
 -- Spaced places, and loops over them.
-use Rattle.std.proofs.Common.{◌≡◌, ℕ, zero, suc, ◌+◌, ◌-◌, ◌*◌, ◌<◌, ◌≤◌, List, [], ◌∷◌, ◌++◌, drop, set, get_or, length, subst, map, refl, sym, ap, ◌∙◌, arith}
-use Rattle.std.proofs.lemmas.Grind.{flat_map-append}
-use Rattle.std.proofs.lemmas.List.{append-nil, drop_more, drop-set}
+use Rattle.std.proofs.Common.{◌≡◌, ℕ, zero, suc, Option, Some, None, IfSome, ◌+◌, ◌-◌, ◌*◌, ◌^◌, ◌<◌, ◌≤◌, List, [], ◌∷◌, ◌++◌, inl, inr, take, drop, set, get_or, length, subst, map, refl, sym, ap, ◌∙◌, arith}
+use Rattle.std.proofs.lemmas.Bool.{cases_lt}
+use Rattle.std.proofs.lemmas.Grind.{flat_map-append, pow_more}
+use Rattle.std.proofs.lemmas.List.{append-nil, drop_more, drop-set, drop-set-lt, get_or-take, get_or-set_same, take-take, take-set}
+use Rattle.std.proofs.lemmas.Nat.{pow_below}
+use Rattle.std.proofs.Math.Nat.{mul-le-mul_left, pow-le-pow_right}
 use Rattle.std.specs.List.{flat_map}
 use Rattle.h5_shape.specs.declared.loops.Loop.{Loop}
 use Rattle.h5_shape.specs.declared.loops.LoopNest.{LoopNest}
-use Rattle.h5_shape.specs.Loops.{spaced, loop_places, nest_places, ahead, AreAtStart, ArePlacesBelow, nest_cells}
+use Rattle.h5_shape.specs.Loops.{spaced, loop_places, nest_places, place_reached, ahead, AreAtStart, AreWithin, IsStanding, ArePlacesBelow, GoesOn, nest_cells}
 
 -- ---- lists
 
@@ -50,14 +53,28 @@ pub nest_places-push : (ls : List Loop) (l : Loop) (p : ℕ) → nest_places (ls
 nest_places-push [] l p = append-nil (loop_places l p) ∙ sym (flat_one (loop_places l p))
 nest_places-push (k ∷ ls) l p = ap (flat_map (loop_places k)) (nest_places-push ls l p) ∙ flat_flat (loop_places k) (nest_places ls) (loop_places l p)
 
-pub start-push : (ls : List Loop) (l : Loop) → AreAtStart ls → l.left ≡ l.more → l.place ≡ 0 → AreAtStart (ls ++ l ∷ [])
-start-push [] l all whole first = (whole, first, tt)
-start-push (k ∷ ls) l all whole first = (all.0, all.1, start-push ls l all.2 whole first)
+pub start-push : (ls : List Loop) (l : Loop) → AreAtStart ls → l.left ≡ l.more → AreAtStart (ls ++ l ∷ [])
+start-push [] l all whole = (whole, tt)
+start-push (k ∷ ls) l all whole = (all.0, start-push ls l all.1 whole)
 
--- where each loop stands at its first place, what follows is all the rest
+-- where each loop stands at its first place, that is 0, and what follows is all the rest
+start-zero : (ls : List Loop) → AreAtStart ls → place_reached ls ≡ 0
+start-zero [] h = refl
+start-zero (l ∷ ls) h =
+    let none : l.more - l.left ≡ 0 = omega (arith, h.0) in
+    let rest : place_reached ls ≡ 0 = start-zero ls h.1 in
+    rw (none, rest) (omega arith)
+
+start-within : (ls : List Loop) → AreAtStart ls → AreWithin ls
+start-within [] h = tt
+start-within (l ∷ ls) h = (omega (arith, h.0), start-within ls h.1)
+
+pub start-stands : (ls : List Loop) → AreAtStart ls → IsStanding ls 0
+start-stands ls h = record { at = sym (start-zero ls h); within = start-within ls h }
+
 pub start-ahead : (ls : List Loop) → AreAtStart ls → 0 ∷ ahead ls ≡ nest_places ls 0
 start-ahead [] h = refl
-start-ahead (l ∷ ls) h = rw (h.0, h.1) (ap (flat_map (loop_places l)) (start-ahead ls h.2))
+start-ahead (l ∷ ls) h = rw (start-zero (l ∷ ls) h, h.0) (ap (flat_map (loop_places l)) (start-ahead ls h.1))
 
 -- ---- a nest of loops
 
@@ -111,29 +128,143 @@ spaced-step : (n step p : ℕ) → 0 < n → spaced n step p ≡ p ∷ spaced (n
 spaced-step zero step p some = absurd (omega arith)
 spaced-step (suc n) step p some = let less : suc n - 1 ≡ n = omega arith in rw less refl
 
--- the loop after a step of its own
+-- the loop after a step of its own, and behind its last place at its first again
 abbrev pub stepped : Loop → Loop
-stepped l = record { step = l.step; more = l.more; left = l.left - 1; place = l.place + l.step }
+stepped l = record { step = l.step; more = l.more; left = l.left - 1 }
 
-pub ahead_step : (loops : List Loop) (k : ℕ) (d : Loop) → k < length loops → 0 < (get_or loops k d).left
-    → ahead (drop k loops) ≡ ((get_or loops k d).place + (get_or loops k d).step) ∷ ahead (drop k (set loops k (stepped (get_or loops k d))))
-ahead_step loops k d low some =
+abbrev pub restarted : Loop → Loop
+restarted l = record { step = l.step; more = l.more; left = l.more }
+
+stands_after : (l : Loop) (ls : List Loop) → 0 < l.left → l.left ≤ l.more → place_reached (stepped l ∷ ls) ≡ place_reached (l ∷ ls) + l.step
+stands_after l ls some low =
+    let more : l.more - (l.left - 1) ≡ suc (l.more - l.left) = omega arith in
+    rw more (omega arith)
+
+step_first : (l : Loop) (ls : List Loop) → 0 < l.left → l.left ≤ l.more
+    → ahead (l ∷ ls) ≡ (place_reached (l ∷ ls) + l.step) ∷ ahead (stepped l ∷ ls)
+step_first l ls some low =
+    ap (λ (xs : List ℕ). xs ++ flat_map (loop_places l) (ahead ls)) (spaced-step l.left l.step (place_reached (l ∷ ls) + l.step) some)
+    ∙ ap (λ (p : ℕ). (place_reached (l ∷ ls) + l.step) ∷ (spaced (l.left - 1) l.step (p + l.step) ++ flat_map (loop_places l) (ahead ls))) (sym (stands_after l ls some low))
+
+-- what a step of loop k gives and leaves
+pub record StepsTo (loops : List Loop) (k place : ℕ) (after : List Loop) : Type 0 where
+  pub next : ahead (drop k loops) ≡ place ∷ ahead (drop k after)
+  pub stands : IsStanding (drop k after) place
+
+pub own_step : (loops : List Loop) (k place : ℕ) (d : Loop) → k < length loops → 0 < (get_or loops k d).left → IsStanding (drop k loops) place
+    → StepsTo loops k (place + (get_or loops k d).step) (set loops k (stepped (get_or loops k d)))
+own_step loops k place d low some h =
     let l = get_or loops k d in
-    let rest = flat_map (loop_places l) (ahead (drop (k + 1) loops)) in
-    ap ahead (drop_more loops k d low)
-    ∙ ap (λ (xs : List ℕ). xs ++ rest) (spaced-step l.left l.step (l.place + l.step) some)
-    ∙ ap (λ (xs : List Loop). (l.place + l.step) ∷ ahead xs) (sym (drop-set loops k (stepped l) low))
+    let rest = drop (k + 1) loops in
+    let all : drop k loops ≡ l ∷ rest = drop_more loops k d low in
+    let after : drop k (set loops k (stepped l)) ≡ stepped l ∷ rest = drop-set loops k (stepped l) low in
+    let at : place ≡ place_reached (l ∷ rest) = h.at ∙ ap place_reached all in
+    let within : AreWithin (l ∷ rest) = subst AreWithin all h.within in
+    record {
+      next = ap ahead all ∙ step_first l rest some within.0 ∙ ap (λ (p : ℕ). (p + l.step) ∷ ahead (stepped l ∷ rest)) (sym at)
+          ∙ ap (λ (xs : List Loop). (place + l.step) ∷ ahead xs) (sym after);
+      stands = subst (λ (xs : List Loop). IsStanding xs (place + l.step)) (sym after) (record {
+        at = ap (λ (p : ℕ). p + l.step) at ∙ sym (stands_after l rest some within.0);
+        within = (omega (arith, within.0), within.1);
+      });
+    }
 
-pub step_below : (bound : ℕ) (loops : List Loop) (k : ℕ) (d : Loop) → k < length loops → 0 < (get_or loops k d).left
-    → ArePlacesBelow bound (ahead (drop k loops)) → (get_or loops k d).place + (get_or loops k d).step < bound
-step_below bound loops k d low some h =
-    let moved : ArePlacesBelow bound (((get_or loops k d).place + (get_or loops k d).step) ∷ ahead (drop k (set loops k (stepped (get_or loops k d))))) =
-    subst (ArePlacesBelow bound) (ahead_step loops k d low some) h in
+pub step_below : (bound : ℕ) (loops : List Loop) (k place : ℕ) (d : Loop) → k < length loops → 0 < (get_or loops k d).left → IsStanding (drop k loops) place
+    → ArePlacesBelow bound (ahead (drop k loops)) → place + (get_or loops k d).step < bound
+step_below bound loops k place d low some stands h =
+    let after = set loops k (stepped (get_or loops k d)) in
+    let moved : ArePlacesBelow bound ((place + (get_or loops k d).step) ∷ ahead (drop k after)) =
+    subst (ArePlacesBelow bound) (own_step loops k place d low some stands).next h in
     moved.0
 
-pub rest_below : (bound : ℕ) (loops : List Loop) (k : ℕ) (d : Loop) → k < length loops
-    → ArePlacesBelow bound (ahead (drop k loops)) → ArePlacesBelow bound (ahead (drop (k + 1) loops))
-rest_below bound loops k d low h =
+-- ---- behind the last place of a loop
+
+rest_below : (bound : ℕ) (l : Loop) (ls : List Loop) → ArePlacesBelow bound (ahead (l ∷ ls)) → ArePlacesBelow bound (ahead ls)
+rest_below bound l ls h =
+    below-starts bound l (ahead ls) (below-right bound (spaced l.left l.step (place_reached (l ∷ ls) + l.step)) (flat_map (loop_places l) (ahead ls)) h)
+
+-- where the loops around loop k stand
+pub record StandsAround (loops : List Loop) (k place bound : ℕ) (d : Loop) (after : List Loop) : Type 0 where
+  pub enough : (get_or loops k d).more * (get_or loops k d).step ≤ place
+  pub stands : IsStanding (drop (k + 1) after) (place - (get_or loops k d).more * (get_or loops k d).step)
+  pub small : ArePlacesBelow bound (ahead (drop (k + 1) after))
+
+pub around : (loops : List Loop) (k place bound : ℕ) (d v : Loop) → k < length loops → (get_or loops k d).left ≡ 0 → IsStanding (drop k loops) place
+    → ArePlacesBelow bound (ahead (drop k loops)) → StandsAround loops k place bound d (set loops k v)
+around loops k place bound d v low last h small =
     let l = get_or loops k d in
-    let whole : ArePlacesBelow bound (ahead (l ∷ drop (k + 1) loops)) = subst (λ (xs : List Loop). ArePlacesBelow bound (ahead xs)) (drop_more loops k d low) h in
-    below-starts bound l (ahead (drop (k + 1) loops)) (below-right bound (spaced l.left l.step (l.place + l.step)) (flat_map (loop_places l) (ahead (drop (k + 1) loops))) whole)
+    let rest = drop (k + 1) loops in
+    let all : drop k loops ≡ l ∷ rest = drop_more loops k d low in
+    let same : drop (k + 1) (set loops k v) ≡ rest = drop-set-lt (k + 1) loops k v (omega arith) in
+    let within : AreWithin (l ∷ rest) = subst AreWithin all h.within in
+    let whole : l.more - l.left ≡ l.more = omega (arith, last) in
+    let at : place ≡ l.more * l.step + place_reached rest = h.at ∙ ap place_reached all ∙ ap (λ (n : ℕ). n * l.step + place_reached rest) whole in
+    record {
+      enough = omega (arith, at);
+      stands = rw same (record { at = omega (arith, at); within = within.1 });
+      small = rw same (rest_below bound l rest (subst (λ (xs : List Loop). ArePlacesBelow bound (ahead xs)) all small));
+    }
+
+module _ (l : Loop) (ls after : List Loop) (last : l.left ≡ 0) where
+  goes_around : (given : Option ℕ) → GoesOn (ahead ls) given (ahead after) → IfSome given (IsStanding after)
+      → GoesOn (ahead (l ∷ ls)) given (ahead (restarted l ∷ after))
+  goes_around None none stands = rw (last, none) refl
+  goes_around (Some p) next stands =
+      let none : l.more - l.more ≡ 0 = omega arith in
+      let at : (l.more - l.more) * l.step + place_reached after ≡ p = rw none (omega (arith, stands.at)) in
+      rw (last, next, at) refl
+
+  stands_around : (given : Option ℕ) → IfSome given (IsStanding after) → IfSome given (IsStanding (restarted l ∷ after))
+  stands_around None stands = tt
+  stands_around (Some p) stands =
+      let none : l.more - l.more ≡ 0 = omega arith in
+      record { at = rw none (omega (arith, stands.at)); within = (omega arith, stands.within) }
+
+-- what a step of the loops around loop k gives and leaves, which starts again
+pub record GoesAround (loops : List Loop) (k : ℕ) (given : Option ℕ) (after : List Loop) : Type 0 where
+  pub next : GoesOn (ahead (drop k loops)) given (ahead (drop k after))
+  pub stands : IfSome given (IsStanding (drop k after))
+  pub kept : take k after ≡ take k loops
+
+pub step_around : (loops after : List Loop) (k : ℕ) (d : Loop) (given : Option ℕ) → k < length loops → k < length after → (get_or loops k d).left ≡ 0
+    → (let between = set loops k (restarted (get_or loops k d)) in
+    (GoesOn (ahead (drop (k + 1) between)) given (ahead (drop (k + 1) after))) × (IfSome given (IsStanding (drop (k + 1) after)))
+    × (take (k + 1) after ≡ take (k + 1) between)) → GoesAround loops k given after
+step_around loops after k d given low long last h =
+    let l = get_or loops k d in
+    let between = set loops k (restarted l) in
+    let rest = drop (k + 1) loops in
+    let first : k < k + 1 = omega arith in
+    let all : drop k loops ≡ l ∷ rest = drop_more loops k d low in
+    let same : drop (k + 1) between ≡ rest = drop-set-lt (k + 1) loops k (restarted l) first in
+    let here : get_or after k d ≡ restarted l =
+    sym (get_or-take (k + 1) after k d first) ∙ ap (λ (xs : List Loop). get_or xs k d) h.2 ∙ get_or-take (k + 1) between k d first ∙ get_or-set_same loops k (restarted l) d low in
+    let now : drop k after ≡ restarted l ∷ drop (k + 1) after = drop_more after k d long ∙ ap (λ (x : Loop). x ∷ drop (k + 1) after) here in
+    record {
+      next = rw (all, now) (goes_around l rest (drop (k + 1) after) last given (rw same at h.0) h.1);
+      stands = rw now (stands_around l rest (drop (k + 1) after) last given h.1);
+      kept = sym (take-take k (k + 1) after (omega arith)) ∙ ap (take k) h.2 ∙ take-take k (k + 1) between (omega arith) ∙ take-set loops k (restarted l);
+    }
+
+-- ---- how many loops there are
+
+-- where each has two places or more, and together they have at most 2^40, there is room for one more
+pub few_loops : (depth count : ℕ) → 1 < count → 2 ^ depth * count ≤ 2 ^ 40 → depth < 40
+few_loops depth count more room = elim (cases_lt depth 40) [
+  | inl less ↦ less
+  | inr least ↦
+      let high : 2 ^ 40 ≤ 2 ^ depth = pow-le-pow_right (omega arith) least in
+      let twice : 2 ^ depth * 2 ≤ 2 ^ depth * count = mul-le-mul_left (2 ^ depth) more in
+      absurd (omega (arith, high, twice, room))
+]
+
+pub depth_low : (depth : ℕ) → 2 ^ depth ≤ 2 ^ 40 → depth ≤ 40
+depth_low depth room = elim (cases_lt 40 depth) [
+  | inl more ↦ absurd (omega (arith, pow_below 40 depth more, room))
+  | inr least ↦ least
+]
+
+pub deeper : (depth count : ℕ) → 1 < count → 2 ^ (depth + 1) ≤ 2 ^ depth * count
+deeper depth count more =
+    let twice : 2 ^ depth * 2 ≤ 2 ^ depth * count = mul-le-mul_left (2 ^ depth) more in
+    omega (arith, pow_more 2 depth, twice)

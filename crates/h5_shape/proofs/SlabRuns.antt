@@ -17,10 +17,10 @@ within_fits sizes slab within some =
     ap (λ (b : Bool). b || fits_all sizes slab) (sym some) ∙ test
 
 -- loops over the places that the axes list go over the selected cells
-left_fitting : (nest : LoopNest) (sizes : List ℕ) (slab : Slab) → AreAtStart (take nest.depth nest.loops) → nest.origin ≡ first_place sizes slab
+pub left_some : (nest : LoopNest) (sizes : List ℕ) (slab : Slab) → AreAtStart (take nest.depth nest.loops) → nest.origin ≡ first_place sizes slab
     → ((p : ℕ) → nest_cells nest p ≡ selected_from sizes slab p) → length sizes ≡ length slab → fits_all sizes slab ≡ true → list_any overlaps slab ≡ false
     → left_of nest 0 true ≡ selection_of sizes slab
-left_fitting nest sizes slab fresh origin cells same fits apart =
+left_some nest sizes slab fresh origin cells same fits apart =
     let places = nest_places (take nest.depth nest.loops) 0 in
     let o = nest.origin in
     let none : o + 0 ≡ o = omega arith in
@@ -31,15 +31,6 @@ left_fitting nest sizes slab fresh origin cells same fits apart =
     ∙ sym (selected_from_shift o sizes slab 0)
     ∙ ap (selected_from sizes slab) (none ∙ origin)
     ∙ sym (selection-from sizes slab same fits apart)
-
-pub left_some : (nest : LoopNest) (sizes : List ℕ) (slab : Slab) (lent : List ℕ) (axes : Slab) → lent ≡ sizes → axes ≡ slab
-    → AreAtStart (take nest.depth nest.loops) → nest.origin ≡ first_place lent axes → ((p : ℕ) → nest_cells nest p ≡ selected_from lent axes p)
-    → length sizes ≡ length slab → Within sizes slab → selects_none slab ≡ false → list_any overlaps slab ≡ false
-    → left_of nest 0 true ≡ selection_of sizes slab
-left_some nest sizes slab lent axes numbers same fresh origin cells rank within some apart =
-    let start : nest.origin ≡ first_place sizes slab = rw (numbers, same) at origin in
-    let all : (p : ℕ) → nest_cells nest p ≡ selected_from sizes slab p = rw (numbers, same) at cells in
-    left_fitting nest sizes slab fresh start all rank (within_fits sizes slab within some) apart
 
 below_filter : (p : ℕ → Bool) (bound a n : ℕ) → a + n ≤ bound → ArePlacesBelow bound (filter p (range_with_len a n))
 below_filter p bound a zero room = tt

@@ -1,6 +1,6 @@
 -- Selected cells by nested loops, the innermost first: for each dimension one over the cells of a block and one over the blocks
 -- (HDF5 dataspace reference, H5Sselect_hyperslab).
-use Rattle.std.specs.Prelude.{◌≡◌, ℕ, zero, suc, ◌+◌, ◌*◌, ◌<◌, List, [], ◌∷◌, ◌++◌, ⊤, take, Option, MatchOption}
+use Rattle.std.specs.Prelude.{◌≡◌, ℕ, zero, suc, ◌+◌, ◌-◌, ◌*◌, ◌<◌, ◌≤◌, List, [], ◌∷◌, ◌++◌, ⊤, take, Option, MatchOption}
 use Rattle.std.specs.List.{flat_map}
 use Rattle.h5_model.specs.Tree.Places.{cells}
 use Rattle.h5_model.specs.Views.Selection.{Slab}
@@ -21,10 +21,15 @@ abbrev pub nest_places : List Loop → ℕ → List ℕ
 nest_places [] place = place ∷ []
 nest_places (l ∷ ls) place = flat_map (loop_places l) (nest_places ls place)
 
--- the places that follow the one where the loops stand
+-- the place where the loops stand
+abbrev pub place_reached : List Loop → ℕ
+place_reached [] = 0
+place_reached (l ∷ ls) = (l.more - l.left) * l.step + place_reached ls
+
+-- the places that follow this one
 abbrev pub ahead : List Loop → List ℕ
 ahead [] = []
-ahead (l ∷ ls) = spaced l.left l.step (l.place + l.step) ++ flat_map (loop_places l) (ahead ls)
+ahead (l ∷ ls) = spaced l.left l.step (place_reached (l ∷ ls) + l.step) ++ flat_map (loop_places l) (ahead ls)
 
 -- the same of a nest
 abbrev pub nest_ahead : LoopNest → List ℕ
@@ -34,10 +39,20 @@ nest_ahead nest = ahead (take nest.depth nest.loops)
 abbrev pub GoesOn : List ℕ → Option ℕ → List ℕ → Type 0
 GoesOn places given left = MatchOption given (places ≡ []) (λ place. places ≡ place ∷ left)
 
--- each loop stands at its first place, 0
+-- each loop stands at its first place
 abbrev pub AreAtStart : List Loop → Type 0
 AreAtStart [] = ⊤
-AreAtStart (l ∷ ls) = (l.left ≡ l.more) × (l.place ≡ 0) × AreAtStart ls
+AreAtStart (l ∷ ls) = (l.left ≡ l.more) × AreAtStart ls
+
+-- no loop has more places to come than follow its first
+abbrev pub AreWithin : List Loop → Type 0
+AreWithin [] = ⊤
+AreWithin (l ∷ ls) = (l.left ≤ l.more) × AreWithin ls
+
+-- the loops stand at this place
+pub record IsStanding (loops : List Loop) (place : ℕ) : Type 0 where
+  pub at : place ≡ place_reached loops
+  pub within : AreWithin loops
 
 -- each number is below the bound
 abbrev pub ArePlacesBelow : ℕ → List ℕ → Type 0

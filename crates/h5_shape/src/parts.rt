@@ -66,22 +66,6 @@ impl<'a> ChunkParts<'a> {
     ghost use Rattle.h5_shape.specs.Parts.{parts_of};
     ghost use Rattle.h5_shape.specs.PartLent.{EndsWithoutFirst};
 
-    /// The parts of a selection of some cell.
-    pub(crate) fn new(axes: &'a [Axis], chunk: &'a [u64]) -> ChunkParts<'a>
-        requires rank { length axes.now ≤ 32 }
-        requires boxed { AreBoxed axes.now chunk.now }
-        ensures { result ≡ parts_of axes.now chunk.now }
-    {
-        let mut spans = [NO_SPAN; 32];
-        start(axes, chunk, &mut spans[..axes.len()], 0);
-        ChunkParts {
-            axes,
-            chunk,
-            spans,
-            stage: Stage::Before,
-        }
-    }
-
     /// No part.
     pub(crate) fn none(axes: &'a [Axis], chunk: &'a [u64]) -> ChunkParts<'a>
         requires { length axes.now ≤ 32 }
@@ -93,6 +77,18 @@ impl<'a> ChunkParts<'a> {
             spans: [NO_SPAN; 32],
             stage: Stage::Behind,
         }
+    }
+
+    /// Goes over to the parts of a selection of some cell.
+    pub(crate) fn select(&mut self, axes: &'a [Axis], chunk: &'a [u64])
+        requires rank { length axes.now ≤ 32 }
+        requires boxed { AreBoxed axes.now chunk.now }
+        ensures { self.new ≡ parts_of axes.now chunk.now }
+    {
+        self.axes = axes;
+        self.chunk = chunk;
+        start(axes, chunk, &mut self.spans[..axes.len()], 0);
+        self.stage = Stage::Before;
     }
 
     /// Lends the next of the parts that are left: for each dimension the selected numbers in its box.

@@ -1,8 +1,13 @@
 //! The selected cells as runs of consecutive places.
-ghost use Rattle.std.specs.Prelude.{◌≡◌};
+ghost use Rattle.std.specs.Prelude.{◌≡◌, ◌^◌, ◌≤◌, [], false, length};
 ghost use Rattle.std.specs.Iterator.{YieldsFirst, item_count};
+ghost use Rattle.std.specs.List.{list_any};
+ghost use Rattle.h5_model.specs.Tree.Places.{cells};
+ghost use Rattle.h5_model.specs.Views.Selection.{Within, overlaps, selection_of, selects_none};
+ghost use Rattle.h5_shape.specs.Runs.{cell_runs};
 
 use crate::loops::LoopNest;
+use h5_model::Axis;
 use std::marker::Model;
 
 /// Consecutive row-major places.
@@ -37,19 +42,31 @@ impl Model for CellRuns {
 }
 
 impl CellRuns {
-    ghost use Rattle.h5_shape.specs.Runs.{cell_runs};
-    ghost use Rattle.h5_shape.specs.Left.{left_of, IsRoomy};
-
-    /// The runs of these loops, or none.
-    pub(crate) fn new(nest: LoopNest, has_more: bool) -> CellRuns
-        requires { IsRoomy nest 0 has_more }
-        ensures { result ≡ cell_runs (left_of nest 0 has_more) }
+    /// No run.
+    pub(crate) fn none() -> CellRuns
+        ensures { result ≡ [] }
     {
         CellRuns {
-            nest,
+            nest: LoopNest::one_cell(),
             place: 0,
-            has_more,
+            has_more: false,
         }
+    }
+
+    /// Goes over to the runs of the cells that these axes select. They are written where they are to stand, since loops
+    /// for all dimensions that there can be are too long to be moved for nothing.
+    pub(crate) fn select(&mut self, sizes: &[u64], axes: &[Axis])
+        requires rank { length sizes.now ≡ length axes.now }
+        requires within { Within sizes.now axes.now }
+        requires some { selects_none axes.now ≡ false }
+        requires apart { list_any overlaps axes.now ≡ false }
+        requires small { cells sizes.now ≤ 2 ^ 40 }
+        ensures { self.new ≡ cell_runs (selection_of sizes.now axes.now) }
+    {
+        self.nest.clear();
+        self.nest.select(sizes, axes);
+        self.place = 0;
+        self.has_more = true;
     }
 }
 
@@ -67,7 +84,7 @@ impl Iterator for CellRuns {
         let place = self.nest.origin + self.place;
         let mut end = self.place + self.nest.length;
         self.has_more = false;
-        while let Some(next) = self.nest.next_place() {
+        while let Some(next) = self.nest.next_place(self.place) {
             self.place = next;
             if next != end {
                 self.has_more = true;

@@ -9,7 +9,6 @@ ghost use Rattle.h5_shape.specs.Runs.{AreMaximal, places_in, cell_runs};
 
 use crate::dims::{Dims, MAX_RANK};
 use crate::hyper::HyperRef;
-use crate::loops::LoopNest;
 use crate::parts::ChunkParts;
 use crate::runs::CellRuns;
 use h5_model::Axis;
@@ -122,12 +121,11 @@ impl Slab {
         ensures places { places_in result ≡ selection_of dims.now self.now }
         ensures maximal { AreMaximal result }
     {
-        let mut nest = LoopNest::one_cell();
-        let has_more = !is_empty(self.axes());
-        if has_more {
-            nest.select(dims.sizes(), self.axes());
+        let mut runs = CellRuns::none();
+        if !is_empty(self.axes()) {
+            runs.select(dims.sizes(), self.axes());
         }
-        CellRuns::new(nest, has_more)
+        runs
     }
 
     /// Whether there is a selected cell, and all selected cells stand at consecutive row-major places.
@@ -156,17 +154,18 @@ impl Slab {
         ensures value { result ≡ parts_of self.now chunk.now }
         ensures parted { AreParted self.now chunk.now result }
     {
-        if is_empty(self.axes()) {
-            return ChunkParts::none(self.axes(), chunk);
+        let mut parts = ChunkParts::none(self.axes(), chunk);
+        if !is_empty(self.axes()) {
+            parts.select(self.axes(), chunk);
         }
-        ChunkParts::new(self.axes(), chunk)
+        parts
     }
 }
 
 /// What stands behind the last axis.
 const NO_AXIS: Axis = Axis {
     start: 0,
-    stride: 1,
+    stride: 0,
     count: 0,
     block: 0,
 };

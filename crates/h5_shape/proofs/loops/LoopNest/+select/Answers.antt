@@ -1,8 +1,9 @@
-use Rattle.std.proofs.Common.{◌≡◌, ◌*◌, ◌<◌, arith, get_or, ap, ◌∙◌}
+use Rattle.std.proofs.Common.{◌≡◌, ◌*◌, ◌^◌, ◌<◌, ◌≤◌, arith, get_or, ap, ◌∙◌}
+use Rattle.std.proofs.Math.Nat.{mul-le-mul_right}
 use Rattle.h5_model.specs.declared.Axis.{Axis}
 use Rattle.h5_shape.specs.declared.loops.LoopNest.{LoopNest}
 use Rattle.h5_shape.specs.Loops.{nest_cells}
-use Rattle.h5_shape.proofs.AxisLaws.{select_step, one_block, step_room, origin_room, some_count}
+use Rattle.h5_shape.proofs.AxisLaws.{select_step, one_block, step_room, depth_room, origin_room, some_count}
 use Rattle.h5_shape.proofs.loops.LoopNest.+select.Goals as goal
 use Rattle.h5_shape.proofs.loops.LoopNest.+select.Goals.{then-axis-gt1, else-axis-gt1}
 
@@ -12,6 +13,48 @@ none = record { start = 0; stride = 0; count = 0; block = 0 }
 pub repeat-requires-then-axis-gt1-clause-small : goal.repeat-requires-then-axis-gt1-clause-small
 repeat-requires-then-axis-gt1-clause-small t c =
     step_room c.args.sizes.now c.args.axes.now none (omega arith) (omega arith) c.requires.fits (omega arith) c.requires.small c.select-below.result c.select-below.ensures.cells
+
+pub overflow_mul-axis : goal.overflow_mul-axis
+overflow_mul-axis t c =
+    let a = get_or c.args.axes.now 0 none in
+    let step = a.stride * c.select-below.result in
+    let room = step_room c.args.sizes.now c.args.axes.now none (omega arith) (omega arith) c.requires.fits (omega arith) c.requires.small
+    c.select-below.result c.select-below.ensures.cells in
+    let once : 1 * step ≤ a.count * step = mul-le-mul_right step (omega arith) in
+    omega (arith, room, once)
+
+pub repeat-requires-clause-room : goal.repeat-requires-clause-room
+repeat-requires-clause-room t c =
+    let before = 2 ^ c.select-below.new.self.depth in
+    let a = get_or c.args.axes.now 0 none in
+    omega (
+      arith,
+      (depth_room c.args.sizes.now c.args.axes.now none (omega arith) (omega arith) c.requires.fits c.requires.some c.requires.apart
+          c.select-below.result before (before * a.block) c.select-below.ensures.cells (omega arith) (omega arith)).0,
+      c.requires.small,
+    )
+
+pub repeat-requires-then-axis-gt1-clause-room : goal.repeat-requires-then-axis-gt1-clause-room
+repeat-requires-then-axis-gt1-clause-room t c =
+    omega (
+      arith,
+      (depth_room c.args.sizes.now c.args.axes.now none (omega arith) (omega arith) c.requires.fits c.requires.some c.requires.apart
+          c.select-below.result (2 ^ c.select-below.new.self.depth) (2 ^ c.repeat.new.self.depth) c.select-below.ensures.cells (omega arith) c.repeat.ensures.depth).1,
+      c.requires.small,
+    )
+
+pub returns-clause-depth : goal.returns-clause-depth
+returns-clause-depth t c =
+    let room = depth_room c.args.sizes.now c.args.axes.now none (omega arith) (omega arith) c.requires.fits c.requires.some c.requires.apart
+    c.select-below.result (2 ^ c.select-below.new.self.depth) (2 ^ c.repeat.new.self.depth) c.select-below.ensures.cells (omega arith) c.repeat.ensures.depth in
+    elim c.if-axis-gt1.branch [
+      | then-axis-gt1 w ↦
+          let same : 2 ^ c.if-axis-gt1.self.depth ≡ 2 ^ w.repeat-then-axis-gt1.new.self.depth = ap (λ (l : LoopNest). 2 ^ l.depth) w.self-is in
+          omega (arith, same, w.repeat-then-axis-gt1.ensures.depth, room.1)
+      | else-axis-gt1 w ↦
+          let same : 2 ^ c.if-axis-gt1.self.depth ≡ 2 ^ c.repeat.new.self.depth = ap (λ (l : LoopNest). 2 ^ l.depth) w.self-is in
+          omega (arith, same, room.0)
+    ]
 
 pub overflow_add-self : goal.overflow_add-self
 overflow_add-self t c =

@@ -3,7 +3,7 @@ use Rattle.std.proofs.lemmas.List.{take_more_set}
 use Rattle.std.specs.List.{flat_map}
 use Rattle.h5_shape.specs.declared.loops.Loop.{Loop}
 use Rattle.h5_shape.specs.Loops.{spaced, nest_places, nest_cells, AreAtStart}
-use Rattle.h5_shape.proofs.LoopLaws.{merged, pushed, start-push}
+use Rattle.h5_shape.proofs.LoopLaws.{merged, pushed, start-push, few_loops}
 use Rattle.h5_shape.proofs.loops.LoopNest.repeat.Goals as goal
 
 pub returns-then-step-self-clause-cells : goal.returns-then-step-self-clause-cells
@@ -16,8 +16,8 @@ returns-then-step-self-clause-cells c =
 pub returns-clause-cells : goal.returns-clause-cells
 returns-clause-cells c =
     let nest = c.args.self.now in
-    let l : Loop = record { step = c.args.step; more = c.args.count - 1; left = c.args.count - 1; place = 0 } in
-    let low : nest.depth < length nest.loops = omega arith in
+    let l : Loop = record { step = c.args.step; more = c.args.count - 1; left = c.args.count - 1 } in
+    let low : nest.depth < length nest.loops = omega (arith, few_loops nest.depth c.args.count (omega arith) c.requires.room) in
     let whole : suc (c.args.count - 1) ≡ c.args.count = omega arith in
     λ p. ap (λ (ls : List Loop). flat_map (spaced nest.length 1) (nest_places ls p)) (take_more_set nest.loops nest.depth l low)
     ∙ pushed (take nest.depth nest.loops) l nest.length p
@@ -26,6 +26,6 @@ returns-clause-cells c =
 pub returns-clause-fresh : goal.returns-clause-fresh
 returns-clause-fresh c =
     let nest = c.args.self.now in
-    let l : Loop = record { step = c.args.step; more = c.args.count - 1; left = c.args.count - 1; place = 0 } in
-    let low : nest.depth < length nest.loops = omega arith in
-    subst AreAtStart (sym (take_more_set nest.loops nest.depth l low)) (start-push (take nest.depth nest.loops) l c.requires.fresh refl refl)
+    let l : Loop = record { step = c.args.step; more = c.args.count - 1; left = c.args.count - 1 } in
+    let low : nest.depth < length nest.loops = omega (arith, few_loops nest.depth c.args.count (omega arith) c.requires.room) in
+    subst AreAtStart (sym (take_more_set nest.loops nest.depth l low)) (start-push (take nest.depth nest.loops) l c.requires.fresh refl)

@@ -56,6 +56,7 @@ loop-next-preserved c =
       long = long;
       origin = c.next_place.ensures.origin ∙ i.origin;
       done = i.done;
+      stands = c.in-Some.ensures.stands;
       some = omega (arith, i.some);
       cells = i.cells
           ∙ ap (λ (xs : List ℕ). spaced (c.loop-next.end - p) 1 (o.origin + p) ++ cells_at o xs) (c.in-Some.ensures.next ∙ ap (λ (n : ℕ). n ∷ nest_ahead c.next_place.new.self) same)
@@ -98,10 +99,10 @@ invariant_of-self c =
       | in-Some+then-next-end w ↦
           let next : ArePlacesBelow (2 ^ 41) (cells_at new (w.in-Some.next ∷ nest_ahead new)) =
           subst (ArePlacesBelow (2 ^ 41)) (ap (cells_at o) w.in-Some.ensures.next ∙ sym (cells_same new o (w.in-Some.next ∷ nest_ahead new) long origin)) rest in
-          let room : IsRoomy new w.in-Some.next true = record { depth = omega (arith, depth, c.self.invariant.depth); long = omega (arith, long, c.self.invariant.long); small = next } in
+          let room : IsRoomy new w.in-Some.next true = record { depth = omega (arith, depth, c.self.invariant.depth); long = omega (arith, long, c.self.invariant.long); small = next; stands = w.in-Some.ensures.stands } in
           subst (λ (s : Inside). IsRoomy s.nest s.place s.has_more) (sym w.self-inside-is) room
       | in_default w ↦
-          let room : IsRoomy new c.loop-next.self-inside.place false = record { depth = omega (arith, depth, c.self.invariant.depth); long = omega (arith, long, c.self.invariant.long); small = tt } in
+          let room : IsRoomy new c.loop-next.self-inside.place false = record { depth = omega (arith, depth, c.self.invariant.depth); long = omega (arith, long, c.self.invariant.long); small = tt; stands = tt } in
           subst (λ (s : Inside). IsRoomy s.nest s.place s.has_more) (sym w.self-inside-is)
           (subst (λ (b : Bool). IsRoomy new c.loop-next.self-inside.place b) (sym i.done) room)
     ]

@@ -1,68 +1,26 @@
-use Rattle.std.proofs.Common.{◌≡◌, ◌^◌, true, false, Bool, not, List, length, sym, ap, subst, ◌∙◌, arith}
+use Rattle.std.proofs.Common.{◌≡◌, true, sym, ap, subst, ◌∙◌}
 use Rattle.h5_model.specs.Views.Selection.{selection_of, selects_none}
-use Rattle.h5_shape.specs.declared.loops.LoopNest.{LoopNest}
-use Rattle.h5_model.specs.declared.Axis.{Axis}
-use Rattle.h5_shape.specs.Loops.{ArePlacesBelow}
-use Rattle.h5_shape.specs.Left.{left_of, IsRoomy}
 use Rattle.h5_shape.specs.Runs.{AreMaximal, places_in, cell_runs}
 use Rattle.h5_shape.proofs.RunLaws.{places_of_runs, runs-maximal}
-use Rattle.h5_shape.proofs.SlabRuns.{within_fits, left_some, below_selection, selection_none}
+use Rattle.h5_shape.proofs.SlabRuns.{selection_none}
 use Rattle.h5_shape.proofs.slab.Slab.runs.Goals as goal
-use Rattle.h5_shape.proofs.slab.Slab.runs.Goals.{then-has_more, else-has_more}
 
-pub select-requires-clause-fits : goal.select-requires-clause-fits
-select-requires-clause-fits c =
-    let some : selects_none c.args.self.now ≡ false = cc in
-    rw (c.sizes.ensures.numbers, c.axes-then-has_more.ensures.axes) (within_fits c.args.dims.now c.args.self.now c.requires.within some)
+pub returns-then-not-is_empty-clause-places : goal.returns-then-not-is_empty-clause-places
+returns-then-not-is_empty-clause-places c =
+    let value : c.select.new.self ≡ cell_runs (selection_of c.args.dims.now c.args.self.now) = cc in
+    ap places_in value ∙ places_of_runs (selection_of c.args.dims.now c.args.self.now)
 
-pub new-requires : goal.new-requires
-new-requires c =
-    let dims = c.args.dims.now in
-    let slab = c.args.self.now in
-    elim c.if-has_more.branch [
-      | then-has_more w ↦
-          let nest = w.select.new.self in
-          let some : selects_none slab ≡ false = cc in
-          let flag : not c.is_empty-has_more.result ≡ true = ap not w.if-has_more.true in
-          let listing : left_of nest 0 true ≡ selection_of dims slab =
-          left_some nest dims slab _ _ w.sizes.ensures.numbers w.axes-then-has_more.ensures.axes
-          w.select.ensures.fresh w.select.ensures.origin w.select.ensures.selected c.requires.rank c.requires.within some c.axes.ensures.sound.apart in
-          let room : IsRoomy nest 0 true = record {
-            depth = (let ranks : length w.axes-then-has_more.result.now ≡ length slab = ap (λ (a : List Axis). length a) w.axes-then-has_more.ensures.axes in omega (arith, w.select.ensures.depth, ranks, c.axes.ensures.sound.rank));
-            long = w.select.ensures.long;
-            small = subst (ArePlacesBelow (2 ^ 41)) (sym listing) (below_selection (2 ^ 41) dims slab (omega (arith, c.requires.small)));
-          } in
-          subst (λ (b : Bool). IsRoomy c.if-has_more.nest 0 b) (sym flag) (subst (λ (l : LoopNest). IsRoomy l 0 true) (sym w.nest-is) room)
-      | else-has_more w ↦
-          let flag : not c.is_empty-has_more.result ≡ false = ap not w.if-has_more.false in
-          let depth : c.if-has_more.nest.depth ≡ 0 = ap (λ (l : LoopNest). l.depth) w.nest-is ∙ c.one_cell-nest.ensures.none in
-          let long : c.if-has_more.nest.length ≡ 1 = ap (λ (l : LoopNest). l.length) w.nest-is ∙ c.one_cell-nest.ensures.one in
-          let room : IsRoomy c.if-has_more.nest 0 false = record { depth = omega (arith, depth); long = omega (arith, long); small = tt } in
-          subst (λ (b : Bool). IsRoomy c.if-has_more.nest 0 b) (sym flag) room
-    ]
+pub returns-then-not-is_empty-clause-maximal : goal.returns-then-not-is_empty-clause-maximal
+returns-then-not-is_empty-clause-maximal c =
+    let value : c.select.new.self ≡ cell_runs (selection_of c.args.dims.now c.args.self.now) = cc in
+    subst AreMaximal (sym value) (runs-maximal (selection_of c.args.dims.now c.args.self.now))
 
-pub returns-clause-value : goal.returns-clause-value
-returns-clause-value c =
-    let dims = c.args.dims.now in
-    let slab = c.args.self.now in
-    elim c.if-has_more.branch [
-      | then-has_more w ↦
-          let nest = w.select.new.self in
-          let some : selects_none slab ≡ false = cc in
-          let flag : not c.is_empty-has_more.result ≡ true = ap not w.if-has_more.true in
-          let listing : left_of nest 0 true ≡ selection_of dims slab =
-          left_some nest dims slab _ _ w.sizes.ensures.numbers w.axes-then-has_more.ensures.axes
-          w.select.ensures.fresh w.select.ensures.origin w.select.ensures.selected c.requires.rank c.requires.within some c.axes.ensures.sound.apart in
-          c.new.ensures ∙ ap (λ (b : Bool). cell_runs (left_of c.if-has_more.nest 0 b)) flag
-          ∙ ap (λ (l : LoopNest). cell_runs (left_of l 0 true)) w.nest-is ∙ ap cell_runs listing
-      | else-has_more w ↦
-          let flag : not c.is_empty-has_more.result ≡ false = ap not w.if-has_more.false in
-          let none : selects_none slab ≡ true = cc in
-          c.new.ensures ∙ ap (λ (b : Bool). cell_runs (left_of c.if-has_more.nest 0 b)) flag ∙ ap cell_runs (sym (selection_none dims slab none))
-    ]
+pub returns-else-not-is_empty-clause-value : goal.returns-else-not-is_empty-clause-value
+returns-else-not-is_empty-clause-value c =
+    let none : selects_none c.args.self.now ≡ true = cc in
+    c.none-runs.ensures ∙ ap cell_runs (sym (selection_none c.args.dims.now c.args.self.now none))
 
-pub returns-clause-places : goal.returns-clause-places
-returns-clause-places c = ap places_in (returns-clause-value c) ∙ places_of_runs (selection_of c.args.dims.now c.args.self.now)
-
-pub returns-clause-maximal : goal.returns-clause-maximal
-returns-clause-maximal c = subst AreMaximal (sym (returns-clause-value c)) (runs-maximal (selection_of c.args.dims.now c.args.self.now))
+pub returns-else-not-is_empty-clause-places : goal.returns-else-not-is_empty-clause-places
+returns-else-not-is_empty-clause-places c =
+    let none : selects_none c.args.self.now ≡ true = cc in
+    ap places_in c.none-runs.ensures ∙ sym (selection_none c.args.dims.now c.args.self.now none)
