@@ -26,6 +26,8 @@ pub(crate) struct FoundRow {
     pub(crate) at: Option<u64>,
     /// The first index of the chunk.
     pub(crate) corner: [u64; 32],
+    /// How many chunks behind the first of those beside one another the chunk stands, where that is known.
+    pub(crate) number: Option<u64>,
 }
 
 /// An array in chunks: its sizes, those of a chunk, how many bytes a chunk has, the root of the tree, where chunks were
@@ -70,7 +72,7 @@ impl ChunkIndex {
           shape = record { sizes = chunk_sizes.now; bytes = cells_of chunk_sizes.now * size };
           root = root;
           cursor = record { tree = None; beside = record { first = replicate (length dims.now) 0; at = [] } };
-          row = record { start = 0; cells = 0; inner = 0; at = None; corner = replicate 32 0 };
+          row = record { start = 0; cells = 0; inner = 0; at = None; corner = replicate 32 0; number = None };
         } }
         ensures sound { AreChunkSizes chunk_sizes.now }
     {
@@ -93,6 +95,7 @@ impl ChunkIndex {
                 inner: 0,
                 at: None,
                 corner: [0; MAX_RANK],
+                number: None,
             },
         }
     }

@@ -1,8 +1,9 @@
-use Rattle.std.proofs.Common.{◌≡◌, ◌+◌, ◌-◌, ◌^◌, ◌<◌, ◌≤◌, length, get_or, min, set, take, refl, sym, subst, arith}
+use Rattle.std.proofs.Common.{◌≡◌, ℕ, ◌+◌, ◌-◌, ◌^◌, ◌<◌, ◌≤◌, Option, length, get_or, min, set, take, refl, sym, subst, arith}
 use Rattle.h5_model.specs.Tree.Grid.{corner_of}
 use Rattle.h5_model.specs.Tree.Places.{index_of}
 use Rattle.h5_layout.specs.ChunkCells.{Grid, IsGrid, left_in_row, place_in_chunk}
-use Rattle.h5_layout.proofs.NextRows.{step_back, step_beside, step_corner, step_inner, step_left, step_room, step_small}
+use Rattle.h5_layout.specs.FoundChunks.{IsNumberBeside}
+use Rattle.h5_layout.proofs.NextRows.{step_back, step_beside, step_corner, step_count, step_inner, step_left, step_number, step_room, step_small}
 use Rattle.h5_layout.proofs.grid.GridRef.run_from.Goals as goal
 
 pub overflow_add-row : goal.overflow_add-row
@@ -64,3 +65,21 @@ returns-clause-beside c =
 
 pub returns-clause-all : goal.returns-clause-all
 returns-clause-all c = λ _. all c
+
+pub next_number-row-requires : goal.next_number-row-requires
+next_number-row-requires c =
+    let row = c.args.row.now in
+    let has = c.if-not-goes_on.ensures refl in
+    step_count c.args.self.now (subst IsGrid c.self.view_is c.self.invariant) row (c.requires.row has.some) c.args.place c.requires.below has
+    c.requires.number.0 row.number c.requires.number.1
+
+pub returns-clause-number : goal.returns-clause-number
+returns-clause-number c = λ begin is.
+    let row = c.args.row.now in
+    let now = c.args.self.now in
+    let has = c.if-not-goes_on.ensures refl in
+    subst (λ (g : Grid). IsNumberBeside now.shape.sizes begin (take (length now.sizes)
+    (set row.corner (length g.sizes - 1) (get_or row.corner (length g.sizes - 1) 0 + get_or g.shape.sizes (length g.sizes - 1) 0))) c.next_number-row.result) (sym c.self.view_is)
+    (subst (λ (n : Option ℕ). IsNumberBeside now.shape.sizes begin (take (length now.sizes)
+    (set row.corner (length now.sizes - 1) (get_or row.corner (length now.sizes - 1) 0 + get_or now.shape.sizes (length now.sizes - 1) 0))) n) (sym c.next_number-row.ensures)
+    (step_number now (subst IsGrid c.self.view_is c.self.invariant) row (c.requires.row has.some) c.args.place c.requires.below has begin row.number is))
