@@ -14,7 +14,7 @@ ghost use Rattle.h5_layout.specs.ChunkCells.{AreBeside, AreChunkBytes, IsGrid, c
 ghost use Rattle.h5_layout.specs.FoundChunks.{AreChunksBeside, IsNumberBeside};
 ghost use Rattle.h5_layout.specs.GridKept.{HasNext, IsRowOf};
 
-use crate::beside::RowCursor;
+use crate::beside::{FoundChunks, RowCursor};
 use crate::index::{ChunkIndex, FoundRow};
 use h5_chunks::{ChunkCursor, ChunkShape, chunk_from};
 use h5_msg::ChunkSizes;
@@ -253,45 +253,107 @@ impl<'a, 'g> GridRef<'a, 'g> {
         ensures start { row.new.start ≡ place }
         ensures some { 0 < row.new.cells }
     {
-        let run = self.run_from(row, place);
-        row.start = place;
-        row.cells = run.length;
-        row.inner = run.place;
+        self.place_row(row, place);
         row.at = self.address_beside(cursor, &row.corner[..self.sizes.len()], &mut row.number);
     }
 
-    /// The cells from this place on in a row of a chunk, by their place in the chunk, whose first index `row` has then.
-    /// Where the array's row of cells goes on behind the row that was found last, that is the next chunk: nothing is
-    /// divided, and its number is known if that of the last one was.
+    /// Makes the row that was found last the one from this place on, where the next chunk has it, and is one of those that
+    /// were found beside one another. Returns whether it did; else the row is as it was.
+    // Inlined, as `row_at` is.
     #[inline(always)]
-    fn run_from(&self, row: &mut FoundRow, place: u64) -> CellRun
+    pub(crate) fn step_row(&self, beside: &FoundChunks, row: &mut FoundRow, place: u64) -> bool
+        requires grid { IsGrid self.now }
+        requires below { place < cells_of self.now.sizes }
+        requires beside { AreChunksBeside (chunks_told self.now.image self.now.shape self.now.root)
+            self.now.shape.sizes beside.now }
+        requires row { 0 < row.old.cells → IsRowOf self.now row.old }
+        requires number { IsNumberBeside self.now.shape.sizes beside.now.first
+            (take (length self.now.sizes) row.old.corner) row.old.number }
+        ensures row { 0 < row.new.cells → IsRowOf self.now row.new }
+        ensures number { IsNumberBeside self.now.shape.sizes beside.now.first
+            (take (length self.now.sizes) row.new.corner) row.new.number }
+        ensures start { IsTrue result → row.new.start ≡ place }
+        ensures some { IsTrue result → 0 < row.new.cells }
+    {
+        if !self.goes_on(row, place) {
+            return false;
+        }
+        let Some(at) = beside.address_of(next_number(row.number)) else {
+            return false;
+        };
+        self.go_on(row, place);
+        row.at = Some(at);
+        true
+    }
+
+    /// Makes a row the one from this place on. The address of its chunk is left as it was.
+    #[inline(always)]
+    fn place_row(&self, row: &mut FoundRow, place: u64)
         requires below { place < cells_of self.now.sizes }
         requires row { 0 < row.old.cells → IsRowOf self.now row.old }
         requires number { (first : List ℕ) × IsNumberBeside self.now.shape.sizes first
             (take (length self.now.sizes) row.old.corner) row.old.number }
+        ensures start { row.new.start ≡ place }
         ensures number { (first : List ℕ)
-            → IsNumberBeside self.now.shape.sizes first (take (length self.now.sizes) row.old.corner) row.old.number
-            → IsNumberBeside self.now.shape.sizes first (take (length self.now.sizes) row.new.corner) row.new.number }
+            → IsNumberBeside self.now.shape.sizes first
+            (take (length self.now.sizes) row.old.corner) row.old.number
+            → IsNumberBeside self.now.shape.sizes first
+            (take (length self.now.sizes) row.new.corner) row.new.number }
         ensures corner { take (length self.now.sizes) row.new.corner
-            ≡ corner_of self.now.shape.sizes (index_of self.now.sizes place) }
-        ensures inner { result.place ≡ place_in_chunk self.now place }
-        ensures some { 0 < result.length }
-        ensures beside { AreBeside self.now.sizes self.now.shape.sizes place result.length }
+            ≡ corner_of self.now.shape.sizes (index_of self.now.sizes row.new.start) }
+        ensures inner { row.new.inner ≡ place_in_chunk self.now row.new.start }
+        ensures some { 0 < row.new.cells }
+        ensures beside { AreBeside self.now.sizes self.now.shape.sizes row.new.start row.new.cells }
         ensures all { 0 < length self.now.sizes
-            → result.length ≡ left_in_row self.now.sizes self.now.shape.sizes place }
+            → row.new.cells ≡ left_in_row self.now.sizes self.now.shape.sizes row.new.start }
     {
-        let rank = self.sizes.len();
-        if !self.goes_on(row, place) {
-            row.number = None;
-            return locate(self.sizes, self.chunk, place, &mut row.corner[..rank]);
+        if self.goes_on(row, place) {
+            self.go_on(row, place);
+            return;
         }
+        let run = locate(
+            self.sizes,
+            self.chunk,
+            place,
+            &mut row.corner[..self.sizes.len()],
+        );
+        row.start = place;
+        row.cells = run.length;
+        row.inner = run.place;
+        row.number = None;
+    }
+
+    /// Makes a row the one from this place on, which is in the next chunk: nothing is divided, and the chunk's number is
+    /// known if that of the last one was. The address of the chunk is left as it was.
+    #[inline(always)]
+    fn go_on(&self, row: &mut FoundRow, place: u64)
+        requires below { place < cells_of self.now.sizes }
+        requires row { IsRowOf self.now row.old }
+        requires next { HasNext self.now.sizes self.now.shape.sizes row.old place }
+        requires number { (first : List ℕ) × IsNumberBeside self.now.shape.sizes first
+            (take (length self.now.sizes) row.old.corner) row.old.number }
+        ensures start { row.new.start ≡ place }
+        ensures next { row.new.number ≡ option_map (λ k. k + 1) row.old.number }
+        ensures number { (first : List ℕ)
+            → IsNumberBeside self.now.shape.sizes first
+            (take (length self.now.sizes) row.old.corner) row.old.number
+            → IsNumberBeside self.now.shape.sizes first
+            (take (length self.now.sizes) row.new.corner) row.new.number }
+        ensures corner { take (length self.now.sizes) row.new.corner
+            ≡ corner_of self.now.shape.sizes (index_of self.now.sizes row.new.start) }
+        ensures inner { row.new.inner ≡ place_in_chunk self.now row.new.start }
+        ensures some { 0 < row.new.cells }
+        ensures beside { AreBeside self.now.sizes self.now.shape.sizes row.new.start row.new.cells }
+        ensures all { 0 < length self.now.sizes
+            → row.new.cells ≡ left_in_row self.now.sizes self.now.shape.sizes row.new.start }
+    {
+        let last = self.sizes.len() - 1;
+        let size = self.chunk[last];
         row.number = next_number(row.number);
-        let size = self.chunk[rank - 1];
-        row.corner[rank - 1] += size;
-        CellRun {
-            place: row.inner + row.cells - size,
-            length: size.min(self.sizes[rank - 1] - row.corner[rank - 1]),
-        }
+        row.start = place;
+        row.inner = row.inner + row.cells - size;
+        row.corner[last] += size;
+        row.cells = size.min(self.sizes[last] - row.corner[last]);
     }
 
     /// Whether the cell at this place is the one behind this row, and the next chunk has it.
