@@ -299,13 +299,8 @@ impl<'a, 'g> GridRef<'a, 'g> {
             (take (length self.now.sizes) row.old.corner) row.old.number
             → IsNumberBeside self.now.shape.sizes first
             (take (length self.now.sizes) row.new.corner) row.new.number }
-        ensures corner { take (length self.now.sizes) row.new.corner
-            ≡ corner_of self.now.shape.sizes (index_of self.now.sizes row.new.start) }
-        ensures inner { row.new.inner ≡ place_in_chunk self.now row.new.start }
+        ensures row { IsRowOf self.now (record row.new { at = chunk_of self.now row.new.start }) }
         ensures some { 0 < row.new.cells }
-        ensures beside { AreBeside self.now.sizes self.now.shape.sizes row.new.start row.new.cells }
-        ensures all { 0 < length self.now.sizes
-            → row.new.cells ≡ left_in_row self.now.sizes self.now.shape.sizes row.new.start }
     {
         if self.goes_on(row, place) {
             self.go_on(row, place);
@@ -339,13 +334,8 @@ impl<'a, 'g> GridRef<'a, 'g> {
             (take (length self.now.sizes) row.old.corner) row.old.number
             → IsNumberBeside self.now.shape.sizes first
             (take (length self.now.sizes) row.new.corner) row.new.number }
-        ensures corner { take (length self.now.sizes) row.new.corner
-            ≡ corner_of self.now.shape.sizes (index_of self.now.sizes row.new.start) }
-        ensures inner { row.new.inner ≡ place_in_chunk self.now row.new.start }
+        ensures row { IsRowOf self.now (record row.new { at = chunk_of self.now row.new.start }) }
         ensures some { 0 < row.new.cells }
-        ensures beside { AreBeside self.now.sizes self.now.shape.sizes row.new.start row.new.cells }
-        ensures all { 0 < length self.now.sizes
-            → row.new.cells ≡ left_in_row self.now.sizes self.now.shape.sizes row.new.start }
     {
         let last = self.sizes.len() - 1;
         let size = self.chunk[last];

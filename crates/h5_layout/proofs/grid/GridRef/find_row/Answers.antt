@@ -13,7 +13,7 @@ address_beside-row-requires-clause-corner c =
     let start = c.place_row.new.row.start in
     let is : IsGrid g = subst IsGrid c.self.view_is c.self.invariant in
     subst (λ (n : ℕ). IsCorner g.shape.sizes (take n c.place_row.new.row.corner)) (sym (ap (λ (x : Grid). length x.sizes) c.self.view_is))
-    (subst (IsCorner g.shape.sizes) (sym c.place_row.ensures.corner)
+    (subst (IsCorner g.shape.sizes) (sym c.place_row.ensures.row.corner)
     (corner_is g.shape.sizes (index_of g.sizes start) is.sizes.some (length-index g.sizes start ∙ sym is.rank)))
 
 pub place_row-requires-clause-number : goal.place_row-requires-clause-number

@@ -1,4 +1,4 @@
-use Rattle.std.proofs.Common.{◌≡◌, ℕ, ◌+◌, ◌-◌, ◌^◌, ◌<◌, ◌≤◌, Option, length, get_or, min, set, take, sym, subst, arith}
+use Rattle.std.proofs.Common.{◌≡◌, ℕ, ◌+◌, ◌-◌, ◌^◌, ◌<◌, ◌≤◌, Option, length, get_or, min, set, take, refl, sym, subst, arith}
 use Rattle.h5_model.specs.Tree.Grid.{corner_of}
 use Rattle.h5_model.specs.Tree.Places.{index_of}
 use Rattle.h5_layout.specs.ChunkCells.{Grid, IsGrid, left_in_row, place_in_chunk}
@@ -26,8 +26,11 @@ overflow_sub-row c =
     subst (λ (g : Grid). get_or g.shape.sizes (length g.sizes - 1) 0 ≤ row.inner + row.cells) (sym c.self.view_is)
     (step_back c.args.self.now (subst IsGrid c.self.view_is c.self.invariant) row c.requires.row c.args.place c.requires.below c.requires.next)
 
-pub returns-clause-corner : goal.returns-clause-corner
-returns-clause-corner c =
+-- the first index of the next chunk
+corner : (c : After-min-row) → take (length c.args.self.now.sizes) (set c.args.row.now.corner (length c.self.inside.sizes.now - 1)
+    (get_or c.args.row.now.corner (length c.self.inside.sizes.now - 1) 0 + get_or c.self.inside.chunk.now (length c.self.inside.sizes.now - 1) 0))
+    ≡ corner_of c.args.self.now.shape.sizes (index_of c.args.self.now.sizes c.args.place)
+corner c =
     let row = c.args.row.now in
     let now = c.args.self.now in
     subst (λ (g : Grid). take (length now.sizes)
@@ -35,8 +38,9 @@ returns-clause-corner c =
     ≡ corner_of now.shape.sizes (index_of now.sizes c.args.place)) (sym c.self.view_is)
     (step_corner now (subst IsGrid c.self.view_is c.self.invariant) row c.requires.row c.args.place c.requires.below c.requires.next)
 
-pub returns-clause-inner : goal.returns-clause-inner
-returns-clause-inner c =
+-- the place of its first cell in the chunk
+inner : (c : After-min-row) → c.args.row.now.inner + c.args.row.now.cells - get_or c.self.inside.chunk.now (length c.self.inside.sizes.now - 1) 0 ≡ place_in_chunk c.args.self.now c.args.place
+inner c =
     let row = c.args.row.now in
     let now = c.args.self.now in
     subst (λ (g : Grid). row.inner + row.cells - get_or g.shape.sizes (length g.sizes - 1) 0 ≡ place_in_chunk now c.args.place) (sym c.self.view_is)
@@ -52,13 +56,17 @@ all c =
     - get_or (set row.corner (length g.sizes - 1) (get_or row.corner (length g.sizes - 1) 0 + get_or g.shape.sizes (length g.sizes - 1) 0)) (length g.sizes - 1) 0))
     c.self.view_is c.min-row.ensures)
 
-pub returns-clause-beside : goal.returns-clause-beside
-returns-clause-beside c =
+pub returns-clause-row : goal.returns-clause-row
+returns-clause-row c =
     let row = c.args.row.now in
-    step_beside c.args.self.now (subst IsGrid c.self.view_is c.self.invariant) row c.requires.row c.args.place c.requires.below c.requires.next c.min-row.result (all (goal.at.returns-clause-beside c).After-min-row)
-
-pub returns-clause-all : goal.returns-clause-all
-returns-clause-all c = λ _. all (goal.at.returns-clause-all c).After-min-row
+    let left = all (goal.at.returns-clause-row c).After-min-row in
+    record {
+      beside = step_beside c.args.self.now (subst IsGrid c.self.view_is c.self.invariant) row c.requires.row c.args.place c.requires.below c.requires.next c.min-row.result left;
+      inner = inner (goal.at.returns-clause-row c).After-min-row;
+      at = refl;
+      corner = corner (goal.at.returns-clause-row c).After-min-row;
+      all = λ _. left;
+    }
 
 pub next_number-row-requires : goal.next_number-row-requires
 next_number-row-requires c =
