@@ -14,7 +14,7 @@ abbrev pub corner_beside : List ℕ → List ℕ → ℕ → List ℕ
 corner_beside chunk corner k =
     let last = length corner - 1 in set corner last (get_or corner last 0 + k * get_or chunk last 0)
 
--- the chunk with this first index stands so many chunks behind the first of them, which has that one, if the number is known
+-- so many chunks behind the one with this first index stands the one with that, if the number is known
 abbrev pub IsNumberBeside : List ℕ → List ℕ → List ℕ → Option ℕ → Type 0
 IsNumberBeside chunk first corner number = IfSome number (λ k. corner ≡ corner_beside chunk first k)
 

@@ -124,7 +124,8 @@ impl<'a> Buffer<'a> {
     }
 
     /// Writes the values as cells of this type, one behind another.
-    // What converts them stands apart: cells of the type itself, which are most, are then one copy that saves no register.
+    // What converts them stands apart: cells of the type itself, as most are, are then one copy, and no register is
+    // saved for more.
     pub(crate) fn write(&self, fixed: &Fixed, to: &mut [u8])
         requires room { length to.old ≡ length self.now * fixed.now.size }
         requires of_type { list_all (is_of_type fixed.now) self.now ≡ true }

@@ -257,8 +257,8 @@ impl<'a, 'g> GridRef<'a, 'g> {
         row.at = self.address_beside(cursor, &row.corner[..self.sizes.len()], &mut row.number);
     }
 
-    /// Makes the row that was found last the one from this place on, where the next chunk has it, and is one of those that
-    /// were found beside one another. Returns whether it did; else the row is as it was.
+    /// Makes the row that was found last the one from this place on, where the next chunk has it, and is one of those
+    /// that were found beside one another. Returns whether it did; else the row is as it was.
     // Inlined, as `row_at` is.
     #[inline(always)]
     pub(crate) fn step_row(&self, beside: &FoundChunks, row: &mut FoundRow, place: u64) -> bool
@@ -318,8 +318,8 @@ impl<'a, 'g> GridRef<'a, 'g> {
         row.number = None;
     }
 
-    /// Makes a row the one from this place on, which is in the next chunk: nothing is divided, and the chunk's number is
-    /// known if that of the last one was. The address of the chunk is left as it was.
+    /// Makes a row the one from this place on, which is in the next chunk: nothing is divided, and the chunk's number
+    /// is known if that of the last one was. The address of the chunk is left as it was.
     #[inline(always)]
     fn go_on(&self, row: &mut FoundRow, place: u64)
         requires below { place < cells_of self.now.sizes }

@@ -151,8 +151,8 @@ impl ChunkIndex {
         }
     }
 
-    /// Makes the row that was found last the one from this place on, where the next chunk has it, and its address is known.
-    /// Returns whether it did.
+    /// Makes the row that was found last the one from this place on, where the next chunk has it, and its address is
+    /// known. Returns whether it did.
     #[inline(always)]
     fn step(&mut self, image: &Image, place: u64) -> bool
         requires kept { IsGridKept image.now.bytes self.old }

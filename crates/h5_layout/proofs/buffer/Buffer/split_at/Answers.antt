@@ -72,8 +72,10 @@ sound c = elim c.match-self.branch [
       let low = low_count t bytes c.args.self.now c.args.count (ap values_lent (sym w.in-Cells.is) ∙ c.self.view_is) c.requires in
       let place : c.args.count * w.size.result ≡ c.args.count * t.size = ap (λ n. c.args.count * n) w.size.ensures.size in
       subst (λ (p : Lent × Lent). AreValuesLent p.0 × AreValuesLent p.1) (sym w.first-is) (
-        subst (AreWholeCells t) (sym (w.split_at-in-Cells.ensures.front ∙ ap (λ n. take n bytes) place)) (front_whole t some bytes whole.whole c.args.count low whole.type whole.memory),
-        subst (AreWholeCells t) (sym (w.split_at-in-Cells.ensures.back ∙ ap (λ n. drop n bytes) place)) (back_whole t some bytes whole.whole c.args.count low whole.type whole.memory),
+        subst (AreWholeCells t) (sym (w.split_at-in-Cells.ensures.front ∙ ap (λ n. take n bytes) place))
+            (front_whole t some bytes whole.whole c.args.count low whole.type whole.memory),
+        subst (AreWholeCells t) (sym (w.split_at-in-Cells.ensures.back ∙ ap (λ n. drop n bytes) place))
+            (back_whole t some bytes whole.whole c.args.count low whole.type whole.memory),
       )
 ]
 

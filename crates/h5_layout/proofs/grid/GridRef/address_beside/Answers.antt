@@ -16,5 +16,6 @@ put-requires c =
 pub returns-clause-beside : goal.returns-clause-beside
 returns-clause-beside c =
     let now = c.args.self.now in
-    let known = subst (λ (g : Grid). IsNumberBeside g.shape.sizes c.args.cursor.now.beside.first c.args.corner.now c.number_from-behind.result) c.self.view_is c.number_from-behind.ensures in
+    let first = c.args.cursor.now.beside.first in
+    let known = subst (λ (g : Grid). IsNumberBeside g.shape.sizes first c.args.corner.now c.number_from-behind.result) c.self.view_is c.number_from-behind.ensures in
     c.put.ensures.beside (chunks_told now.image now.shape now.root) now.shape.sizes c.requires.corner c.requires.beside known (sym c.in_ok-at.ensures.exact)

@@ -39,7 +39,8 @@ corner c =
     (step_corner now (subst IsGrid c.self.view_is c.self.invariant) row c.requires.row c.args.place c.requires.below c.requires.next)
 
 -- the place of its first cell in the chunk
-inner : (c : After-min-row) → c.args.row.now.inner + c.args.row.now.cells - get_or c.self.inside.chunk.now (length c.self.inside.sizes.now - 1) 0 ≡ place_in_chunk c.args.self.now c.args.place
+inner : (c : After-min-row) → c.args.row.now.inner + c.args.row.now.cells - get_or c.self.inside.chunk.now (length c.self.inside.sizes.now - 1) 0
+    ≡ place_in_chunk c.args.self.now c.args.place
 inner c =
     let row = c.args.row.now in
     let now = c.args.self.now in
@@ -61,7 +62,8 @@ returns-clause-row c =
     let row = c.args.row.now in
     let left = all (goal.at.returns-clause-row c).After-min-row in
     record {
-      beside = step_beside c.args.self.now (subst IsGrid c.self.view_is c.self.invariant) row c.requires.row c.args.place c.requires.below c.requires.next c.min-row.result left;
+      beside = step_beside c.args.self.now (subst IsGrid c.self.view_is c.self.invariant) row c.requires.row
+          c.args.place c.requires.below c.requires.next c.min-row.result left;
       inner = inner (goal.at.returns-clause-row c).After-min-row;
       at = refl;
       corner = corner (goal.at.returns-clause-row c).After-min-row;
@@ -79,7 +81,9 @@ returns-clause-number c = λ begin is.
     let row = c.args.row.now in
     let now = c.args.self.now in
     subst (λ (g : Grid). IsNumberBeside now.shape.sizes begin (take (length now.sizes)
-    (set row.corner (length g.sizes - 1) (get_or row.corner (length g.sizes - 1) 0 + get_or g.shape.sizes (length g.sizes - 1) 0))) c.next_number-row.result) (sym c.self.view_is)
+    (set row.corner (length g.sizes - 1) (get_or row.corner (length g.sizes - 1) 0 + get_or g.shape.sizes (length g.sizes - 1) 0)))
+    c.next_number-row.result) (sym c.self.view_is)
     (subst (λ (n : Option ℕ). IsNumberBeside now.shape.sizes begin (take (length now.sizes)
-    (set row.corner (length now.sizes - 1) (get_or row.corner (length now.sizes - 1) 0 + get_or now.shape.sizes (length now.sizes - 1) 0))) n) (sym c.next_number-row.ensures)
+    (set row.corner (length now.sizes - 1) (get_or row.corner (length now.sizes - 1) 0 + get_or now.shape.sizes (length now.sizes - 1) 0)))
+    n) (sym c.next_number-row.ensures)
     (step_number now (subst IsGrid c.self.view_is c.self.invariant) row c.requires.row c.args.place c.requires.below c.requires.next begin row.number is))
