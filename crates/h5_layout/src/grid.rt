@@ -112,6 +112,8 @@ impl<'a> ChunkGrid<'a> {
     }
 
     /// The cells from this place on that stand one behind the other in a row of a chunk.
+    // Inlined, as `ChunkIndex::row_at` is.
+    #[inline(always)]
     pub(crate) fn row_at(&mut self, place: u64) -> ChunkRow
         requires { place < cells_of self.old.sizes }
         ensures same { self.new ≡ self.old }
