@@ -4,7 +4,8 @@ use Rattle.std.specs.List.{list_all, range_with_len}
 use Rattle.std.proofs.Math.Bool.{beq}
 use Rattle.std.proofs.Math.Nat.{div-add-mod', mul-le-mul_right}
 use Rattle.std.proofs.lemmas.Bool.Decides.{nat_tests}
-use Rattle.std.proofs.lemmas.List.{length-drop, take_all}
+use Rattle.std.proofs.lemmas.Nat.{mod-mul-add}
+use Rattle.std.proofs.lemmas.List.{length-drop, length-take-le, take_all}
 use Rattle.std.proofs.lemmas.List.FromFn.{take-map-range_with_len}
 use Rattle.h5_model.specs.Format.AttributeBody.{values_at}
 use Rattle.h5_model.specs.Format.Cells.{value_in}
@@ -13,9 +14,9 @@ use Rattle.h5_model.specs.Format.Plain.{cells_bytes}
 use Rattle.h5_model.specs.Tree.Sound.{AreOf}
 use Rattle.h5_model.specs.Scripts.Answers.{stored_values}
 use Rattle.h5_model.proofs.StoredValues.{length-stored}
-use Rattle.h5_msg.proofs.ValueBytes.{AreBytes, stored_back}
+use Rattle.h5_msg.proofs.ValueBytes.{AreBytes, AreBytes-drop, AreBytes-take, stored_back}
 use Rattle.h5_msg.proofs.WordLaws.{and_left, and_right}
-use Rattle.h5_layout.specs.Buffers.{are_whole_cells}
+use Rattle.h5_layout.specs.Buffers.{AreInMemory, AreWholeCells, are_whole_cells}
 use Rattle.h5_layout.proofs.CellLaws.{map_ranges, whole_values}
 
 drop_range : (f : ℕ → ℤ) (a n c : ℕ) → c ≤ n → drop c (map f (range_with_len a n)) ≡ map f (range_with_len (a + c) (n - c))
@@ -33,6 +34,12 @@ drop_range f a (suc n) (suc c) low =
 pub all_fit : (t : Fixed) (vs : List ℤ) → AreOf t vs → list_all (fits t) vs ≡ true
 all_fit t [] are = refl
 all_fit t (v ∷ vs) are = rw (are.0, all_fit t vs are.1) refl
+
+-- bytes of so many cells
+so_many_cells : (t : Fixed) → 1 ≤ t.size → (bytes : List ℕ) (n : ℕ) → length bytes ≡ n * t.size → are_whole_cells t bytes ≡ true
+so_many_cells t some bytes n long =
+    let whole : length bytes ≡ n * t.size + 0 = omega (arith, long) in
+    ap (λ k. k == 0) (ap (λ k. k % t.size) whole ∙ mod-mul-add n t.size 0 some)
 
 module _ (t : Fixed) (some : 1 ≤ t.size) (bytes : List ℕ) (are : are_whole_cells t bytes ≡ true) where
   abbrev pub count : ℕ
@@ -75,6 +82,25 @@ module _ (t : Fixed) (some : 1 ≤ t.size) (bytes : List ℕ) (are : are_whole_c
 
           sum_is : (c + (count - c)) * t.size ≡ count * t.size
           sum_is = let sum : c + (count - c) ≡ count = omega (arith, low) in ap (λ n. n * t.size) sum
+
+    module _ (sound : IsFixed t) (memory : AreInMemory bytes) where
+      pub front_whole : AreWholeCells t (take (c * t.size) bytes)
+      front_whole =
+          let long : length (take (c * t.size) bytes) ≡ c * t.size = length-take-le (c * t.size) bytes front_long in
+          record {
+            type = sound;
+            whole = so_many_cells t some (take (c * t.size) bytes) c long;
+            memory = record { few = omega (arith, long, front_long, memory.few); low = AreBytes-take (c * t.size) bytes memory.low };
+          }
+
+      pub back_whole : AreWholeCells t (drop (c * t.size) bytes)
+      back_whole =
+          let long : length (drop (c * t.size) bytes) ≡ length bytes - c * t.size = length-drop (c * t.size) bytes in
+          record {
+            type = sound;
+            whole = so_many_cells t some (drop (c * t.size) bytes) (count - c) (omega (arith, long, counted, rest));
+            memory = record { few = omega (arith, long, memory.few); low = AreBytes-drop (c * t.size) bytes memory.low };
+          }
 
   -- the bytes are those of the values
   pub written_back : IsFixed t → AreBytes bytes → cells_bytes t (stored_values t bytes) ≡ bytes

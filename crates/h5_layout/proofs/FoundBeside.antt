@@ -1,7 +1,8 @@
 -- Chunks that stand beside one another along the last dimension, and were found.
 use Rattle.std.proofs.Common.{◌≡◌, ℕ, suc, ◌+◌, ◌-◌, ◌*◌, ◌/◌, ◌<◌, ◌≤◌, List, [], ◌∷◌, ◌++◌, length, get_or, set, take, replicate, Some, zero, refl, sym, ap, ◌∙◌, arith}
 use Rattle.std.specs.FinMap.{get}
-use Rattle.std.proofs.lemmas.List.{length-set, set-get_or, take_all, take_more, take_more_set}
+use Rattle.std.proofs.Math.Nat.{mul-le-mul_left}
+use Rattle.std.proofs.lemmas.List.{get_or-set_same, length-set, set-get_or, set-set, take_all, take_more, take_more_set}
 use Rattle.std.proofs.lemmas.Nat.{div-mul-add, le-div}
 use Rattle.h5_model.specs.Format.Chunks.{Chunks}
 use Rattle.h5_model.specs.Tree.Grid.{corner_of}
@@ -82,6 +83,37 @@ number_beside chunk first corner last is other long same up =
     ∙ ap (set first last) (sym (steps i j c from.0 from.1 to.1 up))
     ∙ ap (λ n. set first n (get_or first n 0 + (j - i) / c * get_or chunk n 0)) (sym here)
 
+-- none behind itself
+pub beside_itself : (chunk corner : List ℕ) → corner_beside chunk corner 0 ≡ corner
+beside_itself chunk corner =
+    let last : ℕ = length corner - 1 in
+    let same : get_or corner last 0 + 0 * get_or chunk last 0 ≡ get_or corner last 0 = omega arith in
+    ap (set corner last) same ∙ set-get_or corner last 0
+
+-- the chunk behind that one
+pub beside_next : (chunk first : List ℕ) (k : ℕ) → 0 < length first → corner_beside chunk (corner_beside chunk first k) 1 ≡ corner_beside chunk first (k + 1)
+beside_next chunk first k some =
+    let last : ℕ = length first - 1 in
+    let c : ℕ = get_or chunk last 0 in
+    let w : ℕ = get_or first last 0 + k * c in
+    let xs : List ℕ = set first last w in
+    let here : length xs - 1 ≡ last = ap (λ n. n - 1) (length-set first last w) in
+    let more : w + 1 * c ≡ get_or first last 0 + (k + 1) * c = omega arith in
+    ap (λ n. set xs n (get_or xs n 0 + 1 * get_or chunk n 0)) here
+    ∙ ap (λ n. set xs last (n + 1 * c)) (get_or-set_same first last w 0 (omega (arith, some)))
+    ∙ set-set first last w (w + 1 * c)
+    ∙ ap (set first last) more
+
+-- no more chunks than its last number says
+pub beside_few : (chunk first : List ℕ) (k last : ℕ) → length first ≡ last + 1 → 0 < get_or chunk last 0 → k ≤ get_or (corner_beside chunk first k) last 0
+beside_few chunk first k last long some =
+    let here : length first - 1 ≡ last = omega (arith, long) in
+    let w : ℕ = get_or first last 0 + k * get_or chunk last 0 in
+    let is : get_or (corner_beside chunk first k) last 0 ≡ w
+    = ap (λ n. get_or (set first n (get_or first n 0 + k * get_or chunk n 0)) last 0) here ∙ get_or-set_same first last w 0 (omega (arith, long)) in
+    let wide : k * 1 ≤ k * get_or chunk last 0 = mul-le-mul_left k some in
+    omega (arith, is, wide)
+
 -- ---- what is kept of them
 
 -- none
@@ -96,7 +128,5 @@ one_beside chunks sizes corner at is found = record {
   first = is;
   at = λ k low.
       let none : k ≡ 0 = omega (arith, low) in
-      let last : ℕ = length corner - 1 in
-      let same : get_or corner last 0 + k * get_or sizes last 0 ≡ get_or corner last 0 = ap (λ n. get_or corner last 0 + n * get_or sizes last 0) none ∙ omega arith in
-      ap (get chunks) (ap (set corner last) same ∙ set-get_or corner last 0) ∙ found ∙ ap (λ n. Some (get_or (at ∷ []) n 0)) (sym none);
+      ap (get chunks) (ap (corner_beside sizes corner) none ∙ beside_itself sizes corner) ∙ found ∙ ap (λ n. Some (get_or (at ∷ []) n 0)) (sym none);
 }

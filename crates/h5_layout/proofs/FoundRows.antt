@@ -98,7 +98,7 @@ pub kept_new : (image sizes chunk : List ℕ) (bytes root : ℕ)
       shape = record { sizes = chunk; bytes = bytes };
       root = root;
       cursor = record { tree = None; beside = record { first = replicate (length sizes) 0; at = [] } };
-      row = record { start = 0; cells = 0; inner = 0; at = None; corner = replicate 32 0 };
+      row = record { start = 0; cells = 0; inner = 0; at = None; corner = replicate 32 0; number = None };
     })
 kept_new image sizes chunk bytes root grid =
     let chunks : Chunks = chunks_told image (record { sizes = chunk; bytes = bytes }) root in
@@ -107,4 +107,5 @@ kept_new image sizes chunk bytes root grid =
       cursor = tt;
       beside = subst (λ (n : ℕ). AreChunksBeside chunks chunk (record { first = replicate n 0; at = [] })) grid.rank (none_beside chunks chunk grid.sizes.some);
       row = λ some. absurd (omega (arith, some));
+      number = tt;
     }

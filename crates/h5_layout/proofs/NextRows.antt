@@ -1,14 +1,17 @@
 -- The row of a chunk behind the one that was found last, where the next chunk has it.
-use Rattle.std.proofs.Common.{◌≡◌, ℕ, ◌+◌, ◌-◌, ◌*◌, ◌^◌, ◌<◌, ◌≤◌, List, [], ◌∷◌, ◌++◌, length, get_or, min, set, take, sym, ap, ◌∙◌, arith}
+use Rattle.std.proofs.Common.{◌≡◌, ℕ, IfSome, None, Option, Some, ◌+◌, ◌-◌, ◌*◌, ◌^◌, ◌<◌, ◌≤◌, List, [], ◌∷◌, ◌++◌, length, get_or, min, set, take, sym, ap, ◌∙◌, arith}
+use Rattle.std.specs.Prelude.{option_map}
 use Rattle.std.proofs.Math.Nat.{mul-le-mul_right}
 use Rattle.std.proofs.lemmas.List.{get_or-set_same, get_or-take, length-set, length-take, take-take, take_all, take_more_set}
 use Rattle.h5_model.specs.Tree.Grid.{corner_of}
 use Rattle.h5_model.specs.Tree.Places.{cells, index_of}
 use Rattle.h5_model.proofs.PlaceLaws.{positive}
 use Rattle.h5_layout.specs.ChunkCells.{AreBeside, Grid, IsGrid, left_in_row, place_in_chunk}
+use Rattle.h5_layout.specs.FoundChunks.{IsNumberBeside, corner_beside}
 use Rattle.h5_layout.specs.GridKept.{HasNext, IsRowOf}
 use Rattle.h5_layout.specs.declared.index.FoundRow.{FoundRow}
 use Rattle.h5_layout.proofs.BesideLaws.{last-is, last_of, last_rows, left_beside}
+use Rattle.h5_layout.proofs.FoundBeside.{beside_few, beside_next}
 use Rattle.h5_layout.proofs.GridLaws.{row_room}
 use Rattle.h5_layout.proofs.NextLaws.{length-first, next_corner, next_inner, next_left}
 
@@ -91,6 +94,15 @@ module _ (g : Grid) (grid : IsGrid g) (row : FoundRow) (of : IsRowOf g row) (pla
   pub step_room : row.inner + row.cells < 2 ^ 64
   step_room = omega (arith, row_room g row.start row.cells row.inner grid of.beside has.some of.inner, grid.small)
 
+  -- the number of the chunk, among those that were found beside one another
+  abbrev pub front : List ℕ
+  front = take (length g.sizes) row.corner
+
+  first_long : (chunks_first : List ℕ) (n : ℕ) → front ≡ corner_beside g.shape.sizes chunks_first n → length chunks_first ≡ last + 1
+  first_long ff n same =
+      let end : ℕ = length ff - 1 in
+      omega (arith, ap length same, ap length of.corner, long, has.rank, length-set ff end (get_or ff end 0 + n * get_or g.shape.sizes end 0))
+
   pub step_small : get_or row.corner last 0 + size < 2 ^ 64
   step_small = omega (arith, has.more, last_small g.sizes has.rank (omega (arith, below)), grid.few)
 
@@ -105,3 +117,20 @@ module _ (g : Grid) (grid : IsGrid g) (row : FoundRow) (of : IsRowOf g row) (pla
 
   pub step_beside : (n : ℕ) → n ≡ left_in_row g.sizes g.shape.sizes place → AreBeside g.sizes g.shape.sizes place n
   step_beside n is = left_beside g.sizes g.shape.sizes place grid.rank grid.sizes.some below has.rank n is
+
+  pub step_count : (begin : List ℕ) (chunks : Option ℕ) → IsNumberBeside g.shape.sizes begin front chunks → IfSome chunks (λ n. n + 1 < 2 ^ 64)
+  step_count begin None is = tt
+  step_count begin (Some n) is =
+      let few = beside_few g.shape.sizes begin n last (first_long begin n is) wide in
+      let here : get_or front last 0 ≡ get_or row.corner last 0 = get_or-take (length g.sizes) row.corner last 0 (omega (arith, has.rank)) in
+      omega (arith, few, here, ap (λ xs. get_or xs last 0) is, step_small, wide)
+
+  pub step_number : (begin : List ℕ) (chunks : Option ℕ) → IsNumberBeside g.shape.sizes begin front chunks
+      → IsNumberBeside g.shape.sizes begin (take (length g.sizes) (set row.corner last (get_or row.corner last 0 + size))) (option_map (λ n. n + 1) chunks)
+  step_number begin None is = tt
+  step_number begin (Some n) is =
+      step_corner
+      ∙ ap (λ p. corner_of g.shape.sizes (index_of g.sizes p)) has.behind
+      ∙ next_corner g.sizes g.shape.sizes row.start row.cells grid.rank has.rank wide low (of.all has.rank) more
+      ∙ ap (λ xs. corner_beside g.shape.sizes xs 1) (sym of.corner ∙ is)
+      ∙ beside_next g.shape.sizes begin n (omega (arith, first_long begin n is))

@@ -73,7 +73,7 @@ pub index_made : (image : List ℕ) (a : Described) → IsArray a → IsFixed a.
       shape = record { sizes = chunk; bytes = cells chunk * size };
       root = root;
       cursor = record { tree = None; beside = record { first = replicate (length sizes) 0; at = [] } };
-      row = record { start = 0; cells = 0; inner = 0; at = None; corner = replicate 32 0 };
+      row = record { start = 0; cells = 0; inner = 0; at = None; corner = replicate 32 0; number = None };
     })
 index_made image a sound fixed read chunk root laid chunks sizes same size wide =
     let rank : has_room a.sizes a.fixed.size (InChunks chunk (Some root)) ≡ true = subst (λ (l : Layout). has_room a.sizes a.fixed.size l ≡ true) laid sound.room in

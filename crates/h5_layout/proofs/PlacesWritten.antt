@@ -75,6 +75,7 @@ module _ (old : List ℕ) (a : Described) (ms : List Message) (has : HasArray ms
                   corner = was_row.corner;
                   all = was_row.all;
                 };
+            number = of.kept.number;
           };
         }
 

@@ -28,3 +28,8 @@ pub record AreWholeCells (t : Fixed) (bytes : List ℕ) : Type 0 where
 abbrev pub AreValuesLent : Lent → Type 0
 AreValuesLent (Numbers values) = Unit {0}
 AreValuesLent (Cells t bytes) = AreWholeCells t bytes.now
+
+-- there are so many of them
+pub record AreValuesCounted (lent : Lent) (count : ℕ) : Type 0 where
+  pub lent_so : AreValuesLent lent
+  pub count_is : count ≡ length (values_lent lent)

@@ -6,7 +6,7 @@ use Rattle.h5_model.specs.Format.Reached.{Shape}
 use Rattle.h5_model.specs.Tree.Grid.{corner_of}
 use Rattle.h5_model.specs.Tree.Places.{index_of}
 use Rattle.h5_layout.specs.ChunkCells.{AreBeside, Grid, IsGrid, chunk_of, left_in_row, place_in_chunk}
-use Rattle.h5_layout.specs.FoundChunks.{AreChunksBeside}
+use Rattle.h5_layout.specs.FoundChunks.{AreChunksBeside, IsNumberBeside}
 use Rattle.h5_layout.specs.declared.beside.RowCursor.{RowCursor}
 use Rattle.h5_layout.specs.declared.index.FoundRow.{FoundRow}
 
@@ -43,3 +43,4 @@ pub record IsGridKept (image : List ℕ) (g : GridKept) : Type 0 where
   pub cursor : IsCursor image g.shape g.root g.cursor.tree
   pub beside : AreChunksBeside (chunks_told image g.shape g.root) g.shape.sizes g.cursor.beside
   pub row : 0 < g.row.cells → IsRowOf (grid_in image g) g.row
+  pub number : IsNumberBeside g.shape.sizes g.cursor.beside.first (take (length g.sizes) g.row.corner) g.row.number

@@ -1,10 +1,10 @@
 //! Chunks that stand beside one another, as they were found (File Format Specification 3.0, section III.A.1).
 
-ghost use Rattle.std.specs.Prelude.{◌≡◌, ◌<◌, ◌≤◌, IfSome, None, [], ◌∷◌, ◌++◌, length, replicate};
+ghost use Rattle.std.specs.Prelude.{◌≡◌, ℕ, ◌<◌, ◌≤◌, IfSome, List, None, Some, [], ◌∷◌, ◌++◌, length, replicate};
 ghost use Rattle.std.specs.FinMap.{get};
 ghost use Rattle.h5_model.specs.Format.Chunks.{Chunks};
 ghost use Rattle.h5_shape.specs.InBox.{IsCorner};
-ghost use Rattle.h5_layout.specs.FoundChunks.{AreChunksBeside, corner_beside};
+ghost use Rattle.h5_layout.specs.FoundChunks.{AreChunksBeside, IsNumberBeside};
 
 use h5_chunks::ChunkCursor;
 use std::marker::Model;
@@ -73,39 +73,61 @@ impl FoundChunks {
         }
     }
 
-    /// The address of the chunk with this first index, where it is one of them.
-    pub(crate) fn address_of(&self, chunk: &[u64], corner: &[u64]) -> Option<u64>
-        requires first { IsCorner chunk.now self.now.first }
-        requires corner { IsCorner chunk.now corner.now }
-        ensures { (chunks : Chunks) → AreChunksBeside chunks chunk.now self.now
-            → IfSome result (λ at. get chunks corner.now ≡ Some at) }
+    /// The address of the chunk with this number, where it is one of them.
+    #[inline(always)]
+    pub(crate) fn address_of(&self, number: Option<u64>) -> Option<u64>
+        ensures { (chunks : Chunks) (sizes corner : List ℕ) → AreChunksBeside chunks sizes self.now
+            → IsNumberBeside sizes self.now.first corner number
+            → IfSome result (λ at. get chunks corner ≡ Some at) }
     {
-        let number = self.number_of(chunk, corner)?;
+        let number = number?;
         if number >= self.count as u64 {
             return None;
         }
         Some(self.at[number as usize])
     }
 
-    /// Keeps the address of the chunk with this first index, which is none of them.
-    pub(crate) fn put(&mut self, chunk: &[u64], corner: &[u64], at: u64)
-        requires first { IsCorner chunk.now self.old.first }
-        requires corner { IsCorner chunk.now corner.now }
-        ensures { (chunks : Chunks) → AreChunksBeside chunks chunk.now self.old
-            → get chunks corner.now ≡ Some at → AreChunksBeside chunks chunk.now self.new }
+    /// Keeps the address of the chunk with this first index and number, which is none of them. Returns its number then.
+    pub(crate) fn put(&mut self, corner: &[u64], number: Option<u64>, at: u64) -> Option<u64>
+        requires { length corner.now ≡ length self.old.first }
+        ensures number { (sizes : List ℕ) → IsNumberBeside sizes self.old.first corner.now number
+            → IsNumberBeside sizes self.new.first corner.now result }
+        ensures beside { (chunks : Chunks) (sizes : List ℕ) → IsCorner sizes corner.now
+            → AreChunksBeside chunks sizes self.old → IsNumberBeside sizes self.old.first corner.now number
+            → get chunks corner.now ≡ Some at → AreChunksBeside chunks sizes self.new }
     {
-        let Some(number) = self.number_of(chunk, corner) else {
+        let Some(behind) = number else {
             self.begin(corner, at);
-            return;
+            return Some(0);
         };
         // Of a longer row of chunks the first ones are kept.
         if self.count == MOST {
-            return;
+            return number;
         }
-        if number == self.count as u64 {
+        if behind == self.count as u64 {
             self.push(at);
-        } else {
-            self.begin(corner, at);
+            return number;
+        }
+        self.begin(corner, at);
+        Some(0)
+    }
+
+    /// The number of the chunk with this first index: the one that is known, or else the one that is found.
+    #[inline(always)]
+    pub(crate) fn number_from(
+        &self,
+        chunk: &[u64],
+        corner: &[u64],
+        known: Option<u64>,
+    ) -> Option<u64>
+        requires first { IsCorner chunk.now self.now.first }
+        requires corner { IsCorner chunk.now corner.now }
+        requires known { IsNumberBeside chunk.now self.now.first corner.now known }
+        ensures { IsNumberBeside chunk.now self.now.first corner.now result }
+    {
+        match known {
+            Some(number) => Some(number),
+            None => self.number_of(chunk, corner),
         }
     }
 
@@ -114,7 +136,7 @@ impl FoundChunks {
     fn number_of(&self, chunk: &[u64], corner: &[u64]) -> Option<u64>
         requires first { IsCorner chunk.now self.now.first }
         requires corner { IsCorner chunk.now corner.now }
-        ensures { IfSome result (λ k. corner.now ≡ corner_beside chunk.now self.now.first k) }
+        ensures { IsNumberBeside chunk.now self.now.first corner.now result }
     {
         let last = self.rank.checked_sub(1)?;
         if self.first[..last] != corner[..last] || corner[last] < self.first[last] {

@@ -26,17 +26,19 @@ enum Lent<'a> {
 #[derive(Debug, Drop)]
 pub struct Buffer<'a> {
     lent: Lent<'a>,
+    /// How many values there are: kept, since each piece that is written asks for it.
+    count: usize,
 }
 
 impl<'a> Model for Buffer<'a> {
     ghost use Rattle.std.specs.Prelude.{ℤ, List};
-    ghost use Rattle.h5_layout.specs.Buffers.{AreValuesLent, values_lent};
+    ghost use Rattle.h5_layout.specs.Buffers.{AreValuesCounted, values_lent};
 
     ghost Value = { List ℤ };
 
     ghost view = { λ b. values_lent b.lent };
 
-    ghost invariant = { λ b. AreValuesLent b.lent };
+    ghost invariant = { λ b. AreValuesCounted b.lent b.count };
 }
 
 impl<'a> Buffer<'a> {
@@ -46,6 +48,7 @@ impl<'a> Buffer<'a> {
     {
         Buffer {
             lent: Lent::Numbers(values),
+            count: values.len(),
         }
     }
 
@@ -60,6 +63,7 @@ impl<'a> Buffer<'a> {
         }
         Some(Buffer {
             lent: Lent::Cells(fixed, bytes),
+            count: bytes.len() / fixed.size(),
         })
     }
 
@@ -71,17 +75,17 @@ impl<'a> Buffer<'a> {
             Lent::Numbers(values) => Lent::Numbers(values),
             Lent::Cells(fixed, bytes) => Lent::Cells(*fixed, bytes),
         };
-        Buffer { lent }
+        Buffer {
+            lent,
+            count: self.count,
+        }
     }
 
     /// How many values there are.
     pub fn len(&self) -> usize
         ensures { result ≡ length self.now }
     {
-        match &self.lent {
-            Lent::Numbers(values) => values.len(),
-            Lent::Cells(fixed, bytes) => bytes.len() / fixed.size(),
-        }
+        self.count
     }
 
     /// The first so many values, and the others.
@@ -100,7 +104,13 @@ impl<'a> Buffer<'a> {
                 (Lent::Cells(*fixed, first), Lent::Cells(*fixed, others))
             }
         };
-        (Buffer { lent: first }, Buffer { lent: others })
+        (
+            Buffer { lent: first, count },
+            Buffer {
+                lent: others,
+                count: self.count - count,
+            },
+        )
     }
 
     /// Whether each value is one of this type. Cells of the type itself are not looked at.
@@ -114,18 +124,20 @@ impl<'a> Buffer<'a> {
     }
 
     /// Writes the values as cells of this type, one behind another.
+    // What converts them stands apart: cells of the type itself, as most are, are then one copy, and no register is
+    // saved for more.
     pub(crate) fn write(&self, fixed: &Fixed, to: &mut [u8])
         requires room { length to.old ≡ length self.now * fixed.now.size }
         requires of_type { list_all (is_of_type fixed.now) self.now ≡ true }
         ensures { to.new ≡ cells_bytes fixed.now self.now }
     {
         match &self.lent {
-            Lent::Numbers(values) => write_values(fixed, values, to),
+            Lent::Numbers(values) => write_numbers(values, *fixed, to),
             Lent::Cells(own, bytes) => {
                 if own == fixed {
                     to.copy_from_slice(bytes);
                 } else {
-                    write_converted(own, bytes, fixed, to);
+                    write_converted(*own, bytes, *fixed, to);
                 }
             }
         }
@@ -146,17 +158,28 @@ fn are_cells_of_type(own: &Fixed, bytes: &[u8], fixed: &Fixed) -> bool
     true
 }
 
+/// Writes numbers as cells of the type `fixed`, which has them.
+#[inline(never)]
+fn write_numbers(values: &[i128], fixed: Fixed, to: &mut [u8])
+    requires room { length to.old ≡ length values.now * fixed.size }
+    requires of_type { list_all (is_of_type fixed) values.now ≡ true }
+    ensures { to.new ≡ cells_bytes fixed values.now }
+{
+    write_values(&fixed, values, to);
+}
+
 /// Writes the values of cells of the type `own` as cells of the type `fixed`, which has them.
-fn write_converted(own: &Fixed, bytes: &[u8], fixed: &Fixed, to: &mut [u8])
-    requires whole { are_whole_cells own.now bytes.now ≡ true }
-    requires room { length to.old ≡ length (stored_values own.now bytes.now) * fixed.now.size }
-    requires of_type { list_all (is_of_type fixed.now) (stored_values own.now bytes.now) ≡ true }
-    ensures { to.new ≡ cells_bytes fixed.now (stored_values own.now bytes.now) }
+#[inline(never)]
+fn write_converted(own: Fixed, bytes: &[u8], fixed: Fixed, to: &mut [u8])
+    requires whole { are_whole_cells own bytes.now ≡ true }
+    requires room { length to.old ≡ length (stored_values own bytes.now) * fixed.size }
+    requires of_type { list_all (is_of_type fixed) (stored_values own bytes.now) ≡ true }
+    ensures { to.new ≡ cells_bytes fixed (stored_values own bytes.now) }
 {
     let size = own.size();
     let width = fixed.size();
     for k in 0..bytes.len() / size {
-        let value = value_at(own, bytes, k * size);
-        write_values(fixed, &[value], &mut to[k * width..k * width + width]);
+        let value = value_at(&own, bytes, k * size);
+        write_values(&fixed, &[value], &mut to[k * width..k * width + width]);
     }
 }

@@ -68,6 +68,8 @@ impl<'a> StoredCells<'a> {
     }
 
     /// A piece of the cells from a place on, with at most so many, and how many it has.
+    // Inlined: what is done for each piece shows beside the few cells that one has.
+    #[inline(always)]
     pub(crate) fn piece(&mut self, place: u64, most: u64) -> (Piece<'a>, u64)
         requires some { 0 < most }
         requires below { place + most ≤ length self.old.values }

@@ -1,6 +1,6 @@
 //! The cells of an array in chunks (File Format Specification 3.0, section III.A.1).
 
-ghost use Rattle.std.specs.Prelude.{◌≡◌, ℕ, ◌+◌, ◌*◌, ◌^◌, ◌<◌, ◌≤◌, IfSome, IsTrue, length, option_map, take};
+ghost use Rattle.std.specs.Prelude.{◌≡◌, ℕ, List, ◌+◌, ◌*◌, ◌^◌, ◌<◌, ◌≤◌, IfSome, IsTrue, length, option_map, take};
 ghost use Rattle.std.specs.FinMap.{get};
 ghost use Rattle.std.specs.List.{AllByRecursion};
 ghost use Rattle.h5_model.specs.Tree.Grid.{corner_of, inner_of};
@@ -11,10 +11,10 @@ ghost use Rattle.h5_chunks.specs.Shapes.{AreChunkSizes};
 ghost use Rattle.h5_chunks.specs.Told.{chunks_told};
 ghost use Rattle.h5_shape.specs.InBox.{IsCorner};
 ghost use Rattle.h5_layout.specs.ChunkCells.{AreBeside, AreChunkBytes, IsGrid, chunk_of, left_in_row, place_in_chunk};
-ghost use Rattle.h5_layout.specs.FoundChunks.{AreChunksBeside};
+ghost use Rattle.h5_layout.specs.FoundChunks.{AreChunksBeside, IsNumberBeside};
 ghost use Rattle.h5_layout.specs.GridKept.{HasNext, IsRowOf};
 
-use crate::beside::RowCursor;
+use crate::beside::{FoundChunks, RowCursor};
 use crate::index::{ChunkIndex, FoundRow};
 use h5_chunks::{ChunkCursor, ChunkShape, chunk_from};
 use h5_msg::ChunkSizes;
@@ -112,6 +112,8 @@ impl<'a> ChunkGrid<'a> {
     }
 
     /// The cells from this place on that stand one behind the other in a row of a chunk.
+    // Inlined, as `ChunkIndex::row_at` is.
+    #[inline(always)]
     pub(crate) fn row_at(&mut self, place: u64) -> ChunkRow
         requires { place < cells_of self.old.sizes }
         ensures same { self.new ≡ self.old }
@@ -242,45 +244,108 @@ impl<'a, 'g> GridRef<'a, 'g> {
         requires beside { AreChunksBeside (chunks_told self.now.image self.now.shape self.now.root)
             self.now.shape.sizes cursor.old.beside }
         requires row { 0 < row.old.cells → IsRowOf self.now row.old }
+        requires number { IsNumberBeside self.now.shape.sizes cursor.old.beside.first
+            (take (length self.now.sizes) row.old.corner) row.old.number }
         ensures cursor { IsCursor self.now.image self.now.shape self.now.root cursor.new.tree }
         ensures beside { AreChunksBeside (chunks_told self.now.image self.now.shape self.now.root)
             self.now.shape.sizes cursor.new.beside }
         ensures row { IsRowOf self.now row.new }
+        ensures number { IsNumberBeside self.now.shape.sizes cursor.new.beside.first
+            (take (length self.now.sizes) row.new.corner) row.new.number }
         ensures start { row.new.start ≡ place }
         ensures some { 0 < row.new.cells }
     {
-        let run = self.run_from(row, place);
+        self.place_row(row, place);
+        row.at = self.address_beside(cursor, &row.corner[..self.sizes.len()], &mut row.number);
+    }
+
+    /// Makes the row that was found last the one from this place on, where the next chunk has it, and is one of those
+    /// that were found beside one another. Returns whether it did; else the row is as it was.
+    // Inlined, as `row_at` is.
+    #[inline(always)]
+    pub(crate) fn step_row(&self, beside: &FoundChunks, row: &mut FoundRow, place: u64) -> bool
+        requires grid { IsGrid self.now }
+        requires below { place < cells_of self.now.sizes }
+        requires beside { AreChunksBeside (chunks_told self.now.image self.now.shape self.now.root)
+            self.now.shape.sizes beside.now }
+        requires row { 0 < row.old.cells → IsRowOf self.now row.old }
+        requires number { IsNumberBeside self.now.shape.sizes beside.now.first
+            (take (length self.now.sizes) row.old.corner) row.old.number }
+        ensures row { 0 < row.new.cells → IsRowOf self.now row.new }
+        ensures number { IsNumberBeside self.now.shape.sizes beside.now.first
+            (take (length self.now.sizes) row.new.corner) row.new.number }
+        ensures start { IsTrue result → row.new.start ≡ place }
+        ensures some { IsTrue result → 0 < row.new.cells }
+    {
+        if !self.goes_on(row, place) {
+            return false;
+        }
+        let Some(at) = beside.address_of(next_number(row.number)) else {
+            return false;
+        };
+        self.go_on(row, place);
+        row.at = Some(at);
+        true
+    }
+
+    /// Makes a row the one from this place on. The address of its chunk is left as it was.
+    #[inline(always)]
+    fn place_row(&self, row: &mut FoundRow, place: u64)
+        requires below { place < cells_of self.now.sizes }
+        requires row { 0 < row.old.cells → IsRowOf self.now row.old }
+        requires number { (first : List ℕ) × IsNumberBeside self.now.shape.sizes first
+            (take (length self.now.sizes) row.old.corner) row.old.number }
+        ensures start { row.new.start ≡ place }
+        ensures number { (first : List ℕ)
+            → IsNumberBeside self.now.shape.sizes first
+            (take (length self.now.sizes) row.old.corner) row.old.number
+            → IsNumberBeside self.now.shape.sizes first
+            (take (length self.now.sizes) row.new.corner) row.new.number }
+        ensures row { IsRowOf self.now (record row.new { at = chunk_of self.now row.new.start }) }
+        ensures some { 0 < row.new.cells }
+    {
+        if self.goes_on(row, place) {
+            self.go_on(row, place);
+            return;
+        }
+        let run = locate(
+            self.sizes,
+            self.chunk,
+            place,
+            &mut row.corner[..self.sizes.len()],
+        );
         row.start = place;
         row.cells = run.length;
         row.inner = run.place;
-        row.at = self.address_beside(cursor, &row.corner[..self.sizes.len()]);
+        row.number = None;
     }
 
-    /// The cells from this place on in a row of a chunk, by their place in the chunk, whose first index `row` has then.
-    /// Where the array's row of cells goes on behind the row that was found last, that is the next chunk, and nothing is
-    /// divided.
+    /// Makes a row the one from this place on, which is in the next chunk: nothing is divided, and the chunk's number
+    /// is known if that of the last one was. The address of the chunk is left as it was.
     #[inline(always)]
-    fn run_from(&self, row: &mut FoundRow, place: u64) -> CellRun
+    fn go_on(&self, row: &mut FoundRow, place: u64)
         requires below { place < cells_of self.now.sizes }
-        requires row { 0 < row.old.cells → IsRowOf self.now row.old }
-        ensures corner { take (length self.now.sizes) row.new.corner
-            ≡ corner_of self.now.shape.sizes (index_of self.now.sizes place) }
-        ensures inner { result.place ≡ place_in_chunk self.now place }
-        ensures some { 0 < result.length }
-        ensures beside { AreBeside self.now.sizes self.now.shape.sizes place result.length }
-        ensures all { 0 < length self.now.sizes
-            → result.length ≡ left_in_row self.now.sizes self.now.shape.sizes place }
+        requires row { IsRowOf self.now row.old }
+        requires next { HasNext self.now.sizes self.now.shape.sizes row.old place }
+        requires number { (first : List ℕ) × IsNumberBeside self.now.shape.sizes first
+            (take (length self.now.sizes) row.old.corner) row.old.number }
+        ensures start { row.new.start ≡ place }
+        ensures next { row.new.number ≡ option_map (λ k. k + 1) row.old.number }
+        ensures number { (first : List ℕ)
+            → IsNumberBeside self.now.shape.sizes first
+            (take (length self.now.sizes) row.old.corner) row.old.number
+            → IsNumberBeside self.now.shape.sizes first
+            (take (length self.now.sizes) row.new.corner) row.new.number }
+        ensures row { IsRowOf self.now (record row.new { at = chunk_of self.now row.new.start }) }
+        ensures some { 0 < row.new.cells }
     {
-        let rank = self.sizes.len();
-        if !self.goes_on(row, place) {
-            return locate(self.sizes, self.chunk, place, &mut row.corner[..rank]);
-        }
-        let size = self.chunk[rank - 1];
-        row.corner[rank - 1] += size;
-        CellRun {
-            place: row.inner + row.cells - size,
-            length: size.min(self.sizes[rank - 1] - row.corner[rank - 1]),
-        }
+        let last = self.sizes.len() - 1;
+        let size = self.chunk[last];
+        row.number = next_number(row.number);
+        row.start = place;
+        row.inner = row.inner + row.cells - size;
+        row.corner[last] += size;
+        row.cells = size.min(self.sizes[last] - row.corner[last]);
     }
 
     /// Whether the cell at this place is the one behind this row, and the next chunk has it.
@@ -297,11 +362,17 @@ impl<'a, 'g> GridRef<'a, 'g> {
             && self.sizes[last].saturating_sub(row.corner[last]) > self.chunk[last]
     }
 
-    /// The address of the chunk with this first index, where it is stored. The tree is read only where it is none of
-    /// those that were found beside one another; then it comes among them.
+    /// The address of the chunk with this first index, where it is stored, and its number among those that were found
+    /// beside one another. The tree is read only where it is none of them; then it comes among them.
     #[inline(always)]
-    fn address_beside(&self, cursor: &mut RowCursor, corner: &[u64]) -> Option<u64>
+    fn address_beside(
+        &self,
+        cursor: &mut RowCursor,
+        corner: &[u64],
+        number: &mut Option<u64>,
+    ) -> Option<u64>
         requires corner { IsCorner self.now.shape.sizes corner.now }
+        requires number { IsNumberBeside self.now.shape.sizes cursor.old.beside.first corner.now number.old }
         requires cursor { IsCursor self.now.image self.now.shape self.now.root cursor.old.tree }
         requires beside { AreChunksBeside (chunks_told self.now.image self.now.shape self.now.root)
             self.now.shape.sizes cursor.old.beside }
@@ -310,12 +381,15 @@ impl<'a, 'g> GridRef<'a, 'g> {
         ensures cursor { IsCursor self.now.image self.now.shape self.now.root cursor.new.tree }
         ensures beside { AreChunksBeside (chunks_told self.now.image self.now.shape self.now.root)
             self.now.shape.sizes cursor.new.beside }
+        ensures number { IsNumberBeside self.now.shape.sizes cursor.new.beside.first corner.now number.new }
     {
-        if let Some(at) = cursor.beside.address_of(self.chunk, corner) {
+        let behind = cursor.beside.number_from(self.chunk, corner, *number);
+        *number = behind;
+        if let Some(at) = cursor.beside.address_of(behind) {
             return Some(at);
         }
         let at = self.address_of(&mut cursor.tree, corner)?;
-        cursor.beside.put(self.chunk, corner, at);
+        *number = cursor.beside.put(corner, behind, at);
         Some(at)
     }
 
@@ -332,6 +406,15 @@ impl<'a, 'g> GridRef<'a, 'g> {
         let shape = ChunkShape::new(self.chunk, self.chunk_bytes);
         chunk_from(self.image, &shape, self.root, cursor, corner)
     }
+}
+
+/// The number of the chunk behind the one with this number.
+#[inline(always)]
+fn next_number(number: Option<u64>) -> Option<u64>
+    requires { IfSome number (λ k. k + 1 < 2 ^ 64) }
+    ensures { result ≡ option_map (λ k. k + 1) number }
+{
+    Some(number? + 1)
 }
 
 /// Copies chunk sizes.

@@ -1,6 +1,6 @@
 //! The chunks of an array by its sizes, those of a chunk, and their tree (File Format Specification 3.0, section III.A.1).
 
-ghost use Rattle.std.specs.Prelude.{◌≡◌, ◌+◌, ◌*◌, ◌^◌, ◌<◌, ◌≤◌, IfSome, None, [], length, replicate};
+ghost use Rattle.std.specs.Prelude.{◌≡◌, ◌+◌, ◌*◌, ◌^◌, ◌<◌, ◌≤◌, IfSome, IsTrue, None, [], length, replicate};
 ghost use Rattle.h5_model.specs.Tree.Places.{cells as cells_of};
 ghost use Rattle.h5_chunks.specs.Shapes.{AreChunkSizes};
 ghost use Rattle.h5_layout.specs.ChunkCells.{AreBeside, chunk_of, place_in_chunk};
@@ -26,6 +26,8 @@ pub(crate) struct FoundRow {
     pub(crate) at: Option<u64>,
     /// The first index of the chunk.
     pub(crate) corner: [u64; 32],
+    /// How many chunks behind the first of those beside one another the chunk stands, where that is known.
+    pub(crate) number: Option<u64>,
 }
 
 /// An array in chunks: its sizes, those of a chunk, how many bytes a chunk has, the root of the tree, where chunks were
@@ -70,7 +72,7 @@ impl ChunkIndex {
           shape = record { sizes = chunk_sizes.now; bytes = cells_of chunk_sizes.now * size };
           root = root;
           cursor = record { tree = None; beside = record { first = replicate (length dims.now) 0; at = [] } };
-          row = record { start = 0; cells = 0; inner = 0; at = None; corner = replicate 32 0 };
+          row = record { start = 0; cells = 0; inner = 0; at = None; corner = replicate 32 0; number = None };
         } }
         ensures sound { AreChunkSizes chunk_sizes.now }
     {
@@ -93,6 +95,7 @@ impl ChunkIndex {
                 inner: 0,
                 at: None,
                 corner: [0; MAX_RANK],
+                number: None,
             },
         }
     }
@@ -106,6 +109,8 @@ impl ChunkIndex {
 
     /// The cells from this place on that stand one behind the other in a row of a chunk. Where they are among those that
     /// were found last, nothing is sought.
+    // Inlined, as `StoredCells::piece` is, so that what it gives passes through no memory.
+    #[inline(always)]
     pub(crate) fn row_at(&mut self, image: &Image, place: u64) -> ChunkRow
         requires kept { IsGridKept image.now.bytes self.old }
         requires below { place < cells_of self.old.sizes }
@@ -128,6 +133,7 @@ impl ChunkIndex {
     }
 
     /// Makes the row that was found last one that has this place.
+    #[inline(always)]
     fn seek(&mut self, image: &Image, place: u64)
         requires kept { IsGridKept image.now.bytes self.old }
         requires below { place < cells_of self.old.sizes }
@@ -140,10 +146,35 @@ impl ChunkIndex {
         if row.start <= place && place - row.start < row.cells {
             return;
         }
-        self.find_row(image, place);
+        if !self.step(image, place) {
+            self.find_row(image, place);
+        }
+    }
+
+    /// Makes the row that was found last the one from this place on, where the next chunk has it, and its address is
+    /// known. Returns whether it did.
+    #[inline(always)]
+    fn step(&mut self, image: &Image, place: u64) -> bool
+        requires kept { IsGridKept image.now.bytes self.old }
+        requires below { place < cells_of self.old.sizes }
+        ensures same { self.new ≡ record self.old { cursor = self.new.cursor; row = self.new.row } }
+        ensures kept { IsGridKept image.now.bytes self.new }
+        ensures start { IsTrue result → self.new.row.start ≡ place }
+        ensures some { IsTrue result → 0 < self.new.row.cells }
+    {
+        let grid = GridRef::lent(
+            image,
+            &self.sizes[..self.rank],
+            &self.chunk[..self.rank],
+            self.chunk_bytes,
+            self.root,
+        );
+        grid.step_row(&self.cursor.beside, &mut self.row, place)
     }
 
     /// Finds the cells from this place on that stand one behind the other in a row of a chunk.
+    // Apart from `step`, which serves most pieces: what is sought in the tree is far longer.
+    #[inline(never)]
     fn find_row(&mut self, image: &Image, place: u64)
         requires kept { IsGridKept image.now.bytes self.old }
         requires below { place < cells_of self.old.sizes }

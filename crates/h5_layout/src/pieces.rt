@@ -62,6 +62,8 @@ impl<'a> Iterator for Runs<'a> {
 
     ghost remaining = { λ r. at_most (length r.values) };
 
+    // Inlined, as `StoredCells::piece` is: few loops go over pieces.
+    #[inline(always)]
     fn next(&mut self) -> Option<Piece<'a>> {
         let run = run_under_way(self.run, &mut self.runs)?;
         let (piece, cells) = self.cells.piece(run.place, run.length);

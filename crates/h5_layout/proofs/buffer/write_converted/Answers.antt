@@ -12,15 +12,15 @@ use Rattle.h5_layout.proofs.buffer.write_converted.Goals as goal
 use Rattle.h5_layout.proofs.buffer.write_converted.Goals.{After-value_at-value}
 
 -- there is a value at this place
-low : (c : After-value_at-value) → c.loop-k.k < length (stored_values c.args.own.now c.args.bytes.now)
+low : (c : After-value_at-value) → c.loop-k.k < length (stored_values c.args.own c.args.bytes.now)
 low c =
-    let counts : length c.args.bytes.now / c.size-size.result ≡ length c.args.bytes.now / c.args.own.now.size = ap (λ n. length c.args.bytes.now / n) c.size-size.ensures.size in
-    omega (arith, c.loop-k-test.true, counts, length-stored c.args.own.now c.args.bytes.now)
+    let counts : length c.args.bytes.now / c.size-size.result ≡ length c.args.bytes.now / c.args.own.size = ap (λ n. length c.args.bytes.now / n) c.size-size.ensures.size in
+    omega (arith, c.loop-k-test.true, counts, length-stored c.args.own c.args.bytes.now)
 
 -- it is this one
-value : (c : After-value_at-value) → to_z w128 (of_z w128 c.value_at-value.result) ≡ get_or (stored_values c.args.own.now c.args.bytes.now) c.loop-k.k (pos 0)
+value : (c : After-value_at-value) → to_z w128 (of_z w128 c.value_at-value.result) ≡ get_or (stored_values c.args.own c.args.bytes.now) c.loop-k.k (pos 0)
 value c =
-    let own = c.args.own.now in
+    let own = c.args.own in
     let bytes = c.args.bytes.now in
     let some = size-low own c.size-size.ensures.one_of in
     let exact : to_z w128 (of_z w128 c.value_at-value.result) ≡ c.value_at-value.result = search rules in
@@ -33,8 +33,8 @@ value c =
 room : (c : After-value_at-value) → c.loop-k.k * c.size-width.result + c.size-width.result ≤ length c.args.to.now
 room c =
     let width = c.size-width.ensures.size in
-    let within = cell_within c.loop-k.k (length (stored_values c.args.own.now c.args.bytes.now)) c.args.fixed.now.size (length c.args.to.now) (low c) c.requires.room in
-    let place : c.loop-k.k * c.size-width.result ≡ c.loop-k.k * c.args.fixed.now.size = ap (λ n. c.loop-k.k * n) width in
+    let within = cell_within c.loop-k.k (length (stored_values c.args.own c.args.bytes.now)) c.args.fixed.size (length c.args.to.now) (low c) c.requires.room in
+    let place : c.loop-k.k * c.size-width.result ≡ c.loop-k.k * c.args.fixed.size = ap (λ n. c.loop-k.k * n) width in
     omega (arith, within, place, width)
 
 pub overflow_mul-k-in-loop-k : goal.overflow_mul-k-in-loop-k
@@ -58,14 +58,14 @@ slice_bounds-write_values-end-in-loop-k c = omega (arith, room (goal.at.slice_bo
 pub write_values-requires-clause-of_type : goal.write_values-requires-clause-of_type
 write_values-requires-clause-of_type c =
     let a = (goal.at.write_values-requires-clause-of_type c).After-value_at-value in
-    let values = stored_values c.args.own.now c.args.bytes.now in
-    ap (λ b. b && true) (ap (fits c.args.fixed.now) (value a) ∙ all_at c.args.fixed.now values c.loop-k.k c.requires.of_type (low a))
+    let values = stored_values c.args.own c.args.bytes.now in
+    ap (λ b. b && true) (ap (fits c.args.fixed) (value a) ∙ all_at c.args.fixed values c.loop-k.k c.requires.of_type (low a))
 
 pub loop-k-preserved : goal.loop-k-preserved
 loop-k-preserved c =
     let a = (goal.at.loop-k-preserved c).After-value_at-value in
-    let t = c.args.fixed.now in
-    let values = stored_values c.args.own.now c.args.bytes.now in
+    let t = c.args.fixed in
+    let values = stored_values c.args.own c.args.bytes.now in
     let v : ℤ = get_or values c.loop-k.k (pos 0) in
     let wrote : c.write_values.new.bytes ≡ bytes_of t v = c.write_values.ensures ∙ append-nil (bytes_of t (to_z w128 (of_z w128 c.value_at-value.result))) ∙ ap (bytes_of t) (value a) in
     let same = c.size-width.ensures.size in
@@ -81,9 +81,9 @@ loop-k-preserved c =
 
 pub returns : goal.returns
 returns c =
-    let own = c.args.own.now in
+    let own = c.args.own in
     let bytes = c.args.bytes.now in
     let counts : length bytes / c.size-size.result ≡ length bytes / own.size = ap (λ n. length bytes / n) c.size-size.ensures.size in
-    let place : c.loop-k.k * c.size-width.result ≡ c.loop-k.k * c.args.fixed.now.size = ap (λ (n : ℕ). c.loop-k.k * n) c.size-width.ensures.size in
-    all_written c.args.fixed.now (stored_values own bytes) c.loop-k.k c.args.to.now c.loop-k.to (omega (arith, c.loop-k-test.false, counts, length-stored own bytes)) c.requires.room
-    (c.loop-k.invariant ∙ ap (λ (n : ℕ). cells_bytes c.args.fixed.now (take c.loop-k.k (stored_values own bytes)) ++ drop n c.args.to.now) place)
+    let place : c.loop-k.k * c.size-width.result ≡ c.loop-k.k * c.args.fixed.size = ap (λ (n : ℕ). c.loop-k.k * n) c.size-width.ensures.size in
+    all_written c.args.fixed (stored_values own bytes) c.loop-k.k c.args.to.now c.loop-k.to (omega (arith, c.loop-k-test.false, counts, length-stored own bytes)) c.requires.room
+    (c.loop-k.invariant ∙ ap (λ (n : ℕ). cells_bytes c.args.fixed (take c.loop-k.k (stored_values own bytes)) ++ drop n c.args.to.now) place)
