@@ -3,3 +3,5 @@ pub mod NodeNames
 pub mod AscendLaws
 pub mod NameEnds
 pub mod OrderFaults
+pub mod TextCommon
+pub mod ApartLanes

@@ -1,15 +1,16 @@
 -- Links whose names rise from the first on ascend; and where the names of a row of symbol nodes ascend, those of each part do.
-use Rattle.std.proofs.Common.{◌≡◌, ℕ, zero, suc, List, [], ◌∷◌, ◌++◌, refl, ap, ◌∙◌, subst, append-nil}
-use Rattle.std.specs.Prelude.{Some, None, map}
+use Rattle.std.proofs.Common.{◌≡◌, ℕ, zero, suc, ◌<◌, List, [], ◌∷◌, ◌++◌, length, take, get_or, refl, sym, ap, ◌∙◌, subst, append-nil}
+use Rattle.std.specs.Prelude.{Option, Some, None, map, option_map}
 use Rattle.std.specs.List.{AllByRecursion, flat_map}
 use Rattle.std.proofs.lemmas.List.{map-append}
 use Rattle.std.proofs.lemmas.Grind.{flat_map-append}
+use Rattle.h5_bytes.specs.Texts.{text_at}
 use Rattle.h5_model.specs.Format.Superblock.{leaf_k}
 use Rattle.h5_model.specs.Format.Symbols.{Entry, Target, link_of, symbols_at}
 use Rattle.h5_model.specs.Format.Rows.{Node, Reading, leaves}
 use Rattle.h5_model.specs.Format.Links.{Ascend, Before}
 use Rattle.h5_btree.specs.Order.{IsKnownFrom}
-use Rattle.h5_btree.specs.Rising.{RiseFrom}
+use Rattle.h5_btree.specs.Rising.{FallFrom, IsAbove, RiseFrom, last_value}
 use Rattle.h5_btree.proofs.LeafLaws.{leaves-append}
 use Rattle.h5_group.specs.Order.Between.{NamesAscend, name_of_entry}
 
@@ -21,6 +22,13 @@ module _ (segment : List ℕ) where
   pub rise_ascend : (es : List Entry) → RiseFrom (name_of_entry segment) Before None es → Ascend (map (link_of segment) es)
   rise_ascend [] rise = tt
   rise_ascend (e ∷ es) rise = rise_on e es rise.1
+
+-- where an entry's name is not above the last one before it, they fall
+pub fall_here : (segment : List ℕ) (before : Option (List ℕ)) (es : List Entry) (k : ℕ) (e : Entry) → k < length es → get_or es k e ≡ e → (last : Option ℕ)
+    → option_map (text_at segment) last ≡ last_value (name_of_entry segment) before (take k es)
+    → (IsAbove Before (option_map (text_at segment) last) (name_of_entry segment e) → ⊥) → FallFrom (name_of_entry segment) Before before es
+fall_here segment before es k e low there None is below = absurd (below tt)
+fall_here segment before es k e low there (Some last) is below = (k, e, text_at segment last, low, there, sym is, below)
 
 -- ---- parts
 

@@ -4,7 +4,7 @@ use Rattle.std.specs.Prelude.{option_map, unwrap_or}
 use Rattle.std.specs.List.{AllByRecursion}
 use Rattle.std.proofs.lemmas.List.{take_more}
 use Rattle.std.proofs.lemmas.Option.{slice_get-get_or}
-use Rattle.h5_bytes.proofs.BlockLaws.{all_append}
+use Rattle.h5_bytes.proofs.BlockLaws.{all_append, all_left, all_right}
 use Rattle.h5_model.specs.Format.Symbols.{Entry}
 use Rattle.h5_model.specs.declared.open_fault.Cause.{Cause}
 use Rattle.h5_snod.specs.Entries.{symbol_from}
@@ -32,6 +32,13 @@ module _ (es : List Entry) (k : ℕ) (low : k < length es) (symbol : SymbolEntry
       let sound : Sound (get_or es k blank) = subst (IsEntrySound segment) (sym entry_is) here in
       subst (AllByRecursion Sound) (sym (take_more es k blank low)) (all_append Sound (take k es) (get_or es k blank ∷ []) before (sound, tt))
 
+  -- it is sound where all are
+  pub sound_one : (segment : List ℕ) → AreEntriesSound segment es → IsEntrySound segment symbol
+  sound_one segment all =
+      let Sound : Entry → Type 0 = λ e. IsEntrySound segment (symbol_from e) in
+      let parts = subst (AllByRecursion Sound) (around es k blank low) all in
+      subst (IsEntrySound segment) entry_is (all_right Sound (take k es) (get_or es k blank ∷ drop (k + 1) es) parts).0
+
   pub entry_refused : (segment : List ℕ) (cause : Cause) → AreEntriesSound segment (take k es) → IsEntryRefused segment symbol cause
       → AreEntriesRefused segment es cause
   entry_refused segment cause sound refused = record {
@@ -55,3 +62,16 @@ refused_between segment whole before es behind cause is sound r = record {
   sound = all_append (λ (e : Entry). IsEntrySound segment (symbol_from e)) before r.before sound r.sound;
   refused = r.refused;
 }
+
+-- entries among sound ones are sound
+pub sound_between : (segment : List ℕ) (whole before es behind : List Entry) → whole ≡ before ++ (es ++ behind) → AreEntriesSound segment whole → AreEntriesSound segment es
+sound_between segment whole before es behind is sound =
+    let Sound : Entry → Type 0 = λ e. IsEntrySound segment (symbol_from e) in
+    all_left Sound es behind (all_right Sound before (es ++ behind) (subst (AllByRecursion Sound) is sound))
+
+-- and with sound ones before them too
+pub sound_both : (segment : List ℕ) (whole before es : List Entry) → whole ≡ before ++ es → AreEntriesSound segment before → AreEntriesSound segment es
+    → AreEntriesSound segment whole
+sound_both segment whole before es is first second =
+    let Sound : Entry → Type 0 = λ e. IsEntrySound segment (symbol_from e) in
+    subst (AllByRecursion Sound) (sym is) (all_append Sound before es first second)

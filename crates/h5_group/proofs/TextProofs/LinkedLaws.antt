@@ -1,14 +1,18 @@
 -- Texts that links name, taken one after another (File Format Specification 3.0, section III.D).
-use Rattle.std.proofs.Common.{◌≡◌, ℕ, ◌+◌, ◌<◌, List, [], ◌∷◌, ◌++◌, length, take, drop, get_or, sym, ap, ◌∙◌, subst, append_assoc}
+use Rattle.std.proofs.Common.{false, Result, Ok, Err, ◌≡◌, ℕ, ◌+◌, ◌<◌, List, [], ◌∷◌, ◌++◌, length, take, drop, get_or, sym, ap, ◌∙◌, subst, append_assoc}
+use Rattle.std.specs.Prelude.{IfErr}
+use Rattle.std.specs.Result.{is_ok}
 use Rattle.std.specs.List.{flat_map}
 use Rattle.std.specs.List.Sorted.{IsPermutation}
 use Rattle.h5_bytes.specs.Bytes.{part}
+use Rattle.h5_bytes.specs.Blocks.{cover}
 use Rattle.h5_bytes.specs.declared.Block.{Block}
 use Rattle.h5_model.specs.declared.open_fault.Cause.{Cause}
-use Rattle.h5_model.specs.declared.open_fault.Cause.TheVariants.{HeapName, NoMemory}
+use Rattle.h5_model.specs.declared.open_fault.OpenFault.{OpenFault}
+use Rattle.h5_model.specs.declared.open_fault.Cause.TheVariants.{HeapName}
 use Rattle.h5_heap.specs.Kept.{HeapState, segment_in}
-use Rattle.h5_heap.specs.Spans.{Takes, IsUntaken, HasTaken}
-use Rattle.h5_heap.proofs.RefusedLaws.{take_refused}
+use Rattle.h5_heap.specs.Spans.{Takes, IsNotEmpty, IsUntaken, HasTaken}
+use Rattle.h5_heap.proofs.RefusedLaws.{begin_refused, take_refused}
 use Rattle.h5_group.specs.Texts.Taken.{IsSameHeap, TakesLinked, AreUnsound, AreLinkedRefused}
 use Rattle.h5_group.proofs.TextProofs.ListLaws.{flat_step, flat_around}
 
@@ -52,44 +56,49 @@ module _ (image : List ℕ) (a b : HeapState) (xs : List ℕ) (first : TakesLink
         (subst (λ (zs : List ℕ). HasTaken (segment_in image b) c zs []) (append_assoc linked xs ys) done);
   }
 
-  pub refused_after : (ys : List ℕ) (cause : Cause) → AreLinkedRefused image b ys cause → AreLinkedRefused image a (xs ++ ys) cause
-  refused_after ys cause refused = λ linked taken.
-      subst (λ (free : List Block). AreUnsound (segment_in image a) free (linked ++ (xs ++ ys)) cause) first.same.free
-      (subst (λ (s : List ℕ). AreUnsound s b.free (linked ++ (xs ++ ys)) cause) (segment_same image a b first.same)
-      (subst (λ (zs : List ℕ). AreUnsound (segment_in image b) b.free zs cause) (append_assoc linked xs ys) (refused (linked ++ xs) (taken_now linked taken))))
+  pub refused_after : (ys : List ℕ) → AreLinkedRefused image b ys → AreLinkedRefused image a (xs ++ ys)
+  refused_after ys refused = λ linked taken.
+      subst (λ (free : List Block). AreUnsound (segment_in image a) free (linked ++ (xs ++ ys))) first.same.free
+      (subst (λ (s : List ℕ). AreUnsound s b.free (linked ++ (xs ++ ys))) (segment_same image a b first.same)
+      (subst (AreUnsound (segment_in image b) b.free) (append_assoc linked xs ys) (refused (linked ++ xs) (taken_now linked taken))))
 
 -- ---- texts that were refused
 
-unsound_more : (segment : List ℕ) (free : List Block) (xs ys : List ℕ) (cause : Cause) → AreUnsound segment free xs cause → AreUnsound segment free (xs ++ ys) cause
-unsound_more segment free xs ys HeapName refused = λ names texts keys loose more same sound.
-    refused names texts keys loose (ys ++ more) (subst (IsPermutation (names ++ texts)) (append_assoc xs ys more) same) sound
-unsound_more segment free xs ys NoMemory refused = tt
-unsound_more segment free xs ys _ refused = absurd refused
+pub refused_more : (image : List ℕ) (heap : HeapState) (xs ys : List ℕ) → AreLinkedRefused image heap xs → AreLinkedRefused image heap (xs ++ ys)
+refused_more image heap xs ys refused = λ linked taken names texts keys loose more same sound.
+    let whole : (linked ++ (xs ++ ys)) ++ more ≡ (linked ++ xs) ++ (ys ++ more)
+    = ap (λ (zs : List ℕ). zs ++ more) (sym (append_assoc linked xs ys)) ∙ append_assoc (linked ++ xs) ys more in
+    refused linked taken names texts keys loose (ys ++ more) (subst (IsPermutation (names ++ texts)) whole same) sound
 
-pub refused_more : (image : List ℕ) (heap : HeapState) (xs ys : List ℕ) (cause : Cause) → AreLinkedRefused image heap xs cause → AreLinkedRefused image heap (xs ++ ys) cause
-refused_more image heap xs ys cause refused = λ linked taken.
-    subst (λ (zs : List ℕ). AreUnsound (segment_in image heap) heap.free zs cause) (append_assoc linked xs ys)
-    (unsound_more (segment_in image heap) heap.free (linked ++ xs) ys cause (refused linked taken))
+untaken_name : (segment : List ℕ) (held : List Block) (offset : ℕ) (cause : Cause) → IsUntaken segment held offset cause → IsUntaken segment held offset HeapName
+untaken_name segment held offset HeapName refused = refused
+untaken_name segment held offset _ refused = absurd refused
+
+-- what a call says of a text that is not taken
+pub untaken_by : {T : Type 0} (segment : List ℕ) (held : List Block) (offset : ℕ) (r : Result T OpenFault) → IfErr r (λ fault. IsUntaken segment held offset fault.cause)
+    → is_ok r ≡ false → IsUntaken segment held offset HeapName
+untaken_by segment held offset (Ok x) refused none = cc
+untaken_by segment held offset (Err fault) refused none = untaken_name segment held offset fault.cause refused
 
 -- one text is refused
-unsound_one : (image : List ℕ) (heap : HeapState) (offset : ℕ) (linked : List ℕ) → HasTaken (segment_in image heap) heap linked [] → (cause : Cause)
-    → IsUntaken (segment_in image heap) heap.held offset cause → AreUnsound (segment_in image heap) heap.free (linked ++ offset ∷ []) cause
-unsound_one image heap offset linked taken HeapName refused = λ names texts keys loose more same sound.
-    take_refused (segment_in image heap) heap names texts keys loose sound linked offset more taken
-    (subst (IsPermutation (names ++ texts)) (append_assoc linked (offset ∷ []) more) same) refused
-unsound_one image heap offset linked taken NoMemory refused = tt
-unsound_one image heap offset linked taken _ refused = absurd refused
-
 pub refused_one : (image : List ℕ) (heap : HeapState) (offset : ℕ) (cause : Cause) → IsUntaken (segment_in image heap) heap.held offset cause
-    → AreLinkedRefused image heap (offset ∷ []) cause
-refused_one image heap offset cause refused = λ linked taken. unsound_one image heap offset linked taken cause refused
+    → AreLinkedRefused image heap (offset ∷ [])
+refused_one image heap offset cause refused = λ linked taken names texts keys loose more same sound.
+    take_refused (segment_in image heap) heap names texts keys loose sound linked offset more taken
+    (subst (IsPermutation (names ++ texts)) (append_assoc linked (offset ∷ []) more) same)
+    (untaken_name (segment_in image heap) heap.held offset cause refused)
+
+-- the empty name is refused
+pub empty_refused : (segment : List ℕ) (heap : HeapState) → ((p : ℕ) → cover p heap.held ≡ cover p heap.free) → (cause : Cause) → IsNotEmpty segment heap.held cause
+    → (offsets : List ℕ) → AreUnsound segment heap.free offsets
+empty_refused segment heap covered HeapName refused offsets = λ names texts keys loose more same sound. begin_refused segment heap names texts keys loose sound covered refused
+empty_refused segment heap covered _ refused offsets = absurd refused
 
 -- texts that come before and behind
-pub refused_within : (image : List ℕ) (a b : HeapState) (whole before offsets behind : List ℕ) (cause : Cause) → whole ≡ before ++ (offsets ++ behind)
-    → TakesLinked image a b before → AreLinkedRefused image b offsets cause → AreLinkedRefused image a whole cause
-refused_within image a b whole before offsets behind cause is first refused =
-    subst (λ (zs : List ℕ). AreLinkedRefused image a zs cause) (sym is)
-    (refused_after image a b before first (offsets ++ behind) cause (refused_more image b offsets behind cause refused))
+pub refused_within : (image : List ℕ) (a b : HeapState) (whole before offsets behind : List ℕ) → whole ≡ before ++ (offsets ++ behind)
+    → TakesLinked image a b before → AreLinkedRefused image b offsets → AreLinkedRefused image a whole
+refused_within image a b whole before offsets behind is first refused =
+    subst (AreLinkedRefused image a) (sym is) (refused_after image a b before first (offsets ++ behind) (refused_more image b offsets behind refused))
 
 -- ---- texts of one after another
 
@@ -98,6 +107,6 @@ module _ {X : Type 0} (f : X → List ℕ) (xs : List X) (i : ℕ) (d : X) (low 
   pub taken_step : (c : HeapState) → TakesLinked image b c (f (get_or xs i d)) → TakesLinked image a c (flat_map f (take (i + 1) xs))
   taken_step c second = subst (TakesLinked image a c) (sym (flat_step f xs i d low)) (takes_both image a b (flat_map f (take i xs)) first c (f (get_or xs i d)) second)
 
-  pub refused_step : (cause : Cause) → AreLinkedRefused image b (f (get_or xs i d)) cause → AreLinkedRefused image a (flat_map f xs) cause
-  refused_step cause refused = refused_within image a b (flat_map f xs) (flat_map f (take i xs)) (f (get_or xs i d)) (flat_map f (drop (i + 1) xs)) cause
+  pub refused_step : AreLinkedRefused image b (f (get_or xs i d)) → AreLinkedRefused image a (flat_map f xs)
+  refused_step refused = refused_within image a b (flat_map f xs) (flat_map f (take i xs)) (f (get_or xs i d)) (flat_map f (drop (i + 1) xs))
       (flat_around f xs i d low) first refused

@@ -23,9 +23,9 @@ use Rattle.h5_model.specs.declared.open_fault.Cause.{Cause}
 use Rattle.h5_model.specs.declared.open_fault.Cause.TheVariants.{HeapName, BadName, NoMemory}
 use Rattle.h5_model.proofs.OneTree.{level_is, owned_is}
 use Rattle.h5_heap.specs.Kept.{HeapState, segment_in}
-use Rattle.h5_heap.specs.Spans.{IsNotEmpty, HasTaken}
+use Rattle.h5_heap.specs.Spans.{HasTaken}
 use Rattle.h5_heap.proofs.NameLaws.{link_offsets, walk_takes_all, has_names}
-use Rattle.h5_heap.proofs.BreachLaws.{begin_breach, name_breach}
+use Rattle.h5_heap.proofs.BreachLaws.{name_breach}
 use Rattle.h5_snod.specs.Entries.{symbol_from}
 use Rattle.h5_snod.specs.declared.entry.SymbolTarget.TheVariants.{Header, Text}
 use Rattle.h5_btree.specs.Walk.Forms.{OfGroup}
@@ -35,7 +35,7 @@ use Rattle.h5_group.specs.Texts.Named.{AreTexts, IsFreshHeap}
 use Rattle.h5_group.specs.Texts.Refused.{AreTextsRefused, IsFirstTextFault}
 use Rattle.h5_group.specs.Nodes.Stands.{entries_at, keys_at}
 use Rattle.h5_group.specs.Texts.Linked.{linked_by, linked_at, text_of, IsNamed, IsEntrySound, AreEntriesSound, AreEntriesRefused}
-use Rattle.h5_group.specs.Texts.Taken.{IsSameHeap, TakesLinked, NamesKeys, AreKeysNamed, AreLinkedRefused, AreKeysRefused}
+use Rattle.h5_group.specs.Texts.Taken.{IsSameHeap, TakesLinked, NamesKeys, AreKeysNamed, AreUnsound, AreKeysRefused}
 use Rattle.h5_group.proofs.TextProofs.LinkedLaws.{same_both, segment_same}
 
 -- ---- the texts of all entries
@@ -132,11 +132,6 @@ module _ (image : List ℕ) (table : SymbolTable) (heap : HeapState) (nodes symb
       (symbol_nodes, r.entry, has, among BadName r, subst (λ (s : List ℕ). IsTrue (not (is_name (text_at s (r.entry).name)))) segment_is (r.refused).1)
   names_refused _ r = absurd r.refused
 
-  pub empty_refused : (cause : Cause) → IsNotEmpty (segment_in image heap) heap.held cause → AreTextsRefused image table cause
-  empty_refused HeapName refused = begin_breach image table.tree table.heap symbol_nodes has heap fresh.segment fresh.read fresh.held refused
-  empty_refused NoMemory refused = tt
-  empty_refused _ refused = absurd refused
-
   -- ---- and it is the first fault
 
   abbrev IsFirst : Cause → Type 0
@@ -155,15 +150,8 @@ module _ (image : List ℕ) (table : SymbolTable) (heap : HeapState) (nodes symb
     all_sound : AreEntriesSound (segment_of image table.heap) es
     all_sound = subst (λ (s : List ℕ). AreEntriesSound s es) segment_is sound
 
-    pub empty_first : (cause : Cause) → IsNotEmpty (segment_in image heap) heap.held cause → IsFirst cause
-    empty_first HeapName refused = inr (inr all_sound)
-    empty_first NoMemory refused = tt
-    empty_first _ refused = absurd refused
-
-    pub linked_first : (now : HeapState) → HasTaken (segment_in image now) now [] [] → (cause : Cause) → AreLinkedRefused image now linked cause → IsFirst cause
-    linked_first now taken HeapName refused = inr (inr all_sound)
-    linked_first now taken NoMemory refused = tt
-    linked_first now taken _ refused = absurd (refused [] taken)
+    pub linked_first : IsFirst HeapName
+    linked_first = inr (inr all_sound)
 
     pub keys_first : (now : HeapState) → HasTaken (segment_in image now) now linked [] → (cause : Cause) → AreKeysRefused image now keys cause → IsFirst cause
     keys_first now taken HeapName refused = inr (inr all_sound)
@@ -191,13 +179,6 @@ module _ (image : List ℕ) (table : SymbolTable) (heap : HeapState) (nodes symb
       fresh.read,
       λ loose sound. unsound loose (sound_now loose (subst (λ (ks : List ℕ). HasNames (segment_of image table.heap) heap.free names (texts_of es) ks loose) (sym keys_are) sound)),
     )
-
-    -- the empty name was taken
-    pub linked_refused : HasTaken (segment_in image now) now [] [] → (cause : Cause) → AreLinkedRefused image now linked cause → AreTextsRefused image table cause
-    linked_refused taken HeapName refused = breach (λ loose sound. refused [] taken names (texts_of es) keys loose []
-        (subst (IsPermutation (names ++ texts_of es)) (sym (append-nil linked)) (IsPermutation-sym linked (names ++ texts_of es) same_linked)) sound)
-    linked_refused taken NoMemory refused = tt
-    linked_refused taken _ refused = absurd (refused [] taken)
 
     -- the texts that links name were taken
     module _ (taken : HasTaken (segment_in image now) now linked []) where
@@ -227,3 +208,8 @@ module _ (image : List ℕ) (table : SymbolTable) (heap : HeapState) (nodes symb
             loose = all.loose';
             spans = sound_then all.loose' (subst (λ (free : List Block). HasNames (segment_in image now) free names (texts_of es) keys all.loose') (named.same).free sound);
           }
+
+  -- the texts that links name cannot be taken
+  pub linked_refused : AreUnsound (segment_in image heap) heap.free linked → AreTextsRefused image table HeapName
+  linked_refused unsound = breach heap (record { at = refl; segment = refl; free = refl }) (λ loose sound. unsound names (texts_of es) keys loose []
+      (subst (IsPermutation (names ++ texts_of es)) (sym (append-nil linked)) (IsPermutation-sym linked (names ++ texts_of es) same_linked)) sound)

@@ -20,17 +20,15 @@ pub record TakesLinked (image : List ℕ) (old new : HeapState) (offsets : List 
   pub same : IsSameHeap old new
   pub taken : (linked : List ℕ) → HasTaken (segment_in image old) old linked [] → HasTaken (segment_in image old) new (linked ++ offsets) []
 
--- with these texts, and maybe more, which links name, the spans are not sound; or memory was short
-abbrev pub AreUnsound : List ℕ → List Block → List ℕ → Cause → Type 0
-AreUnsound segment free offsets NoMemory = Unit {0}
-AreUnsound segment free offsets HeapName = (names texts keys loose more : List ℕ) → IsPermutation (names ++ texts) (offsets ++ more)
+-- with these texts, and maybe more, which links name, the spans are not sound
+abbrev pub AreUnsound : List ℕ → List Block → List ℕ → Type 0
+AreUnsound segment free offsets = (names texts keys loose more : List ℕ) → IsPermutation (names ++ texts) (offsets ++ more)
     → HasNames segment free names texts keys loose → ⊥
-AreUnsound segment free offsets _ = ⊥
 
--- why one of these texts, which links name, is not taken after those of other links
-abbrev pub AreLinkedRefused : List ℕ → HeapState → List ℕ → Cause → Type 0
-AreLinkedRefused image heap offsets cause = (linked : List ℕ) → HasTaken (segment_in image heap) heap linked []
-    → AreUnsound (segment_in image heap) heap.free (linked ++ offsets) cause
+-- one of these texts, which links name, cannot be taken after those of other links
+abbrev pub AreLinkedRefused : List ℕ → HeapState → List ℕ → Type 0
+AreLinkedRefused image heap offsets = (linked : List ℕ) → HasTaken (segment_in image heap) heap linked []
+    → AreUnsound (segment_in image heap) heap.free (linked ++ offsets)
 
 -- each of these keys names a text; those that no link names are taken from now on
 pub record AreKeysNamed (segment : List ℕ) (heap : HeapState) (linked loose keys : List ℕ) : Type 0 where

@@ -1,7 +1,8 @@
 //! The order of a group's names between the keys of its tree (File Format Specification 3.0, section III.A.1).
 
-ghost use Rattle.std.specs.Prelude.{◌≡◌, ◌↔◌, ℕ, IsTrue, List, [], ◌∷◌, length};
+ghost use Rattle.std.specs.Prelude.{◌≡◌, ◌↔◌, ◌-◌, ◌<◌, ℕ, IfSome, IsTrue, List, [], ◌∷◌, length, slice_get};
 ghost use Rattle.std.specs.List.{AllByRecursion};
+ghost use Rattle.h5_bytes.specs.Texts.{text_at};
 ghost use Rattle.h5_model.specs.Format.Superblock.{IsSuperblock, leaf_k};
 ghost use Rattle.h5_model.specs.Format.Symbols.{symbols_at};
 ghost use Rattle.h5_model.specs.Format.Links.{Before, NotAfter, offset_in};
@@ -9,12 +10,13 @@ ghost use Rattle.h5_laws.specs.Ladders.{IsOrderedBy, LieBetween, all_of};
 ghost use Rattle.h5_laws.specs.NameLadders.{key_text, name_lists, name_sides};
 ghost use Rattle.h5_btree.specs.Walk.Below.{IsBottom, reading_in};
 ghost use Rattle.h5_btree.specs.Walk.Forms.{OfGroup};
-ghost use Rattle.h5_group.specs.Order.Between.{LiesBetween, NamesAscend, names_at};
+ghost use Rattle.h5_group.specs.Order.Between.{LiesBetween, NamesAscend, name_of_entry, names_at};
 
 use crate::nodes::{group_kind, symbol_node};
 use crate::order::text::{is_before, is_not_after};
 use h5_btree::{Node, NodeKind, Ordered, Trees};
 use h5_bytes::{text_from, u64_at};
+use h5_snod::SymbolNode;
 use h5_space::Image;
 
 /// The names of a group: its keys and its entries are offsets of texts in this segment of its heap.
@@ -28,6 +30,8 @@ pub(crate) struct Names<'a> {
 struct Bounds<'a> {
     low: &'a [u8],
     high: &'a [u8],
+    /// The offset of the high one.
+    end: u64,
 }
 
 impl Trees for Names<'_> {
@@ -52,9 +56,11 @@ impl Ordered for Names<'_> {
     }
 
     fn lie_between(&self, image: &Image, node: &Node<'_>, low: &[u8], high: &[u8]) -> bool {
+        let end = u64_at(high, 0);
         let bounds = Bounds {
             low: text_from(self.segment, u64_at(low, 0)),
-            high: text_from(self.segment, u64_at(high, 0)),
+            high: text_from(self.segment, end),
+            end,
         };
         are_between(image, self.segment, node, &bounds)
     }
@@ -76,47 +82,50 @@ fn are_ordered(image: &Image, segment: &[u8], node: &Node) -> bool
         (reading_in image.now.bytes OfGroup)
         (name_lists (symbols_at image.now.bytes (leaf_k image.now.bytes)) segment.now) node.now }
 {
-    for i in 0..node.len() {
-        let bounds = Bounds {
-            low: node.key_name(i, segment),
-            high: node.key_name(i + 1, segment),
-        };
+    let count = node.len();
+    let mut low = node.key_name(0, segment);
+    for i in 0..count {
+        let end = node.key_offset(i + 1);
+        let high = text_from(segment, end);
+        let bounds = Bounds { low, high, end };
         if !is_child_ordered(image, segment, &bounds, node.child(i)) {
             return false;
         }
+        low = high;
     }
     true
 }
 
-/// Whether the bounds do not fall, and the names of the symbol node at this address, which ascend, lie between them.
+/// Whether the bounds do not fall, and the names of the symbol node at this address, which ascend, lie between them: its
+/// first is above the low one, and its last is not above the high one.
 fn is_child_ordered(image: &Image, segment: &[u8], bounds: &Bounds, at: u64) -> bool
     requires superblock { IsSuperblock image.now.bytes }
     requires symbols { IsBottom image.now.bytes OfGroup at }
     requires ascend { NamesAscend image.now.bytes segment.now (at ∷ []) }
+    requires end { bounds.now.high.now ≡ text_at segment.now bounds.now.end }
     ensures { IsTrue result ↔
         (NotAfter bounds.now.low.now bounds.now.high.now
         × AllByRecursion (LiesBetween bounds.now.low.now bounds.now.high.now)
         (names_at image.now.bytes segment.now (at ∷ []))) }
 {
-    is_not_after(bounds.low, bounds.high) && holds_between(image, segment, bounds, at)
+    let symbols = symbol_node(image, at);
+    if symbols.is_empty() {
+        return is_not_after(bounds.low, bounds.high);
+    }
+    // Where names lie between the bounds, these do not fall.
+    is_before(bounds.low, symbols.name(0, segment)) && ends_by(segment, &symbols, bounds)
 }
 
-/// Whether the names of a symbol node, which ascend, lie between the bounds: its first is above the low one, and its
-/// last is not above the high one.
-fn holds_between(image: &Image, segment: &[u8], bounds: &Bounds, at: u64) -> bool
-    requires superblock { IsSuperblock image.now.bytes }
-    requires symbols { IsBottom image.now.bytes OfGroup at }
-    requires ascend { NamesAscend image.now.bytes segment.now (at ∷ []) }
-    ensures { IsTrue result ↔ AllByRecursion (LiesBetween bounds.now.low.now bounds.now.high.now)
-        (names_at image.now.bytes segment.now (at ∷ [])) }
+/// Whether the last name of a symbol node is not above the high bound.
+fn ends_by(segment: &[u8], symbols: &SymbolNode, bounds: &Bounds) -> bool
+    requires some { 0 < length symbols.now }
+    requires end { bounds.now.high.now ≡ text_at segment.now bounds.now.end }
+    ensures { IsTrue result ↔ IfSome (slice_get symbols.now (length symbols.now - 1)) (λ e.
+        NotAfter (name_of_entry segment.now e) bounds.now.high.now) }
 {
-    let node = symbol_node(image, at);
-    let count = node.len();
-    if count == 0 {
-        return true;
-    }
-    is_before(bounds.low, node.name(0, segment))
-        && is_not_after(node.name(count - 1, segment), bounds.high)
+    let last = symbols.len() - 1;
+    // The key behind a symbol node mostly stands for its last name, by the same offset.
+    symbols.entry(last).name == bounds.end || is_not_after(symbols.name(last, segment), bounds.high)
 }
 
 /// Whether the names of all symbol nodes below a node of level 0, which ascend, lie between the bounds.

@@ -2,6 +2,7 @@
 
 ghost use Rattle.std.specs.Prelude.{◌≡◌, ◌↔◌, IsTrue, List, map, option_map, IfOk, IfErr, OnOk};
 ghost use Rattle.std.specs.List.{AllByRecursion};
+ghost use Rattle.h5_bytes.specs.Texts.{text_at};
 ghost use Rattle.h5_model.specs.Format.Superblock.{IsSuperblock, leaf_k};
 ghost use Rattle.h5_model.specs.Format.Symbols.{symbols_at, link_of};
 ghost use Rattle.h5_model.specs.Format.Links.{Ascend, Before};
@@ -12,7 +13,7 @@ ghost use Rattle.h5_group.specs.Order.Between.{name_of_entry};
 ghost use Rattle.h5_group.specs.Order.Ordered.{AscendsBefore};
 
 use crate::nodes::symbol_node;
-use crate::order::text::is_before;
+use crate::order::text::is_text_before;
 use h5_model::{Cause, OpenFault};
 use h5_space::Image;
 
@@ -41,29 +42,30 @@ pub(crate) fn check_names(
     Ok(())
 }
 
-/// Checks that the names in the symbol node at this address ascend, from the one before them on. Gives the last name so far.
-fn check_node<'a>(
+/// Checks that the names in the symbol node at this address ascend, from the one before them on. Gives the offset of the
+/// last name so far.
+fn check_node(
     image: &Image,
-    segment: &'a [u8],
+    segment: &[u8],
     at: u64,
-    before: Option<&'a [u8]>,
-) -> Result<Option<&'a [u8]>, OpenFault>
+    before: Option<u64>,
+) -> Result<Option<u64>, OpenFault>
     requires superblock { IsSuperblock image.now.bytes }
     requires symbols { IsSymbolsAt image.now.bytes at }
     ensures rise { OnOk result (RiseFrom (name_of_entry segment.now) Before
-        (option_map (λ x. x.now) before.entry) (symbols_at image.now.bytes (leaf_k image.now.bytes) at)) }
+        (option_map (text_at segment.now) before) (symbols_at image.now.bytes (leaf_k image.now.bytes) at)) }
     ensures last { IfOk result (λ last.
-        option_map (λ x. x.now) last ≡ last_value (name_of_entry segment.now)
-        (option_map (λ x. x.now) before.entry) (symbols_at image.now.bytes (leaf_k image.now.bytes) at)) }
+        option_map (text_at segment.now) last ≡ last_value (name_of_entry segment.now)
+        (option_map (text_at segment.now) before) (symbols_at image.now.bytes (leaf_k image.now.bytes) at)) }
     ensures refused { IfErr result (λ fault. fault ≡ record { cause = Cause.NameOrder; address = at }) }
     ensures falls { IfErr result (λ fault. FallFrom (name_of_entry segment.now) Before
-        (option_map (λ x. x.now) before.entry) (symbols_at image.now.bytes (leaf_k image.now.bytes) at)) }
+        (option_map (text_at segment.now) before) (symbols_at image.now.bytes (leaf_k image.now.bytes) at)) }
 {
     let node = symbol_node(image, at);
     let mut last = before;
     for k in 0..node.len() {
-        let name = node.name(k, segment);
-        if !is_above(last, name) {
+        let name = node.entry(k).name;
+        if !is_above(segment, last, name) {
             return Err(OpenFault {
                 cause: Cause::NameOrder,
                 address: at,
@@ -74,12 +76,13 @@ fn check_node<'a>(
     Ok(last)
 }
 
-/// Whether a name is above the last one, where there is one.
-fn is_above(last: Option<&[u8]>, name: &[u8]) -> bool
-    ensures { IsTrue result ↔ IsAbove Before (option_map (λ x. x.now) last.entry) name.now }
+/// Whether the name at an offset is above the last one, where there is one.
+fn is_above(segment: &[u8], last: Option<u64>, name: u64) -> bool
+    ensures { IsTrue result
+        ↔ IsAbove Before (option_map (text_at segment.now) last) (text_at segment.now name) }
 {
     match last {
-        Some(last) => is_before(last, name),
+        Some(last) => is_text_before(segment, last, name),
         None => true,
     }
 }

@@ -1,8 +1,16 @@
 //! The order of names by their bytes.
 
-ghost use Rattle.std.specs.Prelude.{◌≡◌};
+ghost use Rattle.std.specs.Prelude.{◌≡◌, ◌≢◌, ◌⊎◌, ◌↔◌, ℕ, ◌+◌, ◌<◌, ◌≤◌, IfNone, IfSome, IsTrue, length, slice_index};
 ghost use Rattle.std.specs.Cmp.Lexicographic.{slice_cmp};
 ghost use Rattle.std.specs.Ordering.{is_le, is_lt, nat_cmp};
+ghost use Rattle.h5_bytes.specs.Texts.{text_at};
+ghost use Rattle.h5_group.specs.Order.Common.{HaveCommon};
+
+use h5_bytes::text_from;
+use std::simd::prelude::*;
+
+/// How many bytes of two texts are compared together.
+const LANES: u64 = 16;
 
 /// Whether a name is before another.
 pub(crate) fn is_before(name: &[u8], other: &[u8]) -> bool
@@ -16,4 +24,55 @@ pub(crate) fn is_not_after(name: &[u8], other: &[u8]) -> bool
     ensures { result ≡ is_le (slice_cmp nat_cmp name.now other.now) }
 {
     name.cmp(&other).is_le()
+}
+
+/// Whether the text at an offset of a segment is before the one at another offset.
+pub(crate) fn is_text_before(segment: &[u8], offset: u64, other: u64) -> bool
+    ensures { result
+        ≡ is_lt (slice_cmp nat_cmp (text_at segment.now offset) (text_at segment.now other)) }
+{
+    let mut at = offset;
+    let mut at_other = other;
+    // The first byte that differs tells, or the zero of the shorter text: nothing has to look for their ends before.
+    while has_lanes(segment, at) && has_lanes(segment, at_other) {
+        if let Some(k) = first_apart(segment, at as usize, at_other as usize) {
+            return segment[at as usize + k] < segment[at_other as usize + k];
+        }
+        at += LANES;
+        at_other += LANES;
+    }
+    is_before(text_from(segment, offset), text_from(segment, other))
+}
+
+/// Whether sixteen bytes from a place on lie in the segment.
+fn has_lanes(segment: &[u8], at: u64) -> bool
+    ensures { IsTrue result ↔ (at + 16 ≤ length segment.now) }
+{
+    let len = segment.len() as u64;
+    len >= LANES && at <= len - LANES
+}
+
+/// How many bytes from one place and from another are the same and no zeros, before some differ or both are zero;
+/// `None` where sixteen are.
+#[inline(always)]
+fn first_apart(segment: &[u8], at: usize, other: usize) -> Option<usize>
+    requires lanes { at + 16 ≤ length segment.now }
+    requires other_lanes { other + 16 ≤ length segment.now }
+    ensures few { IfSome result (λ k. k < 16) }
+    ensures common { IfSome result (λ k. HaveCommon segment.now at other k) }
+    ensures apart { IfSome result (λ k.
+        (slice_index segment.now (at + k) ≢ slice_index segment.now (other + k))
+        ⊎ (slice_index segment.now (at + k) ≡ 0)) }
+    ensures none { IfNone result (HaveCommon segment.now at other 16) }
+{
+    let bytes = u8x16::from_slice(&segment[at..]);
+    let differ = bytes
+        .simd_ne(u8x16::from_slice(&segment[other..]))
+        .to_bitmask();
+    let zeros = bytes.simd_eq(u8x16::splat(0)).to_bitmask();
+    let apart = differ | zeros;
+    if apart == 0 {
+        return None;
+    }
+    Some(apart.trailing_zeros() as usize)
 }

@@ -12,13 +12,13 @@ ghost use Rattle.h5_group.specs.Texts.Named.{AreTexts, IsFreshHeap};
 ghost use Rattle.h5_group.specs.Texts.Refused.{AreTextsRefused, IsFirstTextFault};
 
 use crate::texts::keys::take_keys;
-use crate::texts::linked::take_linked;
+use crate::texts::linked::take_names;
 use crate::texts::names::{check_names, has_empty_name};
 use h5_btree::Tree;
 use h5_heap::Heap;
 use h5_model::{Cause, OpenFault};
 use h5_msg::SymbolTable;
-use h5_space::Image;
+use h5_space::{Image, fault};
 
 /// Checks the names, the texts of soft links and the keys of a group whose B-tree and heap were read. Their bytes in
 /// the heap count as taken from then on.
@@ -55,13 +55,13 @@ pub fn check_texts(
         (all_entries image.now.bytes tree.now.leaves.items) fault.cause) }
 {
     if !has_empty_name(image, heap) {
-        return Err(OpenFault {
-            cause: Cause::HeapName,
-            address: table.heap(),
-        });
+        return Err(fault(Cause::HeapName, table.heap()));
     }
-    check_names(image, heap, table.heap(), &tree.leaves)?;
-    heap.begin_names(image)?;
-    take_linked(image, heap, &tree.leaves)?;
+    // Names are looked at once, while they are taken. Only where that fails they are looked at again: what is wrong with a
+    // name comes before bytes that texts share.
+    if !take_names(image, heap, &tree.leaves) {
+        check_names(image, heap, table.heap(), &tree.leaves)?;
+        return Err(fault(Cause::HeapName, table.heap()));
+    }
     take_keys(image, heap, &tree.nodes)
 }

@@ -1,70 +1,110 @@
 //! The taking of the texts that a group's links name (File Format Specification 3.0, sections III.B and III.D).
 
-ghost use Rattle.std.specs.Prelude.{◌≡◌, ◌+◌, ◌≤◌, length, IfErr, OnOk};
+ghost use Rattle.std.specs.Prelude.{◌≡◌, ◌+◌, ◌≤◌, ℕ, IsTrue, IsFalse, [], length};
 ghost use Rattle.std.specs.List.{AllByRecursion, flat_map};
+ghost use Rattle.h5_bytes.specs.Blocks.{cover};
 ghost use Rattle.h5_model.specs.Format.Superblock.{IsSuperblock};
-ghost use Rattle.h5_group.specs.Nodes.Stands.{IsSymbolsAt};
-ghost use Rattle.h5_group.specs.Texts.Linked.{linked_from, linked_at};
-ghost use Rattle.h5_group.specs.Texts.Taken.{TakesLinked, AreLinkedRefused};
+ghost use Rattle.h5_heap.specs.Kept.{segment_in};
+ghost use Rattle.h5_heap.specs.Spans.{HasTaken};
+ghost use Rattle.h5_group.specs.Nodes.Stands.{IsSymbolsAt, entries_at};
+ghost use Rattle.h5_group.specs.Texts.Linked.{linked_from, linked_at, IsEntrySound, AreEntriesSound};
+ghost use Rattle.h5_group.specs.Texts.Taken.{IsSameHeap, TakesLinked, AreUnsound, AreLinkedRefused};
 
 use crate::nodes::symbol_node;
 use h5_heap::Heap;
-use h5_model::OpenFault;
+use h5_model::is_link_name;
 use h5_snod::{SymbolEntry, SymbolTarget};
 use h5_space::Image;
 
-/// Takes the names and soft link texts of these symbol nodes, entry by entry.
-pub(crate) fn take_linked(
-    image: &Image,
-    heap: &mut Heap,
-    symbol_nodes: &[u64],
-) -> Result<(), OpenFault>
+/// Takes the empty name, and the names and soft link texts of these symbol nodes, entry by entry.
+///
+/// False where that cannot be done: one of them is no text in the heap, shares a byte with what is free or was taken
+/// before, or is a name that a link may not have. Which of the others were taken then is left open.
+pub(crate) fn take_names(image: &Image, heap: &mut Heap, symbol_nodes: &[u64]) -> bool
     requires superblock { IsSuperblock image.now.bytes }
     requires there { AllByRecursion (IsSymbolsAt image.now.bytes) symbol_nodes.now }
     requires within { heap.old.segment.at + heap.old.segment.len ≤ length image.now.bytes }
-    ensures takes { OnOk result
-        (TakesLinked image.now.bytes heap.old heap.new
-        (flat_map (linked_at image.now.bytes) symbol_nodes.now)) }
-    ensures address { IfErr result (λ fault. fault.address ≡ heap.old.at) }
-    ensures refused { IfErr result (λ fault.
-        AreLinkedRefused image.now.bytes heap.old (flat_map (linked_at image.now.bytes) symbol_nodes.now)
-        fault.cause) }
+    requires held { (p : ℕ) → cover p heap.old.held ≡ cover p heap.old.free }
+    requires none { heap.old.taken ≡ [] }
+    ensures taken { IsTrue result → HasTaken (segment_in image.now.bytes heap.new) heap.new
+        (flat_map (linked_at image.now.bytes) symbol_nodes.now) [] }
+    ensures sound { IsTrue result → AreEntriesSound (segment_in image.now.bytes heap.old)
+        (flat_map (entries_at image.now.bytes) symbol_nodes.now) }
+    ensures same { IsSameHeap heap.old heap.new }
+    ensures refused { IsFalse result → AreEntriesSound (segment_in image.now.bytes heap.old)
+        (flat_map (entries_at image.now.bytes) symbol_nodes.now)
+        → AreUnsound (segment_in image.now.bytes heap.old) heap.old.free
+        (flat_map (linked_at image.now.bytes) symbol_nodes.now) }
+{
+    match heap.begin_names(image) {
+        Ok(()) => take_linked(image, heap, symbol_nodes),
+        Err(_) => false,
+    }
+}
+
+/// The same, where the empty name was taken.
+fn take_linked(image: &Image, heap: &mut Heap, symbol_nodes: &[u64]) -> bool
+    requires superblock { IsSuperblock image.now.bytes }
+    requires there { AllByRecursion (IsSymbolsAt image.now.bytes) symbol_nodes.now }
+    requires within { heap.old.segment.at + heap.old.segment.len ≤ length image.now.bytes }
+    ensures takes { IsTrue result → TakesLinked image.now.bytes heap.old heap.new
+        (flat_map (linked_at image.now.bytes) symbol_nodes.now) }
+    ensures sound { IsTrue result → AreEntriesSound (segment_in image.now.bytes heap.old)
+        (flat_map (entries_at image.now.bytes) symbol_nodes.now) }
+    ensures same { IsSameHeap heap.old heap.new }
+    ensures refused { IsFalse result → AreEntriesSound (segment_in image.now.bytes heap.old)
+        (flat_map (entries_at image.now.bytes) symbol_nodes.now)
+        → AreLinkedRefused image.now.bytes heap.old
+        (flat_map (linked_at image.now.bytes) symbol_nodes.now) }
 {
     for at in symbol_nodes {
-        take_entries(image, heap, *at)?;
+        if !take_entries(image, heap, *at) {
+            return false;
+        }
     }
-    Ok(())
+    true
 }
 
 /// The same of one symbol node.
-fn take_entries(image: &Image, heap: &mut Heap, at: u64) -> Result<(), OpenFault>
+fn take_entries(image: &Image, heap: &mut Heap, at: u64) -> bool
     requires superblock { IsSuperblock image.now.bytes }
     requires there { IsSymbolsAt image.now.bytes at }
     requires within { heap.old.segment.at + heap.old.segment.len ≤ length image.now.bytes }
-    ensures takes { OnOk result
-        (TakesLinked image.now.bytes heap.old heap.new (linked_at image.now.bytes at)) }
-    ensures address { IfErr result (λ fault. fault.address ≡ heap.old.at) }
-    ensures refused { IfErr result (λ fault.
-        AreLinkedRefused image.now.bytes heap.old (linked_at image.now.bytes at) fault.cause) }
+    ensures takes { IsTrue result
+        → TakesLinked image.now.bytes heap.old heap.new (linked_at image.now.bytes at) }
+    ensures sound { IsTrue result
+        → AreEntriesSound (segment_in image.now.bytes heap.old) (entries_at image.now.bytes at) }
+    ensures same { IsSameHeap heap.old heap.new }
+    ensures refused { IsFalse result
+        → AreEntriesSound (segment_in image.now.bytes heap.old) (entries_at image.now.bytes at)
+        → AreLinkedRefused image.now.bytes heap.old (linked_at image.now.bytes at) }
 {
     let node = symbol_node(image, at);
     for k in 0..node.len() {
-        take_entry(image, heap, node.entry(k))?;
+        if !take_entry(image, heap, node.entry(k)) {
+            return false;
+        }
     }
-    Ok(())
+    true
 }
 
-/// Takes the name of a link, and the text of a soft link.
-fn take_entry(image: &Image, heap: &mut Heap, entry: SymbolEntry) -> Result<(), OpenFault>
+/// Takes the name of a link, which is one that a link may have, and the text of a soft link.
+fn take_entry(image: &Image, heap: &mut Heap, entry: SymbolEntry) -> bool
     requires within { heap.old.segment.at + heap.old.segment.len ≤ length image.now.bytes }
-    ensures takes { OnOk result (TakesLinked image.now.bytes heap.old heap.new (linked_from entry)) }
-    ensures address { IfErr result (λ fault. fault.address ≡ heap.old.at) }
-    ensures refused { IfErr result (λ fault.
-        AreLinkedRefused image.now.bytes heap.old (linked_from entry) fault.cause) }
+    ensures takes { IsTrue result → TakesLinked image.now.bytes heap.old heap.new (linked_from entry) }
+    ensures sound { IsTrue result → IsEntrySound (segment_in image.now.bytes heap.old) entry }
+    ensures same { IsSameHeap heap.old heap.new }
+    ensures refused { IsFalse result → IsEntrySound (segment_in image.now.bytes heap.old) entry
+        → AreLinkedRefused image.now.bytes heap.old (linked_from entry) }
 {
-    heap.take(image, entry.name)?;
-    if let SymbolTarget::Text(offset) = entry.target {
-        heap.take(image, u64::from(offset))?;
+    let Ok(name) = heap.take(image, entry.name) else {
+        return false;
+    };
+    if !is_link_name(name) {
+        return false;
     }
-    Ok(())
+    match entry.target {
+        SymbolTarget::Text(offset) => heap.take(image, u64::from(offset)).is_ok(),
+        SymbolTarget::Header(_) => true,
+    }
 }
