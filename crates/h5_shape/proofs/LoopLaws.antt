@@ -147,34 +147,23 @@ step_first l ls some low =
     ∙ ap (λ (p : ℕ). (place_reached (l ∷ ls) + l.step) ∷ (spaced (l.left - 1) l.step (p + l.step) ++ flat_map (loop_places l) (ahead ls))) (sym (stands_after l ls some low))
 
 -- what a step of loop k gives and leaves
-pub record StepsTo (loops : List Loop) (k place : ℕ) (after : List Loop) : Type 0 where
-  pub next : ahead (drop k loops) ≡ place ∷ ahead (drop k after)
-  pub stands : IsStanding (drop k after) place
-
 pub own_step : (loops : List Loop) (k place : ℕ) (d : Loop) → k < length loops → 0 < (get_or loops k d).left → IsStanding (drop k loops) place
-    → StepsTo loops k (place + (get_or loops k d).step) (set loops k (stepped (get_or loops k d)))
+    → ahead (drop k loops) ≡ (place + (get_or loops k d).step) ∷ ahead (drop k (set loops k (stepped (get_or loops k d))))
 own_step loops k place d low some h =
     let l = get_or loops k d in
     let rest = drop (k + 1) loops in
     let all : drop k loops ≡ l ∷ rest = drop_more loops k d low in
-    let after : drop k (set loops k (stepped l)) ≡ stepped l ∷ rest = drop-set loops k (stepped l) low in
     let at : place ≡ place_reached (l ∷ rest) = h.at ∙ ap place_reached all in
     let within : AreWithin (l ∷ rest) = subst AreWithin all h.within in
-    record {
-      next = ap ahead all ∙ step_first l rest some within.0 ∙ ap (λ (p : ℕ). (p + l.step) ∷ ahead (stepped l ∷ rest)) (sym at)
-          ∙ ap (λ (xs : List Loop). (place + l.step) ∷ ahead xs) (sym after);
-      stands = subst (λ (xs : List Loop). IsStanding xs (place + l.step)) (sym after) (record {
-        at = ap (λ (p : ℕ). p + l.step) at ∙ sym (stands_after l rest some within.0);
-        within = (omega (arith, within.0), within.1);
-      });
-    }
+    ap ahead all ∙ step_first l rest some within.0 ∙ ap (λ (p : ℕ). (p + l.step) ∷ ahead (stepped l ∷ rest)) (sym at)
+    ∙ ap (λ (xs : List Loop). (place + l.step) ∷ ahead xs) (sym (drop-set loops k (stepped l) low))
 
 pub step_below : (bound : ℕ) (loops : List Loop) (k place : ℕ) (d : Loop) → k < length loops → 0 < (get_or loops k d).left → IsStanding (drop k loops) place
     → ArePlacesBelow bound (ahead (drop k loops)) → place + (get_or loops k d).step < bound
 step_below bound loops k place d low some stands h =
     let after = set loops k (stepped (get_or loops k d)) in
     let moved : ArePlacesBelow bound ((place + (get_or loops k d).step) ∷ ahead (drop k after)) =
-    subst (ArePlacesBelow bound) (own_step loops k place d low some stands).next h in
+    subst (ArePlacesBelow bound) (own_step loops k place d low some stands) h in
     moved.0
 
 -- ---- behind the last place of a loop
@@ -185,7 +174,6 @@ rest_below bound l ls h =
 
 -- where the loops around loop k stand
 pub record StandsAround (loops : List Loop) (k place bound : ℕ) (d : Loop) (after : List Loop) : Type 0 where
-  pub enough : (get_or loops k d).more * (get_or loops k d).step ≤ place
   pub stands : IsStanding (drop (k + 1) after) (place - (get_or loops k d).more * (get_or loops k d).step)
   pub small : ArePlacesBelow bound (ahead (drop (k + 1) after))
 
@@ -200,7 +188,6 @@ around loops k place bound d v low last h small =
     let whole : l.more - l.left ≡ l.more = omega (arith, last) in
     let at : place ≡ l.more * l.step + place_reached rest = h.at ∙ ap place_reached all ∙ ap (λ (n : ℕ). n * l.step + place_reached rest) whole in
     record {
-      enough = omega (arith, at);
       stands = rw same (record { at = omega (arith, at); within = within.1 });
       small = rw same (rest_below bound l rest (subst (λ (xs : List Loop). ArePlacesBelow bound (ahead xs)) all small));
     }

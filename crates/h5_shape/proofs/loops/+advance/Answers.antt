@@ -12,7 +12,7 @@ overflow_add-result t c =
     omega (arith, step_below (2 ^ 64) c.args.loops.now c.args.k c.args.place none (omega arith) (omega arith) c.requires.stands c.requires.small)
 
 pub returns-then-now-gt0-clause-next : goal.returns-then-now-gt0-clause-next
-returns-then-now-gt0-clause-next t c = (own_step c.args.loops.now c.args.k c.args.place none (omega arith) (omega arith) c.requires.stands).next
+returns-then-now-gt0-clause-next t c = own_step c.args.loops.now c.args.k c.args.place none (omega arith) (omega arith) c.requires.stands
 
 pub advance-requires : goal.advance-requires
 advance-requires t c =
