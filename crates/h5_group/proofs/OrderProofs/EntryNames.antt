@@ -8,7 +8,7 @@ use Rattle.h5_snod.specs.Entries.{symbol_from}
 use Rattle.h5_snod.specs.declared.entry.SymbolEntry.{SymbolEntry}
 use Rattle.h5_laws.specs.Ladders.{all_of}
 use Rattle.h5_laws.proofs.NameLadders.{names-append}
-use Rattle.h5_group.specs.Order.Between.{name_of_entry, names_at}
+use Rattle.h5_group.specs.Order.Between.{names_at}
 
 -- the entry that was read
 pub entry_offset : (es : List Entry) (k : ℕ) (symbol : SymbolEntry) → k < length es → option_map symbol_from (slice_get es k) ≡ Some symbol

@@ -88,8 +88,8 @@ fn are_ordered(image: &Image, segment: &[u8], node: &Node) -> bool
     true
 }
 
-/// Whether the bounds do not fall, and the names of the symbol node at this address, which ascend, lie between them: its
-/// first is above the low one, and its last is not above the high one.
+/// Whether the bounds do not fall, and the names of the symbol node at this address, which ascend, lie between them:
+/// its first is above the low one, and its last is not above the high one.
 fn is_child_ordered(image: &Image, segment: &[u8], bounds: Bounds, at: u64) -> bool
     requires superblock { IsSuperblock image.now.bytes }
     requires symbols { IsBottom image.now.bytes OfGroup at }

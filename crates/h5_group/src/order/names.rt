@@ -42,8 +42,8 @@ pub(crate) fn check_names(
     Ok(())
 }
 
-/// Checks that the names in the symbol node at this address ascend, from the one before them on. Gives the offset of the
-/// last name so far.
+/// Checks that the names in the symbol node at this address ascend, from the one before them on. Gives the offset of
+/// the last name so far.
 fn check_node(
     image: &Image,
     segment: &[u8],
