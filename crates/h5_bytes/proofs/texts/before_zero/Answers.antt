@@ -1,10 +1,20 @@
-use Rattle.std.proofs.Common.{◌≡◌, get_or, arith, sym, ◌∙◌}
+use Rattle.std.proofs.Common.{◌≡◌, ◌≢◌, ℕ, ◌<◌, get_or, inl, inr, arith, sym, ◌∙◌}
+use Rattle.std.proofs.lemmas.Bool.{cases_lt}
 use Rattle.std.proofs.lemmas.List.{take_all, get_or_past}
 use Rattle.h5_bytes.proofs.TextLaws.{until_at}
 use Rattle.h5_bytes.proofs.texts.before_zero.Goals as goal
 
-pub returns-then-byte-eq0 : goal.returns-then-byte-eq0
-returns-then-byte-eq0 c = sym (until_at c.args.bytes.now c.loop-end.end (omega arith) c.loop-end.invariant c.if-byte-eq0.true)
+pub returns-in-Some : goal.returns-in-Some
+returns-in-Some c =
+    let before : (k : ℕ) → k < c.in-Some.end → get_or c.args.bytes.now k 0 ≢ 0
+    = λ k low. elim (cases_lt k c.loop-from.from) [
+      | inl less ↦ (c.loop-from.invariant).1 k less
+      | inr more ↦ c.in-Some.ensures.first k more low
+    ] in
+    sym (until_at c.args.bytes.now c.in-Some.end (omega (arith, c.in-Some.ensures.found)) before (c.in-Some.ensures.found).2)
+
+pub returns-then-bytes-end-eq0 : goal.returns-then-bytes-end-eq0
+returns-then-bytes-end-eq0 c = sym (until_at c.args.bytes.now c.loop-end.end (omega arith) c.loop-end.invariant c.if-bytes-end-eq0.true)
 
 pub returns : goal.returns
 returns c =
