@@ -4,3 +4,4 @@ pub mod EntryLaws
 pub mod LinkedLaws
 pub mod KeyLaws
 pub mod TextLaws
+pub mod AllowedNames

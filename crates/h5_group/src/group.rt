@@ -57,7 +57,8 @@ pub fn read_group(
 {
     let mut heap = read_heap(alloc, image, claims, table.heap())?;
     let tree = read_tree(alloc, image, claims, &SymbolNodes, table.tree())?;
-    check_texts(image, &mut heap, table, &tree)?;
-    check_order(image, segment_at(image, table.heap()), table, &tree)?;
+    let segment = segment_at(image, table.heap());
+    check_texts(image, segment, &mut heap, table, &tree)?;
+    check_order(image, segment, table, &tree)?;
     Ok(())
 }

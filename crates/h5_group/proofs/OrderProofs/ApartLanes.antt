@@ -1,5 +1,5 @@
 -- What sixteen bytes from one place and from another have in common: the bits of the masks that comparisons of them give.
-use Rattle.std.proofs.Common.{◌≡◌, ◌≢◌, ℕ, ◌+◌, ◌-◌, ◌*◌, ◌/◌, ◌%◌, ◌^◌, ◌<◌, ◌≤◌, ◌⊎◌, inl, inr, List, Bool, true, false, not, cond, eqb, map, max, length, get_or, bit_or, refl, sym, ap, ◌∙◌, arith, w8, w64}
+use Rattle.std.proofs.Common.{◌≡◌, ◌≢◌, ℕ, ◌+◌, ◌%◌, ◌^◌, ◌<◌, ◌≤◌, ◌⊎◌, inl, inr, List, Bool, true, false, not, cond, eqb, map, max, length, get_or, bit_or, refl, sym, ap, ◌∙◌, arith, w8, w64}
 use native.Mathlib.Nat.{zero-div}
 use Rattle.std.specs.Int.{bit_at}
 use Rattle.std.proofs.lemmas.Bool.{cases_lt, eqb-true, eqb-false}

@@ -8,19 +8,7 @@ use Rattle.h5_snod.specs.Entries.{symbol_from}
 use Rattle.h5_snod.specs.declared.entry.SymbolEntry.{SymbolEntry}
 use Rattle.h5_laws.specs.Ladders.{all_of}
 use Rattle.h5_laws.proofs.NameLadders.{names-append}
-use Rattle.h5_group.specs.Order.Between.{name_of_entry, names_at}
-
--- the entry of which a name was read
-pub entry_named : (segment : List ℕ) (es : List Entry) (k : ℕ) (name : List ℕ) → k < length es
-    → option_map (λ (e : Entry). name_of_entry segment e) (slice_get es k) ≡ Some name
-    → (e : Entry) × (get_or es k e ≡ e) × (name_of_entry segment e ≡ name)
-entry_named segment es k name low is =
-    let d : Entry = entry_of [] in
-    let e : Entry = get_or es k d in
-    let read : slice_get es k ≡ Some e = slice_get-get_or es k d low in
-    let named : Some (name_of_entry segment e) ≡ Some name
-    = ap (λ (o : Option Entry). option_map (λ (x : Entry). name_of_entry segment x) o) (sym read) ∙ is in
-    (e, get_or_from_slice_get es k e e read, cc)
+use Rattle.h5_group.specs.Order.Between.{names_at}
 
 -- the entry that was read
 pub entry_offset : (es : List Entry) (k : ℕ) (symbol : SymbolEntry) → k < length es → option_map symbol_from (slice_get es k) ≡ Some symbol

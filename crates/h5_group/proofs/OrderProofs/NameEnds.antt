@@ -1,17 +1,14 @@
 -- Names that ascend are above a bound exactly where the first one is, and none is above a bound exactly where the last one is not. They
 -- stand in a row of symbol nodes, of which some may be empty.
 use Rattle.std.proofs.Common.{◌≡◌, ℕ, ◌+◌, ◌<◌, ◌≤◌, List, [], ◌∷◌, ◌++◌, length, take, drop, get_or, refl, sym, ap, ◌∙◌, subst, arith, append-nil, append_assoc}
-use Rattle.std.specs.Prelude.{◌↔◌, Option, None, Some, IfSome, map, option_map, unwrap_or}
+use Rattle.std.specs.Prelude.{◌↔◌, map}
 use Rattle.std.specs.List.{AllByRecursion, flat_map}
 use Rattle.std.proofs.lemmas.List.{take_more, take_all, take-append-drop, drop_more}
 use Rattle.std.proofs.lemmas.Grind.{flat_map-append}
-use Rattle.h5_bytes.specs.Texts.{text_at}
 use Rattle.h5_model.specs.Format.Symbols.{Entry, link_of}
 use Rattle.h5_model.specs.Format.Links.{Ascend, Before, NotAfter, Symbols, names_in}
-use Rattle.h5_model.proofs.TextOrder.{before_le, not_after_itself, not_after_trans}
+use Rattle.h5_model.proofs.TextOrder.{before_le, not_after_trans}
 use Rattle.h5_laws.proofs.Ascending.{before_trans}
-use Rattle.h5_snod.specs.Entries.{symbol_from}
-use Rattle.h5_snod.specs.declared.entry.SymbolEntry.{SymbolEntry}
 use Rattle.h5_group.specs.Order.Between.{name_of_entry}
 
 -- ---- entries
@@ -48,14 +45,6 @@ module _ (segment : List ℕ) where
       → AllByRecursion P (names_in S segment (at ∷ [])) → P (name e)
   first_named S at es stand P e some is all =
       first_of_all P es e some is (subst (λ (fs : List Entry). AllByRecursion P (map name (fs ++ []))) (sym stand) all)
-
-  -- an entry whose name stands at the offset of the bound is not after it
-  pub ends_at : (o : Option Entry) (symbol : SymbolEntry) (end : ℕ) (high : List ℕ) → option_map symbol_from o ≡ Some symbol → symbol.name ≡ end
-      → high ≡ text_at segment end → IfSome o (λ e. NotAfter (name e) high)
-  ends_at None symbol end high read named is = tt
-  ends_at (Some e) symbol end high read named is =
-      let same : name e ≡ high = ap (text_at segment) (ap (λ (s : SymbolEntry). s.name) (ap (λ (o : Option SymbolEntry). unwrap_or o symbol) read) ∙ named) ∙ sym is in
-      subst (NotAfter (name e)) same (not_after_itself (name e))
 
 -- ---- the entries around one that is the first, or the last
 

@@ -1,8 +1,8 @@
 -- Two texts in one segment are in the order of the first bytes that differ, or of the zero that ends one of them.
-use Rattle.std.proofs.Common.{Ordering, Less, Equal, Greater, ◌≡◌, ◌≢◌, ℕ, zero, suc, ◌+◌, ◌-◌, ◌<◌, ◌≤◌, ◌⊎◌, inl, inr, List, [], ◌∷◌, Bool, true, false, cond, length, drop, get_or, refl, sym, ap, ◌∙◌, subst, arith, length-drop, get_or-drop}
+use Rattle.std.proofs.Common.{Ordering, Less, Equal, Greater, ◌≡◌, ◌≢◌, ℕ, zero, suc, ◌+◌, ◌-◌, ◌<◌, ◌⊎◌, inl, inr, List, [], ◌∷◌, Bool, true, false, not, cond, length, drop, get_or, refl, sym, arith, length-drop, get_or-drop}
 use Rattle.std.specs.Prelude.{◌==◌, if◌then◌else◌, nat_lt}
 use Rattle.std.specs.Cmp.Lexicographic.{slice_cmp}
-use Rattle.std.specs.Ordering.{is_lt, nat_cmp, ordering_then}
+use Rattle.std.specs.Ordering.{is_le, is_lt, nat_cmp, ordering_reverse, ordering_then}
 use Rattle.std.proofs.lemmas.Bool.{cases_lt}
 use Rattle.std.proofs.lemmas.Bool.Decides.{nat_tests}
 use Rattle.h5_bytes.specs.Texts.{text_at, until_zero}
@@ -10,6 +10,12 @@ use Rattle.h5_group.specs.Order.Common.{HaveCommon}
 
 order : List ℕ → List ℕ → Bool
 order xs ys = is_lt (slice_cmp nat_cmp xs ys)
+
+-- what is not behind another is before it or the same
+pub turned : (r : Ordering) → not (is_lt (ordering_reverse r)) ≡ is_le r
+turned Less = refl
+turned Equal = refl
+turned Greater = refl
 
 -- the bytes that differ decide
 apart_decide : (x y : ℕ) (r : Ordering) → x ≢ y → (b : Bool) → nat_lt x y ≡ b → is_lt (ordering_then (cond b Less (cond (x == y) Equal Greater)) r) ≡ b

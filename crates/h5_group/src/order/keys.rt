@@ -1,6 +1,6 @@
 //! The order of a group's names between the keys of its tree (File Format Specification 3.0, section III.A.1).
 
-ghost use Rattle.std.specs.Prelude.{◌≡◌, ◌↔◌, ◌-◌, ◌<◌, ℕ, IfSome, IsTrue, List, [], ◌∷◌, length, slice_get};
+ghost use Rattle.std.specs.Prelude.{◌≡◌, ◌↔◌, ℕ, IsTrue, List, [], ◌∷◌, length};
 ghost use Rattle.std.specs.List.{AllByRecursion};
 ghost use Rattle.h5_bytes.specs.Texts.{text_at};
 ghost use Rattle.h5_model.specs.Format.Superblock.{IsSuperblock, leaf_k};
@@ -10,13 +10,12 @@ ghost use Rattle.h5_laws.specs.Ladders.{IsOrderedBy, LieBetween, all_of};
 ghost use Rattle.h5_laws.specs.NameLadders.{key_text, name_lists, name_sides};
 ghost use Rattle.h5_btree.specs.Walk.Below.{IsBottom, reading_in};
 ghost use Rattle.h5_btree.specs.Walk.Forms.{OfGroup};
-ghost use Rattle.h5_group.specs.Order.Between.{LiesBetween, NamesAscend, name_of_entry, names_at};
+ghost use Rattle.h5_group.specs.Order.Between.{LiesBetween, NamesAscend, names_at};
 
 use crate::nodes::{group_kind, symbol_node};
 use crate::order::text::{is_before, is_not_after};
 use h5_btree::{Node, NodeKind, Ordered, Trees};
-use h5_bytes::{text_from, u64_at};
-use h5_snod::SymbolNode;
+use h5_bytes::u64_at;
 use h5_space::Image;
 
 /// The names of a group: its keys and its entries are offsets of texts in this segment of its heap.
@@ -25,13 +24,11 @@ pub(crate) struct Names<'a> {
     pub(crate) segment: &'a [u8],
 }
 
-/// The names for which the two keys around a child stand.
-#[derive(Drop)]
-struct Bounds<'a> {
-    low: &'a [u8],
-    high: &'a [u8],
-    /// The offset of the high one.
-    end: u64,
+/// The offsets of the names for which the two keys around a child stand.
+#[derive(Clone, Copy)]
+struct Bounds {
+    low: u64,
+    high: u64,
 }
 
 impl Trees for Names<'_> {
@@ -56,18 +53,15 @@ impl Ordered for Names<'_> {
     }
 
     fn lie_between(&self, image: &Image, node: &Node<'_>, low: &[u8], high: &[u8]) -> bool {
-        let end = u64_at(high, 0);
         let bounds = Bounds {
-            low: text_from(self.segment, u64_at(low, 0)),
-            high: text_from(self.segment, end),
-            end,
+            low: u64_at(low, 0),
+            high: u64_at(high, 0),
         };
-        are_between(image, self.segment, node, &bounds)
+        are_between(image, self.segment, node, bounds)
     }
 
     fn may_follow(&self, _image: &Image, key: &[u8], next: &[u8]) -> bool {
-        let name = text_from(self.segment, u64_at(key, 0));
-        is_not_after(name, text_from(self.segment, u64_at(next, 0)))
+        is_not_after(self.segment, u64_at(key, 0), u64_at(next, 0))
     }
 }
 
@@ -83,12 +77,10 @@ fn are_ordered(image: &Image, segment: &[u8], node: &Node) -> bool
         (name_lists (symbols_at image.now.bytes (leaf_k image.now.bytes)) segment.now) node.now }
 {
     let count = node.len();
-    let mut low = node.key_name(0, segment);
+    let mut low = node.key_offset(0);
     for i in 0..count {
-        let end = node.key_offset(i + 1);
-        let high = text_from(segment, end);
-        let bounds = Bounds { low, high, end };
-        if !is_child_ordered(image, segment, &bounds, node.child(i)) {
+        let high = node.key_offset(i + 1);
+        if !is_child_ordered(image, segment, Bounds { low, high }, node.child(i)) {
             return false;
         }
         low = high;
@@ -96,44 +88,34 @@ fn are_ordered(image: &Image, segment: &[u8], node: &Node) -> bool
     true
 }
 
-/// Whether the bounds do not fall, and the names of the symbol node at this address, which ascend, lie between them: its
-/// first is above the low one, and its last is not above the high one.
-fn is_child_ordered(image: &Image, segment: &[u8], bounds: &Bounds, at: u64) -> bool
+/// Whether the bounds do not fall, and the names of the symbol node at this address, which ascend, lie between them:
+/// its first is above the low one, and its last is not above the high one.
+fn is_child_ordered(image: &Image, segment: &[u8], bounds: Bounds, at: u64) -> bool
     requires superblock { IsSuperblock image.now.bytes }
     requires symbols { IsBottom image.now.bytes OfGroup at }
     requires ascend { NamesAscend image.now.bytes segment.now (at ∷ []) }
-    requires end { bounds.now.high.now ≡ text_at segment.now bounds.now.end }
     ensures { IsTrue result ↔
-        (NotAfter bounds.now.low.now bounds.now.high.now
-        × AllByRecursion (LiesBetween bounds.now.low.now bounds.now.high.now)
+        (NotAfter (text_at segment.now bounds.low) (text_at segment.now bounds.high)
+        × AllByRecursion (LiesBetween (text_at segment.now bounds.low) (text_at segment.now bounds.high))
         (names_at image.now.bytes segment.now (at ∷ []))) }
 {
     let symbols = symbol_node(image, at);
-    if symbols.is_empty() {
-        return is_not_after(bounds.low, bounds.high);
+    let count = symbols.len();
+    if count == 0 {
+        return is_not_after(segment, bounds.low, bounds.high);
     }
     // Where names lie between the bounds, these do not fall.
-    is_before(bounds.low, symbols.name(0, segment)) && ends_by(segment, &symbols, bounds)
-}
-
-/// Whether the last name of a symbol node is not above the high bound.
-fn ends_by(segment: &[u8], symbols: &SymbolNode, bounds: &Bounds) -> bool
-    requires some { 0 < length symbols.now }
-    requires end { bounds.now.high.now ≡ text_at segment.now bounds.now.end }
-    ensures { IsTrue result ↔ IfSome (slice_get symbols.now (length symbols.now - 1)) (λ e.
-        NotAfter (name_of_entry segment.now e) bounds.now.high.now) }
-{
-    let last = symbols.len() - 1;
-    // The key behind a symbol node mostly stands for its last name, by the same offset.
-    symbols.entry(last).name == bounds.end || is_not_after(symbols.name(last, segment), bounds.high)
+    is_before(segment, bounds.low, symbols.entry(0).name)
+        && is_not_after(segment, symbols.entry(count - 1).name, bounds.high)
 }
 
 /// Whether the names of all symbol nodes below a node of level 0, which ascend, lie between the bounds.
-fn are_between(image: &Image, segment: &[u8], node: &Node, bounds: &Bounds) -> bool
+fn are_between(image: &Image, segment: &[u8], node: &Node, bounds: Bounds) -> bool
     requires superblock { IsSuperblock image.now.bytes }
     requires leaves { AllByRecursion (IsBottom image.now.bytes OfGroup) node.now.children }
     requires ascend { NamesAscend image.now.bytes segment.now node.now.children }
-    ensures { IsTrue result ↔ AllByRecursion (LiesBetween bounds.now.low.now bounds.now.high.now)
+    ensures { IsTrue result
+        ↔ AllByRecursion (LiesBetween (text_at segment.now bounds.low) (text_at segment.now bounds.high))
         (all_of (name_lists (symbols_at image.now.bytes (leaf_k image.now.bytes)) segment.now node.now)) }
 {
     start_above(image, segment, node, bounds.low) && end_within(image, segment, node, bounds.high)
@@ -141,17 +123,17 @@ fn are_between(image: &Image, segment: &[u8], node: &Node, bounds: &Bounds) -> b
 
 /// Whether the names of all symbol nodes below a node of level 0, which ascend, are above a bound: whether the first
 /// one is. A symbol node may have none.
-fn start_above(image: &Image, segment: &[u8], node: &Node, low: &[u8]) -> bool
+fn start_above(image: &Image, segment: &[u8], node: &Node, low: u64) -> bool
     requires superblock { IsSuperblock image.now.bytes }
     requires leaves { AllByRecursion (IsBottom image.now.bytes OfGroup) node.now.children }
     requires ascend { NamesAscend image.now.bytes segment.now node.now.children }
-    ensures { IsTrue result ↔ AllByRecursion (Before low.now)
+    ensures { IsTrue result ↔ AllByRecursion (Before (text_at segment.now low))
         (names_at image.now.bytes segment.now node.now.children) }
 {
     for i in 0..node.len() {
         let symbols = symbol_node(image, node.child(i));
         if symbols.len() != 0 {
-            return is_before(low, symbols.name(0, segment));
+            return is_before(segment, low, symbols.entry(0).name);
         }
     }
     true
@@ -159,18 +141,18 @@ fn start_above(image: &Image, segment: &[u8], node: &Node, low: &[u8]) -> bool
 
 /// Whether the names of all symbol nodes below a node of level 0, which ascend, are not above a bound: whether the
 /// last one is not. A symbol node may have none.
-fn end_within(image: &Image, segment: &[u8], node: &Node, high: &[u8]) -> bool
+fn end_within(image: &Image, segment: &[u8], node: &Node, high: u64) -> bool
     requires superblock { IsSuperblock image.now.bytes }
     requires leaves { AllByRecursion (IsBottom image.now.bytes OfGroup) node.now.children }
     requires ascend { NamesAscend image.now.bytes segment.now node.now.children }
-    ensures { IsTrue result ↔ AllByRecursion (λ name. NotAfter name high.now)
+    ensures { IsTrue result ↔ AllByRecursion (λ name. NotAfter name (text_at segment.now high))
         (names_at image.now.bytes segment.now node.now.children) }
 {
     for i in (0..node.len()).rev() {
         let symbols = symbol_node(image, node.child(i));
         let count = symbols.len();
         if count != 0 {
-            return is_not_after(symbols.name(count - 1, segment), high);
+            return is_not_after(segment, symbols.entry(count - 1).name, high);
         }
     }
     true

@@ -13,7 +13,7 @@ ghost use Rattle.h5_group.specs.Order.Between.{name_of_entry};
 ghost use Rattle.h5_group.specs.Order.Ordered.{AscendsBefore};
 
 use crate::nodes::symbol_node;
-use crate::order::text::is_text_before;
+use crate::order::text::is_before;
 use h5_model::{Cause, OpenFault};
 use h5_space::Image;
 
@@ -42,8 +42,8 @@ pub(crate) fn check_names(
     Ok(())
 }
 
-/// Checks that the names in the symbol node at this address ascend, from the one before them on. Gives the offset of the
-/// last name so far.
+/// Checks that the names in the symbol node at this address ascend, from the one before them on. Gives the offset of
+/// the last name so far.
 fn check_node(
     image: &Image,
     segment: &[u8],
@@ -82,7 +82,7 @@ fn is_above(segment: &[u8], last: Option<u64>, name: u64) -> bool
         ↔ IsAbove Before (option_map (text_at segment.now) last) (text_at segment.now name) }
 {
     match last {
-        Some(last) => is_text_before(segment, last, name),
+        Some(last) => is_before(segment, last, name),
         None => true,
     }
 }

@@ -1,4 +1,4 @@
-//! The order of names by their bytes.
+//! The order of names by their bytes. A name is the text at an offset of a segment.
 
 ghost use Rattle.std.specs.Prelude.{◌≡◌, ◌≢◌, ◌⊎◌, ◌↔◌, ℕ, ◌+◌, ◌<◌, ◌≤◌, IfNone, IfSome, IsTrue, length, slice_index};
 ghost use Rattle.std.specs.Cmp.Lexicographic.{slice_cmp};
@@ -9,31 +9,17 @@ ghost use Rattle.h5_group.specs.Order.Common.{HaveCommon};
 use h5_bytes::text_from;
 use std::simd::prelude::*;
 
-/// How many bytes of two texts are compared together.
+/// How many bytes of two names are compared together.
 const LANES: u64 = 16;
 
-/// Whether a name is before another.
-pub(crate) fn is_before(name: &[u8], other: &[u8]) -> bool
-    ensures { result ≡ is_lt (slice_cmp nat_cmp name.now other.now) }
-{
-    name.cmp(&other).is_lt()
-}
-
-/// Whether a name is another, or before it.
-pub(crate) fn is_not_after(name: &[u8], other: &[u8]) -> bool
-    ensures { result ≡ is_le (slice_cmp nat_cmp name.now other.now) }
-{
-    name.cmp(&other).is_le()
-}
-
-/// Whether the text at an offset of a segment is before the one at another offset.
-pub(crate) fn is_text_before(segment: &[u8], offset: u64, other: u64) -> bool
+/// Whether the name at an offset is before the one at another offset.
+pub(crate) fn is_before(segment: &[u8], name: u64, other: u64) -> bool
     ensures { result
-        ≡ is_lt (slice_cmp nat_cmp (text_at segment.now offset) (text_at segment.now other)) }
+        ≡ is_lt (slice_cmp nat_cmp (text_at segment.now name) (text_at segment.now other)) }
 {
-    let mut at = offset;
+    let mut at = name;
     let mut at_other = other;
-    // The first byte that differs tells, or the zero of the shorter text: nothing has to look for their ends before.
+    // The first byte that differs tells, or the zero of the shorter name: nothing has to look for their ends before.
     while has_lanes(segment, at) && has_lanes(segment, at_other) {
         if let Some(k) = first_apart(segment, at as usize, at_other as usize) {
             return segment[at as usize + k] < segment[at_other as usize + k];
@@ -41,7 +27,18 @@ pub(crate) fn is_text_before(segment: &[u8], offset: u64, other: u64) -> bool
         at += LANES;
         at_other += LANES;
     }
-    is_before(text_from(segment, offset), text_from(segment, other))
+    text_from(segment, name)
+        .cmp(&text_from(segment, other))
+        .is_lt()
+}
+
+/// Whether the name at an offset is the one at another offset, or before it.
+pub(crate) fn is_not_after(segment: &[u8], name: u64, other: u64) -> bool
+    ensures { result
+        ≡ is_le (slice_cmp nat_cmp (text_at segment.now name) (text_at segment.now other)) }
+{
+    // The key behind a symbol node mostly stands for its last name, by the same offset.
+    name == other || !is_before(segment, other, name)
 }
 
 /// Whether sixteen bytes from a place on lie in the segment.

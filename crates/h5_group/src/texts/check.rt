@@ -20,8 +20,8 @@ use h5_model::{Cause, OpenFault};
 use h5_msg::SymbolTable;
 use h5_space::{Image, fault};
 
-/// Checks the names, the texts of soft links and the keys of a group whose B-tree and heap were read. Their bytes in
-/// the heap count as taken from then on.
+/// Checks the names, the texts of soft links and the keys of a group whose B-tree and heap were read. `segment` is the
+/// data segment of the heap. Their bytes there count as taken from then on.
 ///
 /// That the tree and the heap were read, and lie in the image, are the caller's conditions.
 ///
@@ -37,6 +37,7 @@ use h5_space::{Image, fault};
 /// - `NoMemory`, at any time: memory is refused.
 pub fn check_texts(
     image: &Image,
+    segment: &[u8],
     heap: &mut Heap,
     table: SymbolTable,
     tree: &Tree,
@@ -45,6 +46,7 @@ pub fn check_texts(
     requires tree { IsTree image.now.bytes OfGroup table.tree tree.now.nodes.items tree.now.leaves.items }
     requires inside { Inside (length image.now.bytes)
         (group_nodes_blocks image.now.bytes tree.now.nodes.items tree.now.leaves.items) }
+    requires segment { segment.now ≡ segment_of image.now.bytes table.heap }
     requires heap { IsFreshHeap image.now.bytes table.heap heap.old }
     ensures texts { OnOk result
         (AreTexts image.now.bytes (segment_of image.now.bytes table.heap) heap.old.free tree.now.nodes.items
@@ -57,9 +59,9 @@ pub fn check_texts(
     if !has_empty_name(image, heap) {
         return Err(fault(Cause::HeapName, table.heap()));
     }
-    // Names are looked at once, while they are taken. Only where that fails they are looked at again: what is wrong with a
-    // name comes before bytes that texts share.
-    if !take_names(image, heap, &tree.leaves) {
+    // Names are looked at once, while they are taken. Only where that fails they are looked at again: what is wrong with
+    // a name comes before bytes that texts share.
+    if !take_names(image, segment, heap, &tree.leaves) {
         check_names(image, heap, table.heap(), &tree.leaves)?;
         return Err(fault(Cause::HeapName, table.heap()));
     }

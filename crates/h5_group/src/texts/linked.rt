@@ -11,19 +11,26 @@ ghost use Rattle.h5_group.specs.Texts.Linked.{linked_from, linked_at, IsEntrySou
 ghost use Rattle.h5_group.specs.Texts.Taken.{IsSameHeap, TakesLinked, AreUnsound, AreLinkedRefused};
 
 use crate::nodes::symbol_node;
+use crate::texts::allowed::is_allowed;
 use h5_heap::Heap;
-use h5_model::is_link_name;
 use h5_snod::{SymbolEntry, SymbolTarget};
 use h5_space::Image;
 
-/// Takes the empty name, and the names and soft link texts of these symbol nodes, entry by entry.
+/// Takes the empty name, and the names and soft link texts of these symbol nodes, entry by entry. `segment` is the
+/// heap's data segment.
 ///
 /// False where that cannot be done: one of them is no text in the heap, shares a byte with what is free or was taken
 /// before, or is a name that a link may not have. Which of the others were taken then is left open.
-pub(crate) fn take_names(image: &Image, heap: &mut Heap, symbol_nodes: &[u64]) -> bool
+pub(crate) fn take_names(
+    image: &Image,
+    segment: &[u8],
+    heap: &mut Heap,
+    symbol_nodes: &[u64],
+) -> bool
     requires superblock { IsSuperblock image.now.bytes }
     requires there { AllByRecursion (IsSymbolsAt image.now.bytes) symbol_nodes.now }
     requires within { heap.old.segment.at + heap.old.segment.len ≤ length image.now.bytes }
+    requires segment { segment.now ≡ segment_in image.now.bytes heap.old }
     requires held { (p : ℕ) → cover p heap.old.held ≡ cover p heap.old.free }
     requires none { heap.old.taken ≡ [] }
     ensures taken { IsTrue result → HasTaken (segment_in image.now.bytes heap.new) heap.new
@@ -37,16 +44,17 @@ pub(crate) fn take_names(image: &Image, heap: &mut Heap, symbol_nodes: &[u64]) -
         (flat_map (linked_at image.now.bytes) symbol_nodes.now) }
 {
     match heap.begin_names(image) {
-        Ok(()) => take_linked(image, heap, symbol_nodes),
+        Ok(()) => take_linked(image, segment, heap, symbol_nodes),
         Err(_) => false,
     }
 }
 
 /// The same, where the empty name was taken.
-fn take_linked(image: &Image, heap: &mut Heap, symbol_nodes: &[u64]) -> bool
+fn take_linked(image: &Image, segment: &[u8], heap: &mut Heap, symbol_nodes: &[u64]) -> bool
     requires superblock { IsSuperblock image.now.bytes }
     requires there { AllByRecursion (IsSymbolsAt image.now.bytes) symbol_nodes.now }
     requires within { heap.old.segment.at + heap.old.segment.len ≤ length image.now.bytes }
+    requires segment { segment.now ≡ segment_in image.now.bytes heap.old }
     ensures takes { IsTrue result → TakesLinked image.now.bytes heap.old heap.new
         (flat_map (linked_at image.now.bytes) symbol_nodes.now) }
     ensures sound { IsTrue result → AreEntriesSound (segment_in image.now.bytes heap.old)
@@ -58,7 +66,7 @@ fn take_linked(image: &Image, heap: &mut Heap, symbol_nodes: &[u64]) -> bool
         (flat_map (linked_at image.now.bytes) symbol_nodes.now) }
 {
     for at in symbol_nodes {
-        if !take_entries(image, heap, *at) {
+        if !take_entries(image, segment, heap, *at) {
             return false;
         }
     }
@@ -66,10 +74,11 @@ fn take_linked(image: &Image, heap: &mut Heap, symbol_nodes: &[u64]) -> bool
 }
 
 /// The same of one symbol node.
-fn take_entries(image: &Image, heap: &mut Heap, at: u64) -> bool
+fn take_entries(image: &Image, segment: &[u8], heap: &mut Heap, at: u64) -> bool
     requires superblock { IsSuperblock image.now.bytes }
     requires there { IsSymbolsAt image.now.bytes at }
     requires within { heap.old.segment.at + heap.old.segment.len ≤ length image.now.bytes }
+    requires segment { segment.now ≡ segment_in image.now.bytes heap.old }
     ensures takes { IsTrue result
         → TakesLinked image.now.bytes heap.old heap.new (linked_at image.now.bytes at) }
     ensures sound { IsTrue result
@@ -81,7 +90,7 @@ fn take_entries(image: &Image, heap: &mut Heap, at: u64) -> bool
 {
     let node = symbol_node(image, at);
     for k in 0..node.len() {
-        if !take_entry(image, heap, node.entry(k)) {
+        if !take_entry(image, segment, heap, node.entry(k)) {
             return false;
         }
     }
@@ -89,8 +98,9 @@ fn take_entries(image: &Image, heap: &mut Heap, at: u64) -> bool
 }
 
 /// Takes the name of a link, which is one that a link may have, and the text of a soft link.
-fn take_entry(image: &Image, heap: &mut Heap, entry: SymbolEntry) -> bool
+fn take_entry(image: &Image, segment: &[u8], heap: &mut Heap, entry: SymbolEntry) -> bool
     requires within { heap.old.segment.at + heap.old.segment.len ≤ length image.now.bytes }
+    requires segment { segment.now ≡ segment_in image.now.bytes heap.old }
     ensures takes { IsTrue result → TakesLinked image.now.bytes heap.old heap.new (linked_from entry) }
     ensures sound { IsTrue result → IsEntrySound (segment_in image.now.bytes heap.old) entry }
     ensures same { IsSameHeap heap.old heap.new }
@@ -100,7 +110,7 @@ fn take_entry(image: &Image, heap: &mut Heap, entry: SymbolEntry) -> bool
     let Ok(name) = heap.take(image, entry.name) else {
         return false;
     };
-    if !is_link_name(name) {
+    if !is_allowed(segment, entry.name, name) {
         return false;
     }
     match entry.target {

@@ -1,5 +1,6 @@
 use Rattle.std.proofs.Common.{◌≡◌, ◌∙◌, List, ℕ, refl, sym, subst, false, true}
 use Rattle.std.specs.List.{AllByRecursion}
+use Rattle.h5_bytes.specs.Texts.{text_at}
 use Rattle.h5_bytes.proofs.BlockLaws.{all_so}
 use Rattle.h5_model.specs.Format.Links.{Before, NotAfter}
 use Rattle.h5_laws.proofs.KeyInserts.{all_both}
@@ -10,8 +11,8 @@ use Rattle.h5_group.proofs.order.keys.are_between.Goals as goal
 pub returns-then-start_above : goal.returns-then-start_above
 returns-then-start_above c =
     let names : List (List ℕ) = names_at c.args.image.now.bytes c.args.segment.now c.args.node.now.children in
-    let low : List ℕ = c.args.bounds.now.low.now in
-    let high : List ℕ = c.args.bounds.now.high.now in
+    let low : List ℕ = text_at c.args.segment.now c.args.bounds.low in
+    let high : List ℕ = text_at c.args.segment.now c.args.bounds.high in
     let all_are = lists_are c.args.image.now.bytes c.args.segment.now c.args.node.now.children in (
       λ yes. subst (AllByRecursion (LiesBetween low high)) (sym all_are)
           (all_both (Before low) (λ n. NotAfter n high) names (c.if-start_above.ensures.0 refl) (c.end_within.ensures.0 yes)),
@@ -22,8 +23,8 @@ returns-then-start_above c =
 pub returns-else-start_above : goal.returns-else-start_above
 returns-else-start_above c =
     let names : List (List ℕ) = names_at c.args.image.now.bytes c.args.segment.now c.args.node.now.children in
-    let low : List ℕ = c.args.bounds.now.low.now in
-    let high : List ℕ = c.args.bounds.now.high.now in
+    let low : List ℕ = text_at c.args.segment.now c.args.bounds.low in
+    let high : List ℕ = text_at c.args.segment.now c.args.bounds.high in
     let all_are = lists_are c.args.image.now.bytes c.args.segment.now c.args.node.now.children in (
       λ yes. absurd (let never : false ≡ true = sym c.if-start_above.false ∙ yes in cc),
       λ all. c.start_above.ensures.1

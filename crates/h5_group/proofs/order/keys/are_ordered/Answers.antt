@@ -1,7 +1,6 @@
-use Rattle.std.proofs.Common.{◌≡◌, ◌<◌, ◌+◌, ◌∙◌, List, ℕ, [], ◌∷◌, length, refl, ap, arith, false, true, below_more}
+use Rattle.std.proofs.Common.{◌≡◌, ◌<◌, List, ℕ, [], ◌∷◌, length, refl, ap, arith, false, true, below_more}
 use Rattle.std.proofs.lemmas.Option.{get_or_from_slice_get}
 use Rattle.h5_bytes.specs.Texts.{text_at}
-use Rattle.h5_model.specs.Format.Links.{key_name}
 use Rattle.h5_model.specs.Format.Rows.{Node}
 use Rattle.h5_btree.specs.Walk.Below.{reading_in}
 use Rattle.h5_btree.specs.Walk.Forms.{OfGroup}
@@ -10,7 +9,6 @@ use Rattle.h5_group.specs.Order.Between.{NamesAscend}
 use Rattle.h5_group.proofs.OrderProofs.AscendLaws.{each_ascends}
 use Rattle.h5_group.proofs.OrderProofs.NodeNames.{IsChildNamed, child_named, named_child}
 use Rattle.h5_group.proofs.order.keys.are_ordered.Goals as goal
-use Rattle.h5_group.proofs.order.keys.are_ordered.Goals.{After-is_child_ordered}
 
 pub is_child_ordered-requires-clause-ascend : goal.is_child_ordered-requires-clause-ascend
 is_child_ordered-requires-clause-ascend c =
@@ -21,10 +19,6 @@ is_child_ordered-requires-clause-ascend c =
     let read = get_or_from_slice_get node.children c.loop-i.i c.child.result c.child.result c.child.ensures in
     all_at (λ (n : ℕ). NamesAscend image segment (n ∷ [])) node.children c.loop-i.i c.child.result low read (each_ascends image segment node.children c.requires.ascend)
 
--- the high bound is the name of the key behind the child
-high_is : (c : After-is_child_ordered) → c.text_from-high.result.now ≡ key_name c.args.segment.now c.args.node.now (c.loop-i.i + 1)
-high_is c = c.text_from-high.ensures ∙ ap (text_at c.args.segment.now) c.key_offset-end.ensures
-
 pub loop-i-preserved : goal.loop-i-preserved
 loop-i-preserved c =
     let image : List ℕ = c.args.image.now.bytes in
@@ -32,11 +26,12 @@ loop-i-preserved c =
     let node : Node = c.args.node.now in
     let low : c.loop-i.i < length node.children = omega arith in
     let read = get_or_from_slice_get node.children c.loop-i.i c.child.result 0 c.child.ensures in
-    let high = high_is (goal.at.loop-i-preserved c).After-is_child_ordered in (
-      high,
+    let low_is = ap (text_at segment) (c.loop-i.invariant).0 in
+    let high_is = ap (text_at segment) c.key_offset-high.ensures in (
+      c.key_offset-high.ensures,
       below_more (IsChildNamed image segment (reading_in image OfGroup) node c.requires.level) c.loop-i.i (c.loop-i.invariant).1
           (child_named image segment (reading_in image OfGroup) node c.requires.level c.loop-i.i c.child.result
-          c.loop-i.low.now c.text_from-high.result.now low read (c.loop-i.invariant).0 high (c.if-not-is_child_ordered.ensures.0 refl)),
+          (text_at segment c.loop-i.low) (text_at segment c.key_offset-high.result) low read low_is high_is (c.if-not-is_child_ordered.ensures.0 refl)),
     )
 
 pub returns-then-not-is_child_ordered : goal.returns-then-not-is_child_ordered
@@ -46,9 +41,10 @@ returns-then-not-is_child_ordered c =
     let node : Node = c.args.node.now in
     let low : c.loop-i.i < length node.children = omega arith in
     let read = get_or_from_slice_get node.children c.loop-i.i c.child.result 0 c.child.ensures in
-    let high = high_is (goal.at.returns-then-not-is_child_ordered c).After-is_child_ordered in (
+    let low_is = ap (text_at segment) (c.loop-i.invariant).0 in
+    let high_is = ap (text_at segment) c.key_offset-high.ensures in (
       λ (yes : false ≡ true). absurd (cc),
       λ ordered. c.if-not-is_child_ordered.ensures.1
           (named_child image segment (reading_in image OfGroup) node c.requires.level c.loop-i.i c.child.result
-          c.loop-i.low.now c.text_from-high.result.now low read (c.loop-i.invariant).0 high (ordered.rising c.loop-i.i low, ordered.between c.loop-i.i low)),
+          (text_at segment c.loop-i.low) (text_at segment c.key_offset-high.result) low read low_is high_is (ordered.rising c.loop-i.i low, ordered.between c.loop-i.i low)),
     )

@@ -1,4 +1,4 @@
-use Rattle.std.proofs.Common.{◌≡◌, ℕ, bit_or, eqb, sym, ap, ◌∙◌, arith, w8}
+use Rattle.std.proofs.Common.{bit_or, eqb, sym, ◌∙◌, arith, w8}
 use Rattle.std.proofs.lemmas.Simd.{length-chunk, bitmask_splat}
 use lib.Lanes.{chunk}
 use Rattle.h5_group.proofs.OrderProofs.ApartLanes.{differ_mask, all_common, lowest_few, lowest_common, lowest_apart}
