@@ -1,5 +1,5 @@
 -- Chunks that stand beside one another along the last dimension, and were found.
-use Rattle.std.proofs.Common.{◌≡◌, ℕ, suc, ◌+◌, ◌-◌, ◌*◌, ◌/◌, ◌<◌, ◌≤◌, List, [], ◌∷◌, ◌++◌, length, get_or, set, take, replicate, Some, zero, refl, sym, ap, ◌∙◌, arith}
+use Rattle.std.proofs.Common.{◌≡◌, ℕ, IfSome, None, Option, suc, ◌+◌, ◌-◌, ◌*◌, ◌/◌, ◌<◌, ◌≤◌, List, [], ◌∷◌, ◌++◌, length, get_or, set, take, replicate, Some, zero, refl, sym, ap, ◌∙◌, arith}
 use Rattle.std.specs.FinMap.{get}
 use Rattle.std.proofs.Math.Nat.{mul-le-mul_left}
 use Rattle.std.proofs.lemmas.List.{get_or-set_same, length-set, set-get_or, set-set, take_all, take_more, take_more_set}
@@ -116,17 +116,34 @@ beside_few chunk first k last long some =
 
 -- ---- what is kept of them
 
+-- an address that is kept with others
+kept_with : (P : ℕ → ℕ → Type 0) (at : List (Option ℕ)) (k a : ℕ) → ((j : ℕ) → IfSome (get_or at j None) (P j)) → P k a
+    → (j : ℕ) → IfSome (get_or (set at k (Some a)) j None) (P j)
+kept_with P [] k a are is j = tt
+kept_with P (x ∷ xs) zero a are is zero = is
+kept_with P (x ∷ xs) zero a are is (suc j) = are (suc j)
+kept_with P (x ∷ xs) (suc k) a are is zero = are zero
+kept_with P (x ∷ xs) (suc k) a are is (suc j) = kept_with (λ i. P (suc i)) xs k a (λ i. are (suc i)) is j
+
+-- no address
+none_kept : (P : ℕ → ℕ → Type 0) (n j : ℕ) → IfSome (get_or (replicate n None) j None) (P j)
+none_kept P zero j = tt
+none_kept P (suc n) zero = tt
+none_kept P (suc n) (suc j) = none_kept (λ i. P (suc i)) n j
+
 -- none
 pub none_beside : (chunks : Chunks) (sizes : List ℕ) → ((d : ℕ) → d < length sizes → 1 ≤ get_or sizes d 0)
-    → AreChunksBeside chunks sizes (record { first = replicate (length sizes) 0; at = [] })
-none_beside chunks sizes some = record { first = corner_zeros sizes some; at = λ k low. absurd (omega (arith, low)) }
+    → AreChunksBeside chunks sizes (record { first = replicate (length sizes) 0; at = replicate 64 None })
+none_beside chunks sizes some = record {
+  first = corner_zeros sizes some;
+  at = none_kept (λ k at. get chunks (corner_beside sizes (replicate (length sizes) 0) k) ≡ Some at) 64;
+}
 
 -- one alone
 pub one_beside : (chunks : Chunks) (sizes corner : List ℕ) (at : ℕ) → IsCorner sizes corner → get chunks corner ≡ Some at
-    → AreChunksBeside chunks sizes (record { first = corner; at = at ∷ [] })
+    → AreChunksBeside chunks sizes (record { first = corner; at = set (replicate 64 None) 0 (Some at) })
 one_beside chunks sizes corner at is found = record {
   first = is;
-  at = λ k low.
-      let none : k ≡ 0 = omega (arith, low) in
-      ap (get chunks) (ap (corner_beside sizes corner) none ∙ beside_itself sizes corner) ∙ found ∙ ap (λ n. Some (get_or (at ∷ []) n 0)) (sym none);
+  at = kept_with (λ k a. get chunks (corner_beside sizes corner k) ≡ Some a) (replicate 64 None) 0 at
+      (none_kept (λ k a. get chunks (corner_beside sizes corner k) ≡ Some a) 64) (ap (get chunks) (beside_itself sizes corner) ∙ found);
 }

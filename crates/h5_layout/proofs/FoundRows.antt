@@ -1,5 +1,5 @@
 -- Cells that stand one behind another in a row of a chunk, from one of them on.
-use Rattle.std.proofs.Common.{◌≡◌, ℕ, ◌+◌, ◌-◌, ◌^◌, ◌<◌, ◌≤◌, IfSome, None, List, [], length, replicate, sym, ap, ◌∙◌, subst, arith}
+use Rattle.std.proofs.Common.{◌≡◌, ℕ, ◌+◌, ◌-◌, ◌^◌, ◌<◌, ◌≤◌, IfSome, None, List, length, replicate, sym, ap, ◌∙◌, subst, arith}
 use Rattle.std.specs.FinMap.{get}
 use Rattle.h5_model.specs.Format.Chunks.{Chunks}
 use Rattle.h5_model.specs.Tree.Grid.{corner_of, inner_of}
@@ -97,7 +97,7 @@ pub kept_new : (image sizes chunk : List ℕ) (bytes root : ℕ)
       sizes = sizes;
       shape = record { sizes = chunk; bytes = bytes };
       root = root;
-      cursor = record { tree = None; beside = record { first = replicate (length sizes) 0; at = [] } };
+      cursor = record { tree = None; beside = record { first = replicate (length sizes) 0; at = replicate 64 None } };
       row = record { start = 0; cells = 0; inner = 0; at = None; corner = replicate 32 0; number = None };
     })
 kept_new image sizes chunk bytes root grid =
@@ -105,7 +105,7 @@ kept_new image sizes chunk bytes root grid =
     record {
       grid = grid;
       cursor = tt;
-      beside = subst (λ (n : ℕ). AreChunksBeside chunks chunk (record { first = replicate n 0; at = [] })) grid.rank (none_beside chunks chunk grid.sizes.some);
+      beside = subst (λ (n : ℕ). AreChunksBeside chunks chunk (record { first = replicate n 0; at = replicate 64 None })) grid.rank (none_beside chunks chunk grid.sizes.some);
       row = λ some. absurd (omega (arith, some));
       number = tt;
     }

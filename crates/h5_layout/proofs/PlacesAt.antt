@@ -1,5 +1,5 @@
 -- Where the cells of an array stand, by what is kept of its header and of its tree.
-use Rattle.std.proofs.Common.{◌≡◌, ℕ, false, ◌+◌, ◌*◌, ◌^◌, ◌≤◌, inl, inr, List, [], length, replicate, Option, Some, None, true, refl, sym, ap, ap₂, ◌∙◌, subst, arith}
+use Rattle.std.proofs.Common.{◌≡◌, ℕ, false, ◌+◌, ◌*◌, ◌^◌, ◌≤◌, inl, inr, List, length, replicate, Option, Some, None, true, refl, sym, ap, ap₂, ◌∙◌, subst, arith}
 use Rattle.std.specs.Prelude.{is_some, option_map}
 use Rattle.std.specs.FinMap.{get, get-empty}
 use Rattle.std.specs.Ordering.{nat_cmp}
@@ -72,7 +72,7 @@ pub index_made : (image : List ℕ) (a : Described) → IsArray a → IsFixed a.
       sizes = sizes;
       shape = record { sizes = chunk; bytes = cells chunk * size };
       root = root;
-      cursor = record { tree = None; beside = record { first = replicate (length sizes) 0; at = [] } };
+      cursor = record { tree = None; beside = record { first = replicate (length sizes) 0; at = replicate 64 None } };
       row = record { start = 0; cells = 0; inner = 0; at = None; corner = replicate 32 0; number = None };
     })
 index_made image a sound fixed read chunk root laid chunks sizes same size wide =

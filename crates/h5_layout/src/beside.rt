@@ -1,6 +1,6 @@
 //! Chunks that stand beside one another, as they were found (File Format Specification 3.0, section III.A.1).
 
-ghost use Rattle.std.specs.Prelude.{◌≡◌, ℕ, ◌<◌, ◌≤◌, IfSome, List, None, Some, [], ◌∷◌, ◌++◌, length, replicate};
+ghost use Rattle.std.specs.Prelude.{◌≡◌, ℕ, ◌≤◌, IfSome, List, None, Some, length, replicate, set};
 ghost use Rattle.std.specs.FinMap.{get};
 ghost use Rattle.h5_model.specs.Format.Chunks.{Chunks};
 ghost use Rattle.h5_shape.specs.InBox.{IsCorner};
@@ -19,10 +19,8 @@ pub(crate) struct FoundChunks {
     rank: usize,
     /// The first index of the first of them.
     first: [u64; 32],
-    /// How many there are.
-    count: usize,
-    /// Their addresses.
-    at: [u64; 64],
+    /// The address of each that was found, by how many chunks behind the first it stands.
+    at: [Option<u64>; 64],
 }
 
 /// Where chunks of an array were found: the last one in its tree, and those beside one another.
@@ -39,7 +37,7 @@ impl RowCursor {
     pub(crate) fn new(rank: usize) -> Self
         requires { rank ≤ 32 }
         ensures { result
-            ≡ record { tree = None; beside = record { first = replicate rank 0; at = [] } } }
+            ≡ record { tree = None; beside = record { first = replicate rank 0; at = replicate 64 None } } }
     {
         RowCursor {
             tree: ChunkCursor::new(),
@@ -54,26 +52,25 @@ impl Model for FoundChunks {
 
     ghost Value = { ChunksBeside };
 
-    ghost view = { λ f. record { first = take f.rank f.first; at = take f.count f.at } };
+    ghost view = { λ f. record { first = take f.rank f.first; at = f.at } };
 
-    ghost invariant = { λ f. (f.rank ≤ 32) × (f.count ≤ 64) };
+    ghost invariant = { λ f. f.rank ≤ 32 };
 }
 
 impl FoundChunks {
     /// None yet, of an array with so many dimensions.
     pub(crate) fn new(rank: usize) -> Self
         requires { rank ≤ 32 }
-        ensures { result ≡ record { first = replicate rank 0; at = [] } }
+        ensures { result ≡ record { first = replicate rank 0; at = replicate 64 None } }
     {
         FoundChunks {
             rank,
             first: [0; 32],
-            count: 0,
-            at: [0; 64],
+            at: [None; 64],
         }
     }
 
-    /// The address of the chunk with this number, where it is one of them.
+    /// The address of the chunk with this number, where it was found.
     #[inline(always)]
     pub(crate) fn address_of(&self, number: Option<u64>) -> Option<u64>
         ensures { (chunks : Chunks) (sizes corner : List ℕ) → AreChunksBeside chunks sizes self.now
@@ -81,10 +78,10 @@ impl FoundChunks {
             → IfSome result (λ at. get chunks corner ≡ Some at) }
     {
         let number = number?;
-        if number >= self.count as u64 {
+        if number >= MOST as u64 {
             return None;
         }
-        Some(self.at[number as usize])
+        self.at[number as usize]
     }
 
     /// Keeps the address of the chunk with this first index and number, which is none of them. Returns its number then.
@@ -100,14 +97,15 @@ impl FoundChunks {
             self.begin(corner, at);
             return Some(0);
         };
+        if self.at[0].is_some() && behind < MOST as u64 {
+            self.at[behind as usize] = Some(at);
+            return number;
+        }
         // Of a longer row of chunks the first ones are kept.
-        if self.count == MOST {
+        if self.at[MOST - 1].is_some() {
             return number;
         }
-        if behind == self.count as u64 {
-            self.push(at);
-            return number;
-        }
+        // None was found yet, or the row of chunks goes on far behind those that were.
         self.begin(corner, at);
         Some(0)
     }
@@ -145,22 +143,16 @@ impl FoundChunks {
         Some((corner[last] - self.first[last]) / chunk[last])
     }
 
-    /// Keeps this address of the chunk behind the last of them.
-    fn push(&mut self, at: u64)
-        requires { length self.old.at < MOST }
-        ensures { self.new ≡ record self.old { at = self.old.at ++ at ∷ [] } }
-    {
-        self.at[self.count] = at;
-        self.count += 1;
-    }
-
     /// Keeps this address alone, of the chunk with this first index.
     fn begin(&mut self, corner: &[u64], at: u64)
         requires { length corner.now ≡ length self.old.first }
-        ensures { self.new ≡ record { first = corner.now; at = at ∷ [] } }
+        ensures { self.new ≡ record {
+          first = corner.now;
+          at = set (replicate 64 None) 0 (Some at);
+        } }
     {
         self.first[..self.rank].copy_from_slice(corner);
-        self.at[0] = at;
-        self.count = 1;
+        self.at = [None; 64];
+        self.at[0] = Some(at);
     }
 }

@@ -71,7 +71,10 @@ impl ChunkIndex {
           sizes = dims.now;
           shape = record { sizes = chunk_sizes.now; bytes = cells_of chunk_sizes.now * size };
           root = root;
-          cursor = record { tree = None; beside = record { first = replicate (length dims.now) 0; at = [] } };
+          cursor = record {
+            tree = None;
+            beside = record { first = replicate (length dims.now) 0; at = replicate 64 None };
+          };
           row = record { start = 0; cells = 0; inner = 0; at = None; corner = replicate 32 0; number = None };
         } }
         ensures sound { AreChunkSizes chunk_sizes.now }

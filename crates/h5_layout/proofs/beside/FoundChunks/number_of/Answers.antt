@@ -37,32 +37,32 @@ pub slice_bounds-ne-end-2 : goal.slice_bounds-ne-end-2
 slice_bounds-ne-end-2 c =
     let low
     = corner_low c.args.chunk.now c.args.self.now.first c.args.corner.now c.self.inside.first c.self.inside.rank c.in_ok-last.last c.requires.first c.requires.corner
-    (ap (λ (f : ChunksBeside). f.first) c.self.view_is) c.self.invariant.0 c.self.told.0 c.in_ok-last.ensures.0 c.in_ok-last.ensures.1 in
+    (ap (λ (f : ChunksBeside). f.first) c.self.view_is) c.self.invariant c.self.told c.in_ok-last.ensures.0 c.in_ok-last.ensures.1 in
     sym (length-take-le c.in_ok-last.last c.args.corner.now (omega (arith, low)))
 
 pub bounds-corner-last : goal.bounds-corner-last
 bounds-corner-last c =
     corner_low c.args.chunk.now c.args.self.now.first c.args.corner.now c.self.inside.first c.self.inside.rank c.in_ok-last.last c.requires.first c.requires.corner
-    (ap (λ (f : ChunksBeside). f.first) c.self.view_is) c.self.invariant.0 c.self.told.0 c.in_ok-last.ensures.0 c.in_ok-last.ensures.1
+    (ap (λ (f : ChunksBeside). f.first) c.self.view_is) c.self.invariant c.self.told c.in_ok-last.ensures.0 c.in_ok-last.ensures.1
 
 pub bounds-corner-last-2 : goal.bounds-corner-last-2
 bounds-corner-last-2 c =
     corner_low c.args.chunk.now c.args.self.now.first c.args.corner.now c.self.inside.first c.self.inside.rank c.in_ok-last.last c.requires.first c.requires.corner
-    (ap (λ (f : ChunksBeside). f.first) c.self.view_is) c.self.invariant.0 c.self.told.0 c.in_ok-last.ensures.0 c.in_ok-last.ensures.1
+    (ap (λ (f : ChunksBeside). f.first) c.self.view_is) c.self.invariant c.self.told c.in_ok-last.ensures.0 c.in_ok-last.ensures.1
 
 pub bounds-chunk-last : goal.bounds-chunk-last
 bounds-chunk-last c =
     chunk_low c.args.chunk.now c.args.self.now.first c.args.corner.now c.self.inside.first c.self.inside.rank c.in_ok-last.last c.requires.first c.requires.corner
-    (ap (λ (f : ChunksBeside). f.first) c.self.view_is) c.self.invariant.0 c.self.told.0 c.in_ok-last.ensures.0 c.in_ok-last.ensures.1
+    (ap (λ (f : ChunksBeside). f.first) c.self.view_is) c.self.invariant c.self.told c.in_ok-last.ensures.0 c.in_ok-last.ensures.1
 
 pub nonzero_div-result : goal.nonzero_div-result
 nonzero_div-result c =
     (corner_multiple c.args.chunk.now c.args.corner.now c.in_ok-last.last c.requires.corner
     (corner_low c.args.chunk.now c.args.self.now.first c.args.corner.now c.self.inside.first c.self.inside.rank c.in_ok-last.last c.requires.first c.requires.corner
-    (ap (λ (f : ChunksBeside). f.first) c.self.view_is) c.self.invariant.0 c.self.told.0 c.in_ok-last.ensures.0 c.in_ok-last.ensures.1)).0
+    (ap (λ (f : ChunksBeside). f.first) c.self.view_is) c.self.invariant c.self.told c.in_ok-last.ensures.0 c.in_ok-last.ensures.1)).0
 
 pub returns : goal.returns
 returns c =
     beside c.args.chunk.now c.args.self.now.first c.args.corner.now c.self.inside.first c.self.inside.rank c.in_ok-last.last c.requires.first c.requires.corner
-    (ap (λ (f : ChunksBeside). f.first) c.self.view_is) c.self.invariant.0 c.self.told.0 c.in_ok-last.ensures.0 c.in_ok-last.ensures.1
+    (ap (λ (f : ChunksBeside). f.first) c.self.view_is) c.self.invariant c.self.told c.in_ok-last.ensures.0 c.in_ok-last.ensures.1
     (alike (take c.in_ok-last.last c.self.inside.first) (take c.in_ok-last.last c.args.corner.now) c.if-ne.ensures) c.if-corner-last.false
