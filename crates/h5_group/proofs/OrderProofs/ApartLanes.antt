@@ -1,5 +1,6 @@
 -- What sixteen bytes from one place and from another have in common: the bits of the masks that comparisons of them give.
-use Rattle.std.proofs.Common.{◌≡◌, ◌≢◌, ℕ, ◌+◌, ◌%◌, ◌^◌, ◌<◌, ◌≤◌, ◌⊎◌, inl, inr, List, Bool, true, false, not, cond, eqb, map, max, length, get_or, bit_or, refl, sym, ap, ◌∙◌, arith, w8, w64}
+use Rattle.std.proofs.Common.{◌≡◌, ◌≢◌, ℕ, ◌+◌, ◌%◌, ◌^◌, ◌<◌, ◌≤◌, ◌⊎◌, inl, inr, refl, sym, ap, ◌∙◌, arith, w8, w64}
+use Rattle.std.proofs.Common.{List, Bool, true, false, not, cond, eqb, map, max, length, get_or, bit_or}
 use native.Mathlib.Nat.{zero-div}
 use Rattle.std.specs.Int.{bit_at}
 use Rattle.std.proofs.lemmas.Bool.{cases_lt, eqb-true, eqb-false}
@@ -57,7 +58,8 @@ module _ (segment : List ℕ) (at other : ℕ) (low : at + 16 ≤ length segment
       = bit_mask_l differ k ∙ ap (λ b. cond b 1 0) (get_or-zip2 (λ a b. not (eqb a b)) (chunk at 16 segment) (chunk other 16 segment) k 0 0 false
       (omega (arith, long)) (omega (arith, other_long)) ∙ (λ i. not (eqb (get_or-chunk at 16 segment k 0 below i) (get_or-chunk other 16 segment k 0 below i)))) in
       let second : bit_at (mask_l zeros) k ≡ cond (eqb (get_or segment (at + k) 0) 0) 1 0
-      = bit_mask_l zeros k ∙ ap (λ b. cond b 1 0) (get_or-map (λ x. eqb x 0) (chunk at 16 segment) k 0 false (omega (arith, long)) ∙ ap (λ x. eqb x 0) (get_or-chunk at 16 segment k 0 below)) in
+      = bit_mask_l zeros k ∙ ap (λ b. cond b 1 0) (get_or-map (λ x. eqb x 0) (chunk at 16 segment) k 0 false (omega (arith, long))
+      ∙ ap (λ x. eqb x 0) (get_or-chunk at 16 segment k 0 below)) in
       bit_at_or (mask_l differ) (mask_l zeros) k ∙ (λ i. max (first i) (second i))
 
   past : (k : ℕ) → 16 ≤ k → bit_at apart_in k ≡ 0
@@ -82,7 +84,10 @@ module _ (segment : List ℕ) (at other : ℕ) (low : at + 16 ≤ length segment
     lowest = count_trailing_zeros 64 mask
 
     small : mask < 2 ^ 64
-    small = omega (arith, is, or_lt 16 (mask_l differ) (mask_l zeros) (omega (arith, mask_l-lt differ, ap (λ n. 2 ^ n) differ_long)) (omega (arith, mask_l-lt zeros, ap (λ n. 2 ^ n) zeros_long)))
+    small =
+        let first : mask_l differ < 2 ^ 16 = omega (arith, mask_l-lt differ, ap (λ n. 2 ^ n) differ_long) in
+        let second : mask_l zeros < 2 ^ 16 = omega (arith, mask_l-lt zeros, ap (λ n. 2 ^ n) zeros_long) in
+        omega (arith, is, or_lt 16 (mask_l differ) (mask_l zeros) first second)
 
     facts : (lowest < 64) × (bit_at mask lowest ≡ 1) × ((i : ℕ) → i < lowest → bit_at mask i ≡ 0)
     facts = bit_at-trailing_zeros w64 mask (omega arith) small

@@ -1,5 +1,6 @@
 -- Two texts in one segment are in the order of the first bytes that differ, or of the zero that ends one of them.
-use Rattle.std.proofs.Common.{Ordering, Less, Equal, Greater, ◌≡◌, ◌≢◌, ℕ, zero, suc, ◌+◌, ◌-◌, ◌<◌, ◌⊎◌, inl, inr, List, [], ◌∷◌, Bool, true, false, not, cond, length, drop, get_or, refl, sym, arith, length-drop, get_or-drop}
+use Rattle.std.proofs.Common.{Ordering, Less, Equal, Greater, ◌≡◌, ◌≢◌, ℕ, zero, suc, ◌+◌, ◌-◌, ◌<◌, ◌⊎◌, inl, inr, refl, sym, arith}
+use Rattle.std.proofs.Common.{List, [], ◌∷◌, Bool, true, false, not, cond, length, drop, get_or, length-drop, get_or-drop}
 use Rattle.std.specs.Prelude.{◌==◌, if◌then◌else◌, nat_lt}
 use Rattle.std.specs.Cmp.Lexicographic.{slice_cmp}
 use Rattle.std.specs.Ordering.{is_le, is_lt, nat_cmp, ordering_reverse, ordering_then}

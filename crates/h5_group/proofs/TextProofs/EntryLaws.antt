@@ -64,7 +64,8 @@ refused_between segment whole before es behind cause is sound r = record {
 }
 
 -- entries among sound ones are sound
-pub sound_between : (segment : List ℕ) (whole before es behind : List Entry) → whole ≡ before ++ (es ++ behind) → AreEntriesSound segment whole → AreEntriesSound segment es
+pub sound_between : (segment : List ℕ) (whole before es behind : List Entry) → whole ≡ before ++ (es ++ behind) → AreEntriesSound segment whole
+    → AreEntriesSound segment es
 sound_between segment whole before es behind is sound =
     let Sound : Entry → Type 0 = λ e. IsEntrySound segment (symbol_from e) in
     all_left Sound es behind (all_right Sound before (es ++ behind) (subst (AllByRecursion Sound) is sound))

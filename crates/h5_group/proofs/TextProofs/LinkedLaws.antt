@@ -91,7 +91,8 @@ refused_one image heap offset cause refused = λ linked taken names texts keys l
 -- the empty name is refused
 pub empty_refused : (segment : List ℕ) (heap : HeapState) → ((p : ℕ) → cover p heap.held ≡ cover p heap.free) → (cause : Cause) → IsNotEmpty segment heap.held cause
     → (offsets : List ℕ) → AreUnsound segment heap.free offsets
-empty_refused segment heap covered HeapName refused offsets = λ names texts keys loose more same sound. begin_refused segment heap names texts keys loose sound covered refused
+empty_refused segment heap covered HeapName refused offsets = λ names texts keys loose more same sound.
+    begin_refused segment heap names texts keys loose sound covered refused
 empty_refused segment heap covered _ refused offsets = absurd refused
 
 -- texts that come before and behind

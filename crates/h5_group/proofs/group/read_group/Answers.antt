@@ -61,7 +61,8 @@ returns-clause-group c =
     let inside : Inside (length image) (heap_blocks image table.heap) = rw c.heap.ensures at c.in_ok-heap.ensures.inside in
     let heap : IsHeap (heap_header image table.heap) (segment_of image table.heap) c.in_ok-heap.heap.free = rw c.heap.ensures at c.in_ok-heap.ensures.read in
     let tree : IsTree image OfGroup table.tree nodes leaves = rw c.tree.ensures at c.in_ok-tree.ensures.tree in
-    let order : AreNamesOrdered image (segment_of image table.heap) nodes leaves = rw (c.segment_at-segment.ensures, c.heap-3.ensures) at c.in_ok-check_order.ensures.ordered in
+    let order : AreNamesOrdered image (segment_of image table.heap) nodes leaves
+    = rw (c.segment_at-segment.ensures, c.heap-3.ensures) at c.in_ok-check_order.ensures.ordered in
     group_read image table nodes leaves tree c.in_ok-heap.heap.free c.in_ok-check_texts.ensures.texts order heap c.in_ok-tree.ensures.inside inside (c.requires.superblock).internal_high
 
 pub returns-clause-claimed : goal.returns-clause-claimed

@@ -46,5 +46,6 @@ returns-then-not-is_child_ordered c =
       λ (yes : false ≡ true). absurd (cc),
       λ ordered. c.if-not-is_child_ordered.ensures.1
           (named_child image segment (reading_in image OfGroup) node c.requires.level c.loop-i.i c.child.result
-          (text_at segment c.loop-i.low) (text_at segment c.key_offset-high.result) low read low_is high_is (ordered.rising c.loop-i.i low, ordered.between c.loop-i.i low)),
+          (text_at segment c.loop-i.low) (text_at segment c.key_offset-high.result) low read low_is high_is
+          (ordered.rising c.loop-i.i low, ordered.between c.loop-i.i low)),
     )

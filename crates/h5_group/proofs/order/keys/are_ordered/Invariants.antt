@@ -11,4 +11,5 @@ use Rattle.h5_group.proofs.order.keys.are_ordered.Given as goal
 abbrev pub invariant-loop-i : goal.invariant-loop-i
 invariant-loop-i l = (l.low ≡ offset_in (slice_index_or l.node.keys l.i []))
     × ((k : ℕ) → k < l.i
-    → IsChildOrdered (name_sides (key_text l.segment)) (reading_in l.image.bytes OfGroup) (name_lists (symbols_at l.image.bytes (leaf_k l.image.bytes)) l.segment) l.node k)
+    → IsChildOrdered (name_sides (key_text l.segment)) (reading_in l.image.bytes OfGroup)
+    (name_lists (symbols_at l.image.bytes (leaf_k l.image.bytes)) l.segment) l.node k)

@@ -29,7 +29,8 @@ returns-then-count-ne0 c =
     let decides = last_decides (symbols_at image (leaf_k image)) segment node.children i c.child.result low read
     c.symbol_node-symbols.result c.symbol_node-symbols.ensures e.0 c.requires.ascend (text_at segment c.args.high) k end e.1
     (subst (λ (k : ℕ). all_entries image (drop k node.children) ≡ []) next c.loop-i.invariant) in
-    let exact : NotAfter (text_at segment c.entry.result.name) (text_at segment c.args.high) ↔ AllByRecursion (λ (n : List ℕ). NotAfter n (text_at segment c.args.high)) (names_at image segment node.children)
+    let exact : NotAfter (text_at segment c.entry.result.name) (text_at segment c.args.high)
+    ↔ AllByRecursion (λ (n : List ℕ). NotAfter n (text_at segment c.args.high)) (names_at image segment node.children)
     = rw (ap (text_at segment) e.2) at decides in
     (λ yes. exact.0 (sym c.is_not_after.ensures ∙ yes), λ within. c.is_not_after.ensures ∙ exact.1 within)
 

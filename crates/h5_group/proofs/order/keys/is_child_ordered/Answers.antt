@@ -36,8 +36,11 @@ returns-then-is_before c =
     = rw (ap (text_at segment) f.2) at stop in (
       λ yes.
           let all : AllByRecursion (LiesBetween low high) (names_at image segment row)
-          = all_both (Before low) (λ n. NotAfter n high) (names_at image segment row) (above.0 (sym c.is_before.ensures ∙ c.if-is_before.true)) (within.0 (sym c.is_not_after-then-is_before.ensures ∙ yes)) in
-          let lies : LiesBetween low high (name_of_entry segment e.0) = first_named segment S c.args.at es c.symbol_node-symbols.ensures (LiesBetween low high) e.0 some e.1 all in
+          = all_both (Before low) (λ n. NotAfter n high) (names_at image segment row)
+          (above.0 (sym c.is_before.ensures ∙ c.if-is_before.true)) (within.0 (sym c.is_not_after-then-is_before.ensures ∙ yes)) in
+          let lies : LiesBetween low high (name_of_entry segment e.0)
+          = first_named segment S c.args.at es c.symbol_node-symbols.ensures (LiesBetween low high) e.0 some e.1 all in
           (not_after_trans low (name_of_entry segment e.0) high (before_le low (name_of_entry segment e.0) lies.0) lies.1, all),
-      λ both. c.is_not_after-then-is_before.ensures ∙ within.1 (all_so (LiesBetween low high) (λ n. NotAfter n high) (names_at image segment row) (λ n lies. lies.1) both.1),
+      λ both. c.is_not_after-then-is_before.ensures ∙ within.1
+          (all_so (LiesBetween low high) (λ n. NotAfter n high) (names_at image segment row) (λ n lies. lies.1) both.1),
     )

@@ -23,7 +23,8 @@ returns-then-len-ne0 c =
     let e = entry_offset c.symbol_node-symbols.result 0 c.entry.result some c.entry.ensures in
     let decides = first_decides (symbols_at image (leaf_k image)) segment node.children c.loop-i.i c.child.result low read
     c.symbol_node-symbols.result c.symbol_node-symbols.ensures e.0 c.requires.ascend (text_at segment c.args.low) some e.1 c.loop-i.invariant in
-    let exact : Before (text_at segment c.args.low) (text_at segment c.entry.result.name) ↔ AllByRecursion (Before (text_at segment c.args.low)) (names_at image segment node.children)
+    let exact : Before (text_at segment c.args.low) (text_at segment c.entry.result.name)
+    ↔ AllByRecursion (Before (text_at segment c.args.low)) (names_at image segment node.children)
     = rw (ap (text_at segment) e.2) at decides in
     (λ yes. exact.0 (sym c.is_before.ensures ∙ yes), λ above. c.is_before.ensures ∙ exact.1 above)
 

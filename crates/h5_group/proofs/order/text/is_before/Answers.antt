@@ -8,7 +8,8 @@ returns-in-Some c =
     let n = c.loop-k.at - c.args.name in
     let at_is : c.loop-k.at ≡ c.args.name + n = omega arith in
     texts_decide_on c.args.segment.now c.args.name c.args.other c.loop-k.at c.loop-k.at_other n at_is (c.loop-k.invariant).1 (c.loop-k.invariant).2
-    c.in-Some.k c.in-Some.ensures.common (omega (arith, c.loop-k-test.ensures.0 refl, c.in-Some.ensures.few)) (omega (arith, c.if-has_lanes.ensures.0 refl, c.in-Some.ensures.few))
+    c.in-Some.k c.in-Some.ensures.common (omega (arith, c.loop-k-test.ensures.0 refl, c.in-Some.ensures.few))
+    (omega (arith, c.if-has_lanes.ensures.0 refl, c.in-Some.ensures.few))
     c.in-Some.ensures.apart
 
 pub loop-k-preserved : goal.loop-k-preserved

@@ -26,7 +26,8 @@ check_names-requires-clause-there c =
 
 pub take_keys-requires-clause-there : goal.take_keys-requires-clause-there
 take_keys-requires-clause-there c =
-    rw c.deref-2.ensures.value (nodes_stand c.args.image.now.bytes OfGroup c.args.table.tree c.args.tree.now.nodes.items c.args.tree.now.leaves.items c.requires.tree c.requires.inside)
+    rw c.deref-2.ensures.value
+    (nodes_stand c.args.image.now.bytes OfGroup c.args.table.tree c.args.tree.now.nodes.items c.args.tree.now.leaves.items c.requires.tree c.requires.inside)
 
 pub returns-then-not-has_empty_name-clause-first : goal.returns-then-not-has_empty_name-clause-first
 returns-then-not-has_empty_name-clause-first c =

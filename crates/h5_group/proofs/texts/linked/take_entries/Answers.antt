@@ -28,6 +28,7 @@ loop-k-preserved c =
     let is = segment_same image c.args.heap.now c.loop-k.heap (c.loop-k.invariant).0.same in
     let here : IsEntrySound (segment_in image c.args.heap.now) c.entry.result = rw is at (c.if-not-take_entry.ensures.sound refl) in (
       taken_step linked_by es c.loop-k.k blank low image c.args.heap.now c.loop-k.heap (c.loop-k.invariant).0 c.take_entry.new.heap
-          (subst (TakesLinked image c.loop-k.heap c.take_entry.new.heap) (linked_is es c.loop-k.k low c.entry.result c.entry.ensures) (c.if-not-take_entry.ensures.takes refl)),
+          (subst (TakesLinked image c.loop-k.heap c.take_entry.new.heap) (linked_is es c.loop-k.k low c.entry.result c.entry.ensures)
+          (c.if-not-take_entry.ensures.takes refl)),
       sound_more es c.loop-k.k low c.entry.result c.entry.ensures (segment_in image c.args.heap.now) (c.loop-k.invariant).1 here,
     )

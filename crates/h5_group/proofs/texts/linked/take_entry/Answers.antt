@@ -22,4 +22,5 @@ returns-in-Text-clause-refused c = λ none sound.
     refused_within image c.args.heap.now c.take.new.self (linked_from c.args.entry) (name ∷ []) (c.from.result ∷ []) [] is
     (takes_one image c.args.heap.now c.take.new.self name c.in-Ok.ensures.takes c.in-Ok.ensures.taken)
     (refused_one image c.take.new.self c.from.result HeapName
-    (untaken_by (segment_in image c.take.new.self) c.take.new.self.held c.from.result c.take-in-Text.result c.take-in-Text.ensures.refused (sym c.is_ok.ensures.value ∙ none)))
+    (untaken_by (segment_in image c.take.new.self) c.take.new.self.held c.from.result c.take-in-Text.result c.take-in-Text.ensures.refused
+    (sym c.is_ok.ensures.value ∙ none)))

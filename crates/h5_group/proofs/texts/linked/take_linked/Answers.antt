@@ -28,7 +28,8 @@ loop-at-preserved c =
     let low : i < length nodes = omega arith in
     let is = segment_same image c.args.heap.now c.loop-at.heap (c.loop-at.invariant).0.same in
     let here : AreEntriesSound (segment_in image c.args.heap.now) (entries_at image (get_or nodes i 0)) = rw is at (c.if-not-take_entries.ensures.sound refl) in (
-      taken_step (linked_at image) nodes i 0 low image c.args.heap.now c.loop-at.heap (c.loop-at.invariant).0 c.take_entries.new.heap (c.if-not-take_entries.ensures.takes refl),
+      taken_step (linked_at image) nodes i 0 low image c.args.heap.now c.loop-at.heap (c.loop-at.invariant).0 c.take_entries.new.heap
+          (c.if-not-take_entries.ensures.takes refl),
       sound_both (segment_in image c.args.heap.now) (flat_map (entries_at image) (take (i + 1) nodes)) (flat_map (entries_at image) (take i nodes))
           (entries_at image (get_or nodes i 0)) (flat_step (entries_at image) nodes i 0 low) (c.loop-at.invariant).1 here,
     )

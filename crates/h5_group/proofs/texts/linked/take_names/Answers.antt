@@ -12,7 +12,8 @@ returns-in-Ok-clause-taken c = λ yes.
     let image = c.args.image.now.bytes in
     let heap = c.args.heap.now in
     let empty = c.in-Ok.ensures.begun c.requires.held c.requires.none in
-    taken_now image heap c.begin_names.new.self c.in-Ok.ensures.held empty c.take_linked.new.heap (flat_map (linked_at image) c.args.symbol_nodes.now) (c.take_linked.ensures.takes yes)
+    taken_now image heap c.begin_names.new.self c.in-Ok.ensures.held empty c.take_linked.new.heap
+    (flat_map (linked_at image) c.args.symbol_nodes.now) (c.take_linked.ensures.takes yes)
 
 pub returns-in-Ok-clause-refused : goal.returns-in-Ok-clause-refused
 returns-in-Ok-clause-refused c = λ no sound.
@@ -28,4 +29,5 @@ returns-in-Ok-clause-refused c = λ no sound.
 
 pub returns-in-Err-clause-refused : goal.returns-in-Err-clause-refused
 returns-in-Err-clause-refused c = λ no sound.
-    empty_refused (segment_in c.args.image.now.bytes c.args.heap.now) c.args.heap.now c.requires.held _ c.in-Err.ensures.refused (flat_map (linked_at c.args.image.now.bytes) c.args.symbol_nodes.now)
+    empty_refused (segment_in c.args.image.now.bytes c.args.heap.now) c.args.heap.now c.requires.held _ c.in-Err.ensures.refused
+    (flat_map (linked_at c.args.image.now.bytes) c.args.symbol_nodes.now)
