@@ -2,7 +2,7 @@
 use Rattle.std.proofs.Common.{◌≡◌, ℕ, IfSome, None, Option, Some, ◌+◌, ◌-◌, ◌*◌, ◌^◌, ◌<◌, ◌≤◌, List, [], ◌∷◌, ◌++◌, length, get_or, min, set, take, sym, ap, ◌∙◌, arith}
 use Rattle.std.specs.Prelude.{option_map}
 use Rattle.std.proofs.Math.Nat.{mul-le-mul_right}
-use Rattle.std.proofs.lemmas.List.{get_or-set_same, get_or-take, length-set, length-take, take-take, take_all, take_more_set}
+use Rattle.std.proofs.lemmas.List.{get_or-take, length-set, length-take, take-take, take_all, take_more_set}
 use Rattle.h5_model.specs.Tree.Grid.{corner_of}
 use Rattle.h5_model.specs.Tree.Places.{cells, index_of}
 use Rattle.h5_model.proofs.PlaceLaws.{positive}
@@ -106,12 +106,9 @@ module _ (g : Grid) (grid : IsGrid g) (row : FoundRow) (of : IsRowOf g row) (pla
   pub step_small : get_or row.corner last 0 + size < 2 ^ 64
   step_small = omega (arith, has.more, last_small g.sizes has.rank (omega (arith, below)), grid.few)
 
-  pub step_left : (n : ℕ) → n ≡ min size (get_or g.sizes last 0 - get_or (set row.corner last (get_or row.corner last 0 + size)) last 0)
-      → n ≡ left_in_row g.sizes g.shape.sizes place
+  pub step_left : (n : ℕ) → n ≡ min size (get_or g.sizes last 0 - (get_or row.corner last 0 + size)) → n ≡ left_in_row g.sizes g.shape.sizes place
   step_left n is =
-      let wrote = get_or-set_same row.corner last (get_or row.corner last 0 + size) 0 row_end in
-      is ∙ ap (λ m. min size (get_or g.sizes last 0 - m)) wrote
-      ∙ ap (λ m. min size (get_or g.sizes last 0 - (m + size))) (sym number)
+      is ∙ ap (λ m. min size (get_or g.sizes last 0 - (m + size))) (sym number)
       ∙ sym (next_left g.sizes g.shape.sizes row.start row.cells grid.rank has.rank wide low (of.all has.rank) more)
       ∙ ap (left_in_row g.sizes g.shape.sizes) (sym has.behind)
 

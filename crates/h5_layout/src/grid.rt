@@ -341,11 +341,15 @@ impl<'a, 'g> GridRef<'a, 'g> {
     {
         let last = self.sizes.len() - 1;
         let size = self.chunk[last];
-        row.number = next_number(row.number);
+        let number = next_number(row.number);
+        let inner = row.inner + row.cells - size;
+        // The corner first: a number that is written behind it need not be read again.
+        let first = row.corner[last] + size;
+        row.corner[last] = first;
         row.start = place;
-        row.inner = row.inner + row.cells - size;
-        row.corner[last] += size;
-        row.cells = size.min(self.sizes[last] - row.corner[last]);
+        row.cells = size.min(self.sizes[last] - first);
+        row.inner = inner;
+        row.number = number;
     }
 
     /// Whether the cell at this place is the one behind this row, and the next chunk has it.
@@ -353,13 +357,12 @@ impl<'a, 'g> GridRef<'a, 'g> {
     fn goes_on(&self, row: &FoundRow, place: u64) -> bool
         ensures { IsTrue result → HasNext self.now.sizes self.now.shape.sizes row.now place }
     {
-        let Some(last) = self.sizes.len().checked_sub(1) else {
-            return false;
-        };
-        row.cells > 0
+        let rank = self.sizes.len();
+        rank > 0
+            && row.cells > 0
             && place >= row.start
             && place - row.start == row.cells
-            && self.sizes[last].saturating_sub(row.corner[last]) > self.chunk[last]
+            && self.sizes[rank - 1].saturating_sub(row.corner[rank - 1]) > self.chunk[rank - 1]
     }
 
     /// The address of the chunk with this first index, where it is stored, and its number among those that were found

@@ -145,13 +145,14 @@ impl ChunkIndex {
         ensures since { self.new.row.start ≤ place }
         ensures until { place < self.new.row.start + self.new.row.cells }
     {
-        let row = &self.row;
-        if row.start <= place && place - row.start < row.cells {
+        if place < self.row.start {
+            self.find_row(image, place);
             return;
         }
-        if !self.step(image, place) {
-            self.find_row(image, place);
+        if place - self.row.start < self.row.cells || self.step(image, place) {
+            return;
         }
+        self.find_row(image, place);
     }
 
     /// Makes the row that was found last the one from this place on, where the next chunk has it, and its address is

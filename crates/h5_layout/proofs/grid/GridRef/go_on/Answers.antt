@@ -7,21 +7,21 @@ use Rattle.h5_layout.proofs.NextRows.{step_back, step_beside, step_corner, step_
 use Rattle.h5_layout.proofs.grid.GridRef.go_on.Goals as goal
 use Rattle.h5_layout.proofs.grid.GridRef.go_on.Goals.{After-min-row}
 
-pub overflow_add-row-2 : goal.overflow_add-row-2
-overflow_add-row-2 c =
+pub overflow_add-first : goal.overflow_add-first
+overflow_add-first c =
     let row = c.args.row.now in
     let low = subst (λ (g : Grid). get_or row.corner (length g.sizes - 1) 0 + get_or g.shape.sizes (length g.sizes - 1) 0 < 2 ^ 64) (sym c.self.view_is)
     (step_small c.args.self.now (subst IsGrid c.self.view_is c.self.invariant) row c.requires.row c.args.place c.requires.below c.requires.next) in
     omega (arith, low)
 
-pub overflow_add-row : goal.overflow_add-row
-overflow_add-row c =
+pub overflow_add-inner : goal.overflow_add-inner
+overflow_add-inner c =
     let row = c.args.row.now in
     let low = step_room c.args.self.now (subst IsGrid c.self.view_is c.self.invariant) row c.requires.row c.args.place c.requires.below c.requires.next in
     omega (arith, low)
 
-pub overflow_sub-row : goal.overflow_sub-row
-overflow_sub-row c =
+pub overflow_sub-inner : goal.overflow_sub-inner
+overflow_sub-inner c =
     let row = c.args.row.now in
     subst (λ (g : Grid). get_or g.shape.sizes (length g.sizes - 1) 0 ≤ row.inner + row.cells) (sym c.self.view_is)
     (step_back c.args.self.now (subst IsGrid c.self.view_is c.self.invariant) row c.requires.row c.args.place c.requires.below c.requires.next)
@@ -54,7 +54,7 @@ all c =
     step_left c.args.self.now (subst IsGrid c.self.view_is c.self.invariant) row c.requires.row c.args.place c.requires.below c.requires.next c.min-row.result
     (subst (λ (g : Grid). c.min-row.result ≡ min (get_or g.shape.sizes (length g.sizes - 1) 0)
     (get_or g.sizes (length g.sizes - 1) 0
-    - get_or (set row.corner (length g.sizes - 1) (get_or row.corner (length g.sizes - 1) 0 + get_or g.shape.sizes (length g.sizes - 1) 0)) (length g.sizes - 1) 0))
+    - (get_or row.corner (length g.sizes - 1) 0 + get_or g.shape.sizes (length g.sizes - 1) 0)))
     c.self.view_is c.min-row.ensures)
 
 pub returns-clause-row : goal.returns-clause-row
@@ -70,8 +70,8 @@ returns-clause-row c =
       all = λ _. left;
     }
 
-pub next_number-row-requires : goal.next_number-row-requires
-next_number-row-requires c =
+pub next_number-number-requires : goal.next_number-number-requires
+next_number-number-requires c =
     let row = c.args.row.now in
     step_count c.args.self.now (subst IsGrid c.self.view_is c.self.invariant) row c.requires.row c.args.place c.requires.below c.requires.next
     c.requires.number.0 row.number c.requires.number.1
@@ -82,8 +82,8 @@ returns-clause-number c = λ begin is.
     let now = c.args.self.now in
     subst (λ (g : Grid). IsNumberBeside now.shape.sizes begin (take (length now.sizes)
     (set row.corner (length g.sizes - 1) (get_or row.corner (length g.sizes - 1) 0 + get_or g.shape.sizes (length g.sizes - 1) 0)))
-    c.next_number-row.result) (sym c.self.view_is)
+    c.next_number-number.result) (sym c.self.view_is)
     (subst (λ (n : Option ℕ). IsNumberBeside now.shape.sizes begin (take (length now.sizes)
     (set row.corner (length now.sizes - 1) (get_or row.corner (length now.sizes - 1) 0 + get_or now.shape.sizes (length now.sizes - 1) 0)))
-    n) (sym c.next_number-row.ensures)
+    n) (sym c.next_number-number.ensures)
     (step_number now (subst IsGrid c.self.view_is c.self.invariant) row c.requires.row c.args.place c.requires.below c.requires.next begin row.number is))
