@@ -1,11 +1,10 @@
--- Selected cells that are one run: why nothing but their values refuses them, and what is known where they were found to stand together.
+-- Selected cells that are one run: why nothing but their values refuses them.
 use Rattle.std.proofs.Common.{◌≡◌, ℕ, ℤ, ◌+◌, ◌-◌, ◌<◌, ◌≤◌, List, [], ◌∷◌, Bool, true, false, not, Result, Ok, Err, if◌then◌else◌, Option, Some, None, length, refl, sym, ap, ◌∙◌, subst, arith}
 use Rattle.std.specs.Prelude.{◌++◌, ◌==◌, ◌&&◌, nat_le}
 use Rattle.std.proofs.lemmas.Bool.Decides.{nat_tests}
 use Rattle.std.specs.List.{Contains, list_all, list_any, range_with_len}
 use Rattle.std.proofs.lemmas.List.{append-nil}
 use Rattle.std.proofs.lemmas.List.FromFn.{length-range_with_len}
-use Rattle.std.specs.Option.{IfSome}
 use Rattle.h5_laws.proofs.Lists.{contains_in, in_range}
 use Rattle.h5_layout.specs.Described.{Described}
 use Rattle.h5_model.specs.Edits.Refusal.{first_holding}
@@ -18,10 +17,7 @@ use Rattle.h5_model.proofs.RefusalLaws.{length-axes_of}
 use Rattle.h5_model.proofs.CountLaws.{length-selection}
 use Rattle.h5_model.proofs.WithinLaws.{to_is_within}
 use Rattle.h5_query.proofs.RuleLaws.{first-behind}
-use Rattle.h5_query.specs.Opened.State.{FileState}
 use Rattle.h5_query.specs.Selected.{hyper_rules}
-use Rattle.h5_query.specs.Written.{IsArrayThere}
-use Rattle.h5_query.specs.StandingCellsType.{StandingCells}
 use Rattle.h5_shape.specs.OneRun.{IsOneRun}
 use Rattle.h5_shape.specs.Runs.{AreMaximal, places_in}
 use Rattle.h5_shape.specs.Slab.{is_of_one_rank}
@@ -29,7 +25,7 @@ use Rattle.h5_shape.specs.declared.runs.CellRun.{CellRun}
 use Rattle.h5_shape.specs.declared.slab.SlabFault.{SlabFault}
 use Rattle.h5_shape.specs.declared.slab.SlabFault.TheVariants as slab_fault
 use Rattle.h5_shape.proofs.RunLaws.{places_of_runs, runs-maximal}
-use Rattle.h5_edit.specs.Refusals.Allowed.{AreSelectedStanding, AreStandingAt, IsRunStanding}
+use Rattle.h5_edit.specs.Refusals.Allowed.{AreValuesOfRun}
 use Rattle.h5_edit.specs.Refusals.Rules.{counted_rules, value_rules}
 use Rattle.h5_edit.proofs.SelectedStored.{place_low}
 
@@ -116,25 +112,13 @@ values_fit fixed n values none = by_values (length values == n) (list_all (fits 
   by_values true false count fit never = absurd (cc)
   by_values true true count fit none_holds = (grind (arith, nat_tests, count), fit)
 
-module _ (image : List ℕ) (a : Described) (hyper : Hyper) (values : List ℤ) (run : CellRun) (is : IsOneRun a.sizes hyper run) where
+module _ (a : Described) (hyper : Hyper) (values : List ℤ) (run : CellRun) (is : IsOneRun a.sizes hyper run) where
   -- the values alone decide
   pub values_decide : first_holding (hyper_rules a.sizes hyper ++ value_rules a.fixed hyper values) ≡ first_holding (counted_rules a.fixed run.length values)
   values_decide =
       first-behind (hyper_rules a.sizes hyper) (value_rules a.fixed hyper values) (run_selects a.sizes hyper run is)
       ∙ ap (λ n. first_holding (counted_rules a.fixed n values)) (sym (run_counted a.sizes hyper run is))
 
-  pub values_standing : first_holding (counted_rules a.fixed run.length values) ≡ None → (found : Option StandingCells)
-      → IfSome found (IsRunStanding image a run) → IfSome found (AreSelectedStanding image a hyper values)
-  values_standing none None stands = tt
-  values_standing none (Some c) stands =
-      let fit = values_fit a.fixed run.length values none in
-      record { run = run; valued = record { selected = is; counted = fit.0; of_type = fit.1 }; stands = stands }
-
--- ---- of the array of a number
-
-pub standing_there : (f : FileState) (number : ℕ) (a : Described) → IsArrayThere f number a → (hyper : Hyper) (run : CellRun)
-    → IsOneRun a.sizes hyper run → (found : Option StandingCells) → IfSome found (IsRunStanding f.image a run)
-    → IfSome found (AreStandingAt f number hyper)
-standing_there f number a there hyper run is None stands = tt
-standing_there f number a there hyper run is (Some c) stands =
-    record { array = a; there = there; run = run; selected = is; stands = stands }
+  -- and where they refuse nothing, there is one for each cell of the run
+  pub values_of_run : first_holding (counted_rules a.fixed run.length values) ≡ None → AreValuesOfRun a hyper values run
+  values_of_run none = let fit = values_fit a.fixed run.length values none in record { selected = is; counted = fit.0; of_type = fit.1 }

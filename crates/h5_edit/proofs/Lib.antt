@@ -21,6 +21,7 @@ pub mod SelectedStored
 pub mod WriteSteps
 pub mod FoundStanding
 pub mod StandingRuns
+pub mod MissingRuns
 pub mod SelectedRuns
 pub mod OpenedAnew
 pub mod AttributeFacts

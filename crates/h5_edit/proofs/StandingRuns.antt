@@ -28,9 +28,11 @@ use Rattle.h5_query.specs.Written.{AreStanding, IsStoredRun, with_run}
 use Rattle.h5_shape.specs.OneRun.{IsOneRun}
 use Rattle.h5_shape.specs.declared.runs.CellRun.{CellRun}
 use Rattle.h5_layout.specs.Lacking.{lacks_cells}
-use Rattle.h5_edit.specs.Refusals.Allowed.{AreSelectedStanding, AreStandingAt, IsTarget}
-use Rattle.h5_edit.specs.Stored.{AreSelectedReady, AreSelectedWritten, AreValuesWritten, HasStorage}
-use Rattle.h5_edit.specs.declared.rules.write.WriteTarget.{WriteTarget}
+use Rattle.h5_edit.specs.Refusals.Allowed.{AreStandingAt}
+use Rattle.h5_edit.specs.Stored.{AreSelectedReady, AreSelectedWritten, AreValuesWritten, HasStorage, IsStoring}
+use Rattle.h5_layout.specs.declared.lacking.Missing.{Missing}
+use Rattle.h5_edit.specs.WriteTarget.{IsTarget}
+use Rattle.h5_edit.specs.declared.target.TargetCells.TheVariants as target
 use Rattle.h5_edit.proofs.ArraysThere.{one_there}
 use Rattle.h5_edit.proofs.FoundStanding.{places_are, run_inside, run_some}
 use Rattle.h5_edit.proofs.WriteSteps.{has_all, selected_ready}
@@ -115,32 +117,35 @@ module _ {f : FileState} {number : ℕ} {hyper : Hyper} {values : List ℤ} {d :
 
 -- ---- where no storage was missing
 
-module _ {f : FileState} {path : List ℕ} {hyper : Hyper} {values : List ℤ} {t : WriteTarget} (is : IsTarget f path hyper values t) (c : StandingCells)
-    (some : t.standing ≡ Some c) (sound_before : IsSound f) where
+module _ {f : FileState} {path : List ℕ} {hyper : Hyper} {values : List ℤ} {number : ℕ} (c : StandingCells)
+    (is : IsTarget f path hyper values number (target.Standing c)) where
   abbrev a : Described
   a = is.write.array
 
-  stands : AreSelectedStanding f.image a hyper values c
-  stands = subst (λ (found : Option StandingCells). IfSome found (AreSelectedStanding f.image a hyper values)) some is.found
-
   abbrev only : CellRun
-  only = stands.run
+  only = is.found.run
 
   selected : range_with_len only.place only.length ≡ selection_of a.sizes (axes_of hyper)
-  selected = places_are a.sizes hyper only stands.valued.selected
+  selected = places_are a.sizes hyper only is.found.valued.selected
 
   -- each selected cell is stored
   none_lacks : lacks_cells f.image a (axes_of hyper) ≡ false
   none_lacks =
       ap (list_any (λ place. not (is_stored_cell f.image a place))) (sym selected)
       ∙ none_fails (is_stored_cell f.image a) only.place only.length (λ k low.
-      stored_by a.fixed a.sizes a.layout (stored_chunks f.image a.fixed a.layout) (index_of a.sizes (only.place + k)) _ (stands.stands.standing k low))
+      stored_by a.fixed a.sizes a.layout (stored_chunks f.image a.fixed a.layout) (index_of a.sizes (only.place + k)) _ (is.found.stands.standing k low))
 
-  pub target_has : HasStorage f path hyper values t.number f
-  target_has = has_all (record { sound = sound_before; write = is.write; found = none_lacks })
+  pub target_has : HasStorage f path hyper values number f
+  target_has = has_all (record { sound = is.sound; write = is.write; found = none_lacks })
 
-  pub target_ready : (d : Dataset) × AreSelectedReady f t.number hyper values d
+  pub target_ready : (d : Dataset) × AreSelectedReady f number hyper values d
   target_ready = selected_ready is.write f target_has
 
-  pub target_standing : AreStandingAt f t.number hyper c
-  target_standing = record { array = a; there = is.write.there; run = only; selected = stands.valued.selected; stands = stands.stands }
+  pub target_standing : AreStandingAt f number hyper c
+  target_standing = record { array = a; there = is.write.there; run = only; selected = is.found.valued.selected; stands = is.found.stands }
+
+-- ---- where the cells do not stand together
+
+pub target_storing : {f : FileState} {path : List ℕ} {hyper : Hyper} {values : List ℤ} {number : ℕ} (missing : Option Missing)
+    → IsTarget f path hyper values number (target.Parted missing) → IsStoring f path hyper values number missing
+target_storing missing is = record { sound = is.sound; write = is.write; found = is.found }

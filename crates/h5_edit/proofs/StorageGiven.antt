@@ -172,10 +172,10 @@ module _ {f : FileState} {path : List ℕ} {hyper : Hyper} {values : List ℤ} {
     ]
 
     -- by the answer of the call that makes the storage
-    module _ (r : Result (Unit {0}) InsertFault) (deep : r ≡ Err insertion.TreeTooDeep → (n : ℕ) × IsDeepFor f.image a m n)
+    module _ {T : Type 0} (r : Result T InsertFault) (deep : r ≡ Err insertion.TreeTooDeep → (n : ℕ) × IsDeepFor f.image a m n)
         (deep_first : IsDeepFor f.image a m 0 → r ≡ Err insertion.TreeTooDeep)
         (full : (r ≡ Err (insertion.Space space.ImageFull)) ↔ ((IsDeepFor f.image a m 0 → ⊥) × (2 ^ 31 < length f.image + storage_bytes f.image a m))) where
-      module _ (u : Unit {0}) (ok : r ≡ Ok u) where
+      module _ (u : T) (ok : r ≡ Ok u) where
         made_first : IsDeepFor f.image a m 0 → ⊥
         made_first first = let never : Ok u ≡ Err insertion.TreeTooDeep = sym ok ∙ deep_first first in absurd (cc)
 

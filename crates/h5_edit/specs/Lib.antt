@@ -5,6 +5,7 @@ pub mod Repacked
 pub mod Edited
 pub mod StorageFacts
 pub mod Stored
+pub mod WriteTarget
 pub mod Answers
 pub mod Refusals
 pub mod Fits

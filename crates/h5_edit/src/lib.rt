@@ -13,6 +13,7 @@ mod opening;
 mod repacked;
 mod resized;
 mod rules;
+mod target;
 mod unlinked;
 mod written;
 

@@ -20,4 +20,4 @@ pub use links::{check_create_group, check_hard_link, check_soft_link};
 pub use place::NewPlace;
 pub(crate) use resize::check_resize;
 pub use unlink::{Removal, check_unlink};
-pub(crate) use write::{check_write, standing_at};
+pub(crate) use write::check_cells;

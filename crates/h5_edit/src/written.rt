@@ -5,19 +5,22 @@ ghost use Rattle.h5_model.specs.Edits.Refusal.{first_holding};
 ghost use Rattle.h5_model.specs.Tree.Objects.{Dataset, dataset_of};
 ghost use Rattle.h5_model.specs.declared.edits.Edit.TheVariants.{Write};
 ghost use Rattle.h5_model.specs.declared.hyperslab.Hyper.{Hyper as TheHyper};
+ghost use Rattle.h5_query.specs.Kept.{IsArrayAt};
 ghost use Rattle.h5_query.specs.Selected.{hyper_rules};
 ghost use Rattle.h5_edit.specs.Carried.{IsRefused};
 ghost use Rattle.h5_edit.specs.Edited.{IsEdited};
 ghost use Rattle.h5_edit.specs.Refusals.Allowed.{IsWriteAt};
 ghost use Rattle.h5_edit.specs.Stored.{AreSelectedReady, AreSelectedRuns, AreSelectedWritten, HasStorage, IsStoring, IsWriteMade};
+ghost use Rattle.h5_edit.specs.WriteTarget.{IsTarget};
+ghost use Rattle.h5_edit.specs.declared.target.TargetCells.TheVariants as target;
 
 use crate::links::insertion_fault;
-use crate::rules::{check_write, standing_at};
-use h5_layout::{Buffer, Missing, missing_of};
+use crate::target::{MissingRun, TargetCells, cells_to_write};
+use h5_layout::{Buffer, Missing};
 use h5_model::{EditFault, Edited, ObjectNo};
-use h5_query::{Opened, described_of, slab_within};
+use h5_query::{Opened, StandingCells, array_number, described_of, slab_within};
 use h5_shape::{CellRuns, HyperRef};
-use std::alloc::{AllocError, Global};
+use std::alloc::Global;
 
 /// Writes values into the selected cells of the array at the path: one value for each cell, in row-major order.
 ///
@@ -56,11 +59,14 @@ pub fn write(
     ensures { MatchResult result (IsEdited opened.old (Write path.now hyper.now values.now) opened.new) (λ e.
         IsRefused opened.old (Write path.now hyper.now values.now) e × (opened.new ≡ opened.old)) }
 {
-    let target = check_write(opened, path, hyper, values)?;
-    let number = target.number;
-    match target.standing {
-        Some(cells) => opened.write_standing(number, &cells, values),
-        None => write_selected(alloc, opened, number, hyper, values)?,
+    let number = array_number(opened, path)?;
+    match cells_to_write(alloc, opened, number, hyper, values)? {
+        TargetCells::Standing(cells) => opened.write_standing(number, &cells, values),
+        TargetCells::Missing(run) => write_missing_run(alloc, opened, number, &run, values)?,
+        TargetCells::Parted(missing) => {
+            make_missing(alloc, opened, number, missing)?;
+            write_by_runs(opened, number, hyper, values);
+        }
     }
     Ok(Edited {
         object: Some(ObjectNo(number)),
@@ -68,47 +74,35 @@ pub fn write(
     })
 }
 
-/// Writes values into the selected cells of the array of this number. The storage that is missing is made first.
+/// Writes values into a run of cells of the array of this number. The chunk or the block that has them all is made first.
 ///
-/// `TreeTooDeep` where a chunk finds no room in the tree, `ImageFull` where the image may pass 2147483648 bytes with that storage, `NoMemory`
+/// `TreeTooDeep` where the chunk finds no room in the tree, `ImageFull` where the image may pass 2147483648 bytes with it, `NoMemory`
 /// where memory is refused. A refusal changes nothing.
-fn write_selected(
+fn write_missing_run(
     alloc: Global,
     opened: &mut Opened,
     number: u32,
-    hyper: &HyperRef<'_>,
+    run: &MissingRun,
     values: &Buffer<'_>,
 ) -> Result<(), EditFault>
-    requires { (path : List ℕ) × IsWriteAt opened.old path hyper.now values.now number }
-    ensures { (path : List ℕ) → IsWriteAt opened.old path hyper.now values.now number
-        → MatchResult result (λ _. IsWriteMade opened.old path hyper.now values.now number opened.new) (λ e.
-        IsRefused opened.old (Write path hyper.now values.now) e × (opened.new ≡ opened.old)) }
+    requires { (path : List ℕ) × (hyper : TheHyper)
+        × IsTarget opened.old path hyper values.now number (target.Missing run.now) }
+    ensures { (path : List ℕ) (hyper : TheHyper)
+        → IsTarget opened.old path hyper values.now number (target.Missing run.now)
+        → MatchResult result (λ _. IsWriteMade opened.old path hyper values.now number opened.new) (λ e.
+        IsRefused opened.old (Write path hyper values.now) e × (opened.new ≡ opened.old)) }
 {
-    let missing = missing_at(alloc, opened, number, hyper)?;
-    make_missing(alloc, opened, number, missing)?;
-    write_where_stored(opened, number, hyper, values);
-    Ok(())
-}
-
-/// What is missing of the storage of the selected cells of the array of this number, or `None` where each of them is stored. Takes memory
-/// for the keys of missing chunks.
-///
-/// That no rule refuses the write is the caller's condition.
-fn missing_at(
-    alloc: Global,
-    opened: &Opened,
-    number: u32,
-    hyper: &HyperRef<'_>,
-) -> Result<Option<Missing>, AllocError>
-    requires { (path : List ℕ) × (values : List ℤ) × IsWriteAt opened.now path hyper.now values number }
-    ensures { (path : List ℕ) (values : List ℤ) → IsWriteAt opened.now path hyper.now values number
-        → IfOk result (IsStoring opened.now path hyper.now values number) }
-{
-    let array = described_of(opened, number);
-    let Ok(slab) = slab_within(array.dims(), hyper) else {
-        unreachable!()
+    let at = match opened.make_storage(alloc, number, &run.missing) {
+        Ok(at) => at,
+        Err(fault) => return Err(insertion_fault(fault)),
     };
-    missing_of(alloc, opened.image(), &array, &slab)
+    let cells = StandingCells {
+        fixed: run.fixed,
+        place: run.place,
+        at: at + run.inner * run.fixed.size() as u64,
+    };
+    opened.write_standing(number, &cells, values);
+    Ok(())
 }
 
 /// Makes the storage that is missing of the array of this number, if any is. A refusal changes nothing.
@@ -129,20 +123,8 @@ fn make_missing(
         return Ok(());
     };
     match opened.make_storage(alloc, number, &missing) {
-        Ok(()) => Ok(()),
+        Ok(_) => Ok(()),
         Err(fault) => Err(insertion_fault(fault)),
-    }
-}
-
-/// Writes values into the selected cells of the array of this number, all of which are stored: at once where they stand one behind another,
-/// else run by run. Takes no memory.
-fn write_where_stored(opened: &mut Opened, number: u32, hyper: &HyperRef<'_>, values: &Buffer<'_>)
-    requires { (d : Dataset) × AreSelectedReady opened.old number hyper.now values.now d }
-    ensures { AreSelectedWritten opened.old number hyper.now values.now opened.new }
-{
-    match standing_at(opened, number, hyper) {
-        Some(standing) => opened.write_standing(number, &standing, values),
-        None => write_by_runs(opened, number, hyper, values),
     }
 }
 

@@ -16,6 +16,7 @@ use Rattle.h5_open.specs.declared.opened.object.OpenedObject.{OpenedObject}
 use Rattle.h5_open.specs.declared.opened.object.OpenedContent.TheVariants as content
 use Rattle.h5_layout.specs.ArrayEdits.{IsArrayApart, described_in}
 use Rattle.h5_layout.specs.Lacking.{IsMissing, stored_all}
+use Rattle.h5_layout.specs.RunStorage.{IsMadeAt}
 use Rattle.h5_layout.specs.Storage.{IsDeepFor, IsStorageMade, storage_bytes}
 use Rattle.h5_open.specs.ChangedInPlace.{IsChangedInPlace}
 use Rattle.h5_open.specs.Opened.Kept.{IsOpened}
@@ -24,7 +25,7 @@ use Rattle.h5_open.specs.Written.{IsArrayThere, IsCellStored}
 use Rattle.h5_open.proofs.ArrayEdited.{array_apart}
 use Rattle.h5_open.proofs.ArrayOpened.{slot_there}
 use Rattle.h5_open.proofs.StandingOpened.{array_is, is_array}
-use Rattle.h5_open.proofs.StorageOpened.{storage_changed, storage_opened, storage_stored}
+use Rattle.h5_open.proofs.StorageOpened.{storage_changed, storage_opened, storage_placed, storage_stored}
 
 -- so much is missing of the array of this number
 abbrev pub IsLacking : FileState → ℕ → Missing → Type 0
@@ -121,3 +122,10 @@ module _ (image : Space) (slots : List (Option OpenedObject)) (numbers : BTreeMa
           = subst (λ (b : Described). IsMissing image.bytes b slab missing) is (subst (λ (g : FileState). IsMissing g.image a slab missing) (sym view) lacks) in
           storage_stored image slots numbers opened number p at kind mid new slab missing (made slab lacks_here) ended end long small place
           (subst (λ (b : Described). Contains (selection_of b.sizes slab) place) is chosen)
+
+      pub made_placed : (at_place : ℕ)
+          → ((slab : Slab) → IsMissing image.bytes (described_in image.bytes p.messages) slab missing → IsMadeAt mid.bytes (described_in mid.bytes p.messages) missing at_place)
+          → (a : Described) (slab : Slab) → IsArrayThere f number a → IsMissing f.image a slab missing
+          → (b : Described) → IsArrayThere (opened_state new slots) number b → IsMadeAt new.bytes b missing at_place
+      made_placed at_place placed a slab there lacks =
+          storage_placed image slots numbers opened number p at kind mid new slab_here missing made_here ended end long small at_place (placed slab_here missing_here.1)

@@ -1,7 +1,8 @@
 -- An opened image in which storage was made for the cells of an array, where the array stands: it is opened as it is now, and in the tree
 -- that array alone is another.
 use Rattle.std.proofs.Common.{◌≡◌, ℕ, ◌+◌, ◌≤◌, ◌^◌, Bool, true, false, List, [], ◌∷◌, length, refl, sym, ap, ◌∙◌, subst, inl, inr, Option, Some}
-use Rattle.std.specs.Prelude.{not, slice_get, ◌||◌}
+use Rattle.std.specs.FinMap.{get}
+use Rattle.std.specs.Prelude.{not, slice_get, slice_index_or, ◌||◌}
 use Rattle.std.specs.BTreeMap.{BTreeMap}
 use Rattle.std.specs.List.{Contains, list_any}
 use Rattle.h5_model.specs.Edits.Applied.{with_dataset}
@@ -23,15 +24,17 @@ use Rattle.h5_layout.specs.Described.{Described}
 use Rattle.h5_layout.specs.Standing.{is_stored_cell, is_stored_in}
 use Rattle.h5_layout.specs.Told.{array_told, layout_told, type_told}
 use Rattle.h5_layout.specs.declared.lacking.Missing.{Missing}
+use Rattle.h5_layout.specs.declared.lacking.Missing.TheVariants as missed
 use Rattle.h5_open.specs.declared.opened.object.OpenedObject.{OpenedObject}
 use Rattle.h5_open.specs.declared.opened.object.OpenedContent.TheVariants as content
 use Rattle.h5_layout.specs.Lacking.{lacks_cells, stored_all, stored_storage}
+use Rattle.h5_layout.specs.RunStorage.{IsMadeAt}
 use Rattle.h5_layout.specs.Storage.{IsStorageMade}
 use Rattle.h5_open.specs.ChangedInPlace.{IsChangedInPlace}
 use Rattle.h5_open.specs.Opened.Kept.{IsContentTidy, IsOpened}
 use Rattle.h5_open.specs.Opened.Objects.{tree_of}
 use Rattle.h5_open.specs.Opened.State.{opened_state}
-use Rattle.h5_open.specs.Written.{IsCellStored}
+use Rattle.h5_open.specs.Written.{IsArrayThere, IsCellStored}
 use Rattle.h5_open.proofs.ArrayEdited.{IsArrayEdited, edited_changed, edited_data_stays, edited_k_stays, edited_list_stays, edited_opened}
 use Rattle.h5_open.proofs.DataLaws.{stored_chunks-same}
 use Rattle.h5_open.proofs.OpenedLaws.Sounds.{object_of}
@@ -117,18 +120,32 @@ module _ (old : Space) (slots : List (Option OpenedObject)) (numbers : BTreeMap 
         (length slots) (number ∷ []) bytes
     storage_changed = edited_changed old slots numbers opened number p at kind mid new slots p stored_all edited
 
+    chunks_are : stored_chunks new.bytes (type_told mid_ms) (layout_told mid_ms) ≡ stored_chunks mid.bytes (type_told mid_ms) (layout_told mid_ms)
+    chunks_are =
+        let data_stays = edited_data_stays old slots numbers opened number p at kind mid new slots p stored_all edited in
+        let k_stays = edited_k_stays old slots numbers opened number p at kind mid new slots p stored_all edited in
+        stored_chunks-same mid.bytes new.bytes ended.grown (same_chunk new.bytes mid.bytes k_stays) (type_told mid_ms) (layout_told mid_ms) made.moved.stand.read data_stays
+
+    array_again : (b : Described) → IsArrayThere (opened_state new slots) number b → b ≡ array_told mid_ms
+    array_again b there =
+        array_is new slots numbers storage_opened number p at b there
+        ∙ ap array_told (edited_list_stays old slots numbers opened number p at kind mid new slots p stored_all edited)
+
     -- each selected cell is stored
     pub storage_stored : (place : ℕ) → Contains (selection_of (array_told ms).sizes slab) place → IsCellStored (opened_state new slots) number place
     storage_stored place chosen b there =
-        let data_stays = edited_data_stays old slots numbers opened number p at kind mid new slots p stored_all edited in
-        let k_stays = edited_k_stays old slots numbers opened number p at kind mid new slots p stored_all edited in
-        let list_stays = edited_list_stays old slots numbers opened number p at kind mid new slots p stored_all edited in
         let sizes_are : (array_told mid_ms).sizes ≡ (array_told ms).sizes = ap (λ (a : Described). a.sizes) made.told in
         let stored_mid = all_stored mid.bytes (array_told mid_ms) slab made.stored place
         (subst (λ (sizes : List ℕ). Contains (selection_of sizes slab) place) (sym sizes_are) chosen) in
-        let chunks_are : stored_chunks new.bytes (type_told mid_ms) (layout_told mid_ms) ≡ stored_chunks mid.bytes (type_told mid_ms) (layout_told mid_ms)
-        = stored_chunks-same mid.bytes new.bytes ended.grown (same_chunk new.bytes mid.bytes k_stays) (type_told mid_ms) (layout_told mid_ms) made.moved.stand.read data_stays in
-        let is : b ≡ array_told mid_ms = array_is new slots numbers storage_opened number p at b there ∙ ap array_told list_stays in
-        ap (λ (a : Described). is_stored_cell new.bytes a place) is
+        ap (λ (a : Described). is_stored_cell new.bytes a place) (array_again b there)
         ∙ ap (λ (c : Chunks). is_stored_in (layout_told mid_ms) c (index_of (array_told mid_ms).sizes place)) chunks_are
         ∙ stored_mid
+
+    -- and the first block or chunk that was made is where it was
+    pub storage_placed : (place : ℕ) → IsMadeAt mid.bytes (array_told mid_ms) missing place
+        → (b : Described) → IsArrayThere (opened_state new slots) number b → IsMadeAt new.bytes b missing place
+    storage_placed place placed b there =
+        subst (λ (a : Described). IsMadeAt new.bytes a missing place) (sym (array_again b there)) (same_place missing placed) where
+          same_place : (m : Missing) → IsMadeAt mid.bytes (array_told mid_ms) m place → IsMadeAt new.bytes (array_told mid_ms) m place
+          same_place missed.Block is = is
+          same_place (missed.Chunks array chunks) is = ap (λ (c : Chunks). get c (slice_index_or chunks.offsets 0 [])) chunks_are ∙ is

@@ -1,5 +1,5 @@
 -- Edits of an opened image that no rule of its tree refuses, and where they take place.
-use Rattle.std.specs.Prelude.{◌≡◌, ℕ, ℤ, true, IfSome, Some, None, List, length}
+use Rattle.std.specs.Prelude.{◌≡◌, ℕ, ℤ, true, Some, None, List, length}
 use Rattle.std.specs.List.{list_all}
 use Rattle.h5_layout.specs.Described.{Described}
 use Rattle.h5_layout.specs.Standing.{IsStandingAt}
@@ -17,7 +17,6 @@ use Rattle.h5_query.specs.Written.{IsArrayThere}
 use Rattle.h5_shape.specs.OneRun.{IsOneRun}
 use Rattle.h5_shape.specs.declared.runs.CellRun.{CellRun}
 use Rattle.h5_edit.specs.declared.rules.place.NewPlace.{NewPlace}
-use Rattle.h5_edit.specs.declared.rules.write.WriteTarget.{WriteTarget}
 
 -- no rule refuses the edit, and its new link is to stand in this group under this name
 pub record IsPlaceAllowed (tree : Tree) (next : ℕ) (path : List ℕ) (edit : Edit) (p : NewPlace) : Type 0 where
@@ -60,11 +59,6 @@ pub record AreStandingAt (f : FileState) (number : ℕ) (hyper : Hyper) (cells :
   pub run : CellRun
   pub selected : IsOneRun array.sizes hyper run
   pub stands : IsRunStanding f.image array run cells
-
--- the write takes place at this array, and where its cells were found to stand together, they do
-pub record IsTarget (f : FileState) (path : List ℕ) (hyper : Hyper) (values : List ℤ) (t : WriteTarget) : Type 0 where
-  pub write : IsWriteAt f path hyper values t.number
-  pub found : IfSome t.standing (AreSelectedStanding f.image write.array hyper values)
 
 -- no rule refuses the resize; the array at its path has this number
 abbrev pub IsResizeAt : Tree → ℕ → List ℕ → List ℕ → ℕ → Type 0

@@ -1,6 +1,6 @@
 //! Storage made for the cells of an array where it stands (File Format Specification 3.0, sections III.A.1 and IV.A.2.i).
 
-ghost use Rattle.std.specs.Prelude.{◌≡◌, ◌↔◌, ℕ, ◌+◌, ◌^◌, ◌<◌, ◌≤◌, Err, OnErr, OnOk, ◌∷◌, [], length};
+ghost use Rattle.std.specs.Prelude.{◌≡◌, ◌↔◌, ℕ, ◌+◌, ◌^◌, ◌<◌, ◌≤◌, Err, IfOk, OnErr, OnOk, ◌∷◌, [], length};
 ghost use Rattle.std.specs.List.{Contains};
 ghost use Rattle.h5_model.specs.Edits.Applied.{with_dataset};
 ghost use Rattle.h5_model.specs.Tree.Objects.{with_object};
@@ -8,6 +8,7 @@ ghost use Rattle.h5_model.specs.Views.Selection.{Slab, selection_of};
 ghost use Rattle.h5_layout.specs.Described.{Described};
 ghost use Rattle.h5_layout.specs.ArrayEdits.{IsArrayApart, described_in};
 ghost use Rattle.h5_layout.specs.Lacking.{IsMissing, stored_all};
+ghost use Rattle.h5_layout.specs.RunStorage.{IsMadeAt};
 ghost use Rattle.h5_layout.specs.Storage.{IsDeepFor, IsStorageMade, storage_bytes};
 ghost use Rattle.h5_open.specs.ChangedInPlace.{IsChangedInPlace};
 ghost use Rattle.h5_open.specs.Opened.Sound.{IsSound};
@@ -23,6 +24,7 @@ use std::alloc::Global;
 
 impl Opened {
     /// Makes the storage that is missing of an array: the block of a contiguous one, or chunks, each cell of which is the fill.
+    /// Returns the address of the block, or of the first of these chunks.
     ///
     /// It is made where the array stands (`make_storage` of `h5_layout`); nothing else is read. Takes memory for the blocks that it may
     /// need, before the first change. Where several chunks are missing, and the root of their tree stands so high that the tree may get too
@@ -42,7 +44,7 @@ impl Opened {
         alloc: Global,
         number: u32,
         missing: &Missing,
-    ) -> Result<(), InsertFault>
+    ) -> Result<u64, InsertFault>
         requires missing { (a : Described) × IsArrayThere self.old number a
             × ((slab : Slab) × IsMissing self.old.image a slab missing.now) }
         ensures changed { OnOk result ((a : Described) → IsArrayThere self.old number a
@@ -53,6 +55,9 @@ impl Opened {
         ensures stored { OnOk result ((a : Described) (slab : Slab) → IsArrayThere self.old number a
             → IsMissing self.old.image a slab missing.now
             → (place : ℕ) → Contains (selection_of a.sizes slab) place → IsCellStored self.new number place) }
+        ensures placed { IfOk result (λ at. (a : Described) (slab : Slab) → IsArrayThere self.old number a
+            → IsMissing self.old.image a slab missing.now
+            → (b : Described) → IsArrayThere self.new number b → IsMadeAt self.new.image b missing.now at) }
         ensures deep { (a : Described) → IsArrayThere self.old number a
             → result ≡ Err InsertFault.TreeTooDeep
             → (n : ℕ) × IsDeepFor self.old.image a missing.now n }
@@ -65,13 +70,14 @@ impl Opened {
         ensures refused { OnErr result (self.new ≡ self.old) }
     {
         let object = self.index.objects[number as usize].as_ref().unwrap();
-        make_all_or_none(alloc, &mut self.image, &object.messages, missing)?;
+        let at = make_all_or_none(alloc, &mut self.image, &object.messages, missing)?;
         write_end(&mut self.image);
-        Ok(())
+        Ok(at)
     }
 }
 
-/// Makes the storage that is missing of an array, or changes nothing (`make_storage` of `h5_layout`).
+/// Makes the storage that is missing of an array, or changes nothing (`make_storage` of `h5_layout`). Returns the address of the
+/// block, or of the first chunk.
 ///
 /// Where a chunk may be refused when others are made already, all is made on a copy of the image, which takes its place in the
 /// end. That the copy has room is asked before it is made, so that memory is the last that can be short.
@@ -84,7 +90,7 @@ fn make_all_or_none(
     image: &mut Image,
     messages: &Messages,
     missing: &Missing,
-) -> Result<(), InsertFault>
+) -> Result<u64, InsertFault>
     requires array { IsArrayApart image.old messages.now }
     requires missing { (slab : Slab)
         × IsMissing image.old.bytes (described_in image.old.bytes messages.now) slab missing.now }
@@ -92,6 +98,9 @@ fn make_all_or_none(
     ensures made { OnOk result ((slab : Slab)
         → IsMissing image.old.bytes (described_in image.old.bytes messages.now) slab missing.now
         → IsStorageMade image.old image.new messages.now slab missing.now) }
+    ensures placed { IfOk result (λ at. (slab : Slab)
+        → IsMissing image.old.bytes (described_in image.old.bytes messages.now) slab missing.now
+        → IsMadeAt image.new.bytes (described_in image.new.bytes messages.now) missing.now at) }
     ensures spends { OnOk result (length image.new.bytes ≤ length image.old.bytes
         + storage_bytes image.old.bytes (described_in image.old.bytes messages.now) missing.now) }
     ensures deep { result ≡ Err InsertFault.TreeTooDeep
@@ -111,7 +120,7 @@ fn make_all_or_none(
     let Ok(mut copy) = image.copy_of(alloc) else {
         return Err(InsertFault::Space(SpaceFault::NoMemory));
     };
-    make_storage(&mut copy, messages, missing)?;
+    let at = make_storage(&mut copy, messages, missing)?;
     *image = copy;
-    Ok(())
+    Ok(at)
 }

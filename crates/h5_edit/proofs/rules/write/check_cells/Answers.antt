@@ -1,30 +1,24 @@
-use Rattle.std.proofs.Common.{◌≡◌, ◌∙◌, ◌≤◌, None, Some, Option, ◌++◌, sym, ap, subst, arith}
-use Rattle.std.specs.Prelude.{MatchResult}
-use Rattle.h5_model.specs.Tree.Places.{cells}
-use Rattle.h5_model.specs.Views.Selection.{axes_of, selected_cells}
-use Rattle.h5_model.specs.Edits.Refusal.{first_holding}
-use Rattle.h5_model.specs.declared.edit_fault.EditFault.{EditFault}
+use Rattle.std.proofs.Common.{◌∙◌, arith}
 use Rattle.h5_shape.proofs.Products.{cells_le}
-use Rattle.h5_query.proofs.RuleLaws.{first-behind}
-use Rattle.h5_query.specs.Selected.{hyper_rules}
-use Rattle.h5_edit.specs.Refusals.Rules.{counted_rules, value_rules}
+use Rattle.h5_edit.proofs.FoundStanding.{values_decide, values_of_run}
+use Rattle.h5_edit.proofs.RuleLaws.Exits.{passed_on}
 use Rattle.h5_edit.proofs.rules.write.check_cells.Goals as goal
 
--- no rule of the lists holds, so those of the values decide
+pub one_run-requires : goal.one_run-requires
+one_run-requires c =
+    let small = c.dims.ensures.sound.small in
+    let le = cells_le c.args.array.now.sizes in
+    rw c.dims.ensures.sizes (record { small = omega (arith, small, le) })
+
+pub returns-in_err-check_values : goal.returns-in_err-check_values
+returns-in_err-check_values c =
+    let one = rw c.dims.ensures.sizes at c.in-Some.ensures.run in
+    passed_on _ _ c.from_residual-in_err-check_values.result _ c.from_residual-in_err-check_values.ensures.1
+    (values_decide c.args.array.now c.args.hyper.now c.args.values.now _ one ∙ c.in_err-check_values.ensures)
+
 pub returns : goal.returns
 returns c =
-    let sizes = c.args.array.now.sizes in
-    let fixed = c.args.array.now.fixed in
-    let hyper = c.args.hyper.now in
-    let values = c.args.values.now in
-    let slab = c.in_ok-slab.slab in
-    let behind : first_holding (hyper_rules sizes hyper) ≡ None
-    = subst (λ ns. first_holding (hyper_rules ns hyper) ≡ None) c.dims.ensures.sizes c.in_ok-slab.ensures.rules.0 in
-    let small = c.dims.ensures.sound.small in
-    let le = cells_le sizes in
-    let inside : selected_cells slab ≤ cells sizes = subst (λ ns. selected_cells slab ≤ cells ns) c.dims.ensures.sizes c.in_ok-slab.ensures.inside.few in
-    let all : selected_cells slab ≡ c.cells.result = omega (arith, c.cells.ensures, inside, le, small) in
-    let counted : selected_cells (axes_of hyper) ≡ c.cells.result = sym (ap selected_cells c.in_ok-slab.ensures.rules.1) ∙ all in
-    let left : first_holding (hyper_rules sizes hyper ++ value_rules fixed hyper values) ≡ first_holding (counted_rules fixed c.cells.result values)
-    = first-behind (hyper_rules sizes hyper) (value_rules fixed hyper values) behind ∙ ap (λ n. first_holding (counted_rules fixed n values)) counted in
-    subst (λ (found : Option EditFault). MatchResult c.check_values.result (λ _. found ≡ None) (λ e. found ≡ Some e)) (sym left) c.check_values.ensures
+    let one = rw c.dims.ensures.sizes at c.in-Some.ensures.run in (
+      values_decide c.args.array.now c.args.hyper.now c.args.values.now _ one ∙ c.in_ok-check_values.ensures,
+      values_of_run c.args.array.now c.args.hyper.now c.args.values.now _ one c.in_ok-check_values.ensures,
+    )

@@ -15,7 +15,7 @@ use Rattle.h5_open.proofs.LinkWritten.{fits_by, no_fault}
 use Rattle.h5_open.proofs.OpenedLaws.LentSlots.{lent_some, slot_lent, slot_read}
 use Rattle.h5_open.proofs.OpenedLaws.Sounds.{sound}
 use Rattle.h5_open.proofs.StorageCalls.{IsLacking, apart_here, deep_first_said, deep_said, full_said}
-use Rattle.h5_open.proofs.StorageCalls.{made_changed, made_opened, made_stored, missing_here, slot, superblock_there}
+use Rattle.h5_open.proofs.StorageCalls.{made_changed, made_opened, made_placed, made_stored, missing_here, slot, superblock_there}
 use Rattle.h5_open.proofs.opened.Opened.make_storage.Goals as goal
 use Rattle.h5_open.proofs.opened.Opened.make_storage.Goals.{After-write_end}
 
@@ -145,6 +145,14 @@ returns-clause-stored c =
     made_stored c.self.inside.image c.self.inside.index.objects.items c.self.inside.index.numbers c.self.invariant c.args.self.now c.self.view_is
     c.args.number c.args.missing.now c.requires.missing c.unwrap-object.result.now (at_end c)
     c.make_all_or_none.new.image c.write_end.new.image e.made e.spends (fits c) t.moves t.end t.length
+
+pub returns-clause-placed : goal.returns-clause-placed
+returns-clause-placed c =
+    let e = c.in_ok-make_all_or_none.ensures in
+    let t = c.write_end.ensures in
+    made_placed c.self.inside.image c.self.inside.index.objects.items c.self.inside.index.numbers c.self.invariant c.args.self.now c.self.view_is
+    c.args.number c.args.missing.now c.requires.missing c.unwrap-object.result.now (at_end c)
+    c.make_all_or_none.new.image c.write_end.new.image e.made e.spends (fits c) t.moves t.end t.length _ e.placed
 
 pub returns-clause-deep_first : goal.returns-clause-deep_first
 returns-clause-deep_first c =
