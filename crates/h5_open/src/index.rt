@@ -1,7 +1,7 @@
 //! What is kept of an opened image: its objects, and the table of their numbers (File Format Specification 3.0, section IV.A).
 
 ghost use Rattle.std.specs.Prelude.{◌≡◌, ℕ, ◌^◌, ◌<◌, [], ◌∷◌, ◌++◌, IfErr, MatchOption, OnErr, OnOk, Some, None, length, slice_get, slice_set};
-ghost use Rattle.std.specs.BTreeMap.{Updates};
+ghost use Rattle.std.specs.BTreeMap.{Updates, get};
 ghost use Rattle.std.specs.List.{Contains, IsDistinct};
 ghost use Rattle.std.specs.Ordering.{eq_by_cmp, nat_cmp};
 ghost use Rattle.h5_open.specs.declared.opened.object.OpenedObject.{OpenedObject};
@@ -31,7 +31,19 @@ pub(crate) fn known_number(index: &Index, header: u64) -> Option<u32>
         (λ n. (o : OpenedObject) × (slice_get index.now.objects.items n ≡ Some (Some o))
         × (o.messages.header ≡ header)) }
 {
-    index.numbers.get(&header).copied()
+    number_at(&index.numbers, header)
+}
+
+/// The number at this header, if it has one.
+fn number_at(numbers: &BTreeMap<u64, u32>, header: u64) -> Option<u32>
+    ensures { result ≡ get nat_cmp numbers.now header }
+{
+    // Objects mostly come in the order of their headers, so that few are sought among those that were read.
+    let (&last, _) = numbers.last_key_value()?;
+    if header > last {
+        return None;
+    }
+    numbers.get(&header).copied()
 }
 
 /// The object of this number. Takes no memory.
