@@ -70,7 +70,7 @@ impl Units {
         if !are_open(self.states.as_slice(), begin, end) {
             return false;
         }
-        fill(self.states.as_mut_slice(), begin, end, UnitState::Taken);
+        fill(self.states.as_mut_slice(), begin + 1, end, UnitState::Taken);
         self.states[begin] = first;
         true
     }
