@@ -91,7 +91,7 @@ fn stored_cells(
     };
     let fixed = array.fixed();
     let place = run.place;
-    match run_storage(alloc, image, array, &run)? {
+    match run_storage(alloc, image, array, run)? {
         RunStorage::Standing(at) => Ok(TargetCells::Standing(StandingCells { fixed, place, at })),
         RunStorage::Missing { missing, inner } => Ok(TargetCells::Missing(MissingRun {
             missing,
