@@ -74,6 +74,13 @@ module _ (image : List ℕ) (a : Described) (slab : Slab) where
       subst (IsMissingIn image a slab missing.Block) (sym is) refl,
     )
 
+  -- where there is no block, one selected cell is enough
+  pub block_lacking : a.layout ≡ InBlock None → (place : ℕ) → In place chosen → IsFound image a slab (Some missing.Block)
+  block_lacking is place at = (
+    lacks_is (InBlock None) is ∙ one_passes (λ (p : ℕ). true) place chosen at refl,
+    subst (IsMissingIn image a slab missing.Block) (sym is) refl,
+  )
+
   -- in chunks
   module _ (chunk : List ℕ) (root : Option ℕ) (is : a.layout ≡ InChunks chunk root) (new : ChunkOffsets) (are : AreMissing image a chunk slab new) where
     abbrev corner : ℕ → List ℕ

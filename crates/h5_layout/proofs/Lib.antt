@@ -8,6 +8,7 @@ pub mod DataLaws
 pub mod ArrayLaws
 pub mod BreachLaws
 pub mod RoomLaws
+pub mod RunStorageLaws
 pub mod CompactLaws
 pub mod Relaid
 pub mod CompactWritten

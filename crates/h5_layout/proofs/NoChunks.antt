@@ -1,9 +1,8 @@
 -- Where no chunk is stored none holds a cell of an extent.
-use Rattle.std.proofs.Common.{◌≡◌, ℕ, Bool, false, List, [], Option, None, refl, sym, ap, ◌∙◌, subst}
+use Rattle.std.proofs.Common.{◌≡◌, ℕ, Bool, List, [], Option, None, refl, sym, ap, ◌∙◌, subst}
 use Rattle.std.specs.Ordering.{nat_cmp}
 use Rattle.std.specs.Cmp.Lexicographic.{slice_cmp}
 use Rattle.std.specs.FinMap.{empty, entries, entries-from_sorted, get, get-empty, retain_keys}
-use Rattle.std.specs.Prelude.{is_some}
 use Rattle.h5_model.specs.Format.Reached.{Shape}
 use Rattle.h5_model.specs.Tree.Places.{is_inside}
 use Rattle.h5_model.proofs.MapSteps.{known-empty, retain_by_name}
@@ -20,6 +19,6 @@ none_held image shape root sizes none =
 
 -- nor is one stored at any offsets
 pub none_stored : (image : List ℕ) (shape : Shape) (root : Option ℕ) (offsets : List ℕ) → root ≡ None
-    → false ≡ is_some (get (chunks_below_root image shape root) offsets)
+    → None ≡ get (chunks_below_root image shape root) offsets
 none_stored image shape root offsets none =
-    subst (λ (r : Option ℕ). false ≡ is_some (get (chunks_below_root image shape r) offsets)) (sym none) (rw (get-empty (slice_cmp nat_cmp)) refl)
+    subst (λ (r : Option ℕ). None ≡ get (chunks_below_root image shape r) offsets) (sym none) (sym (get-empty (slice_cmp nat_cmp) offsets))

@@ -19,6 +19,7 @@ pub mod Missing
 pub mod NewChunks
 pub mod Pieces
 pub mod Runs
+pub mod RunStorage
 pub mod Spans
 pub mod Standing
 pub mod Stored

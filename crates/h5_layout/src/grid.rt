@@ -448,7 +448,7 @@ pub(crate) fn bytes_of(chunk: &[u64], size: u64) -> u64
 
 /// Writes the first index of the chunk that has the cell at a place. Returns the cell's place in the chunk, and how many cells
 /// from it on stay in its row of the chunk and of the array.
-fn locate(sizes: &[u64], chunk: &[u64], place: u64, corner: &mut [u64]) -> CellRun
+pub(crate) fn locate(sizes: &[u64], chunk: &[u64], place: u64, corner: &mut [u64]) -> CellRun
     requires rank { length chunk.now ≡ length sizes.now }
     requires room { length corner.old ≡ length sizes.now }
     requires sizes { AreChunkSizes chunk.now }

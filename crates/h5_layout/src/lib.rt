@@ -2,7 +2,7 @@
 //! cells (File Format Specification 3.0, section IV.A.2).
 //!
 //! Storage that is missing is made where an array stands, and so are other sizes given. Only `missing_chunks`,
-//! `missing_of`, `outside_of`, `make_storage` and the calls of `HeldChunks` take memory. Places and lengths of data are
+//! `missing_of`, `run_storage`, `outside_of`, `make_storage` and the calls of `HeldChunks` take memory. Places and lengths of data are
 //! in bytes, sizes of arrays and chunks in cells.
 #![tactic(auto)]
 
@@ -35,10 +35,11 @@ mod resized;
 mod storage;
 mod stored;
 mod stored_extent;
+mod stored_run;
 mod trimmed;
 mod values;
 
-pub use address::{StoredRun, fill_stored, stored_from, write_stored};
+pub use address::{StoredRun, fill_stored, write_stored};
 pub use array::ArrayRef;
 pub use buffer::Buffer;
 pub use extent::{lacks_maxima, set_sizes, sizes_of};
@@ -57,5 +58,6 @@ pub use resize::resize_array;
 pub use storage::{check_storage, is_refused_first, make_storage};
 pub use stored::StoredArray;
 pub use stored_extent::{ArrayExtent, known_extent};
+pub use stored_run::{RunStorage, run_storage};
 pub use trimmed::{Outside, outside_of, trim};
 pub use values::Values;

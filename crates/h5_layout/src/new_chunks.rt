@@ -1,7 +1,7 @@
 //! The chunks of an array that a selection meets and that are not stored (File Format Specification 3.0, sections III.A.1
 //! and IV.A.2.i).
 
-ghost use Rattle.std.specs.Prelude.{◌≡◌, ◌<◌, ◌≤◌, ◌^◌, ℕ, List, Option, IfOk, is_some, length, map};
+ghost use Rattle.std.specs.Prelude.{◌≡◌, ◌+◌, ◌<◌, ◌≤◌, ◌^◌, ℕ, List, Option, IfOk, IfSome, is_some, length, map};
 ghost use Rattle.std.specs.List.{AllByRecursion};
 ghost use Rattle.std.specs.FinMap.{get};
 ghost use Rattle.std.specs.Option.{ForSome};
@@ -90,9 +90,24 @@ fn is_stored(image: &Image, shape: &ChunkShape<'_>, root: Option<u64>, offsets: 
     requires rank { length offsets.now ≡ length shape.now.sizes }
     ensures { result ≡ is_some (get (chunks_below_root image.now.bytes shape.now root) offsets.now) }
 {
+    stored_at(image, shape, root, offsets).is_some()
+}
+
+/// The address of the chunk at these offsets below this root, where it is stored.
+pub(crate) fn stored_at(
+    image: &Image,
+    shape: &ChunkShape<'_>,
+    root: Option<u64>,
+    offsets: &[u64],
+) -> Option<u64>
+    requires chunks { ForSome root (λ root. AreChunksRead image.now.bytes shape.now root) }
+    requires rank { length offsets.now ≡ length shape.now.sizes }
+    ensures at { result ≡ get (chunks_below_root image.now.bytes shape.now root) offsets.now }
+    ensures inside { IfSome result (λ at. at + shape.now.bytes ≤ length image.now.bytes) }
+{
     match root {
-        Some(root) => chunk_at(image, shape, root, offsets).is_some(),
-        None => false,
+        Some(root) => chunk_at(image, shape, root, offsets),
+        None => None,
     }
 }
 
