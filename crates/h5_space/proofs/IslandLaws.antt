@@ -1,6 +1,6 @@
 -- Which bytes the blocks of a map hold, after an edit of the map and beside a block of its own.
 use Rattle.std.proofs.Common.{◌≡◌, ◌≢◌, ℕ, suc, ◌+◌, ◌-◌, ◌<◌, ◌≤◌, ◌⊎◌, inl, inr, false, true≢false, cond, Option, Some, None, List, [], ◌∷◌, unwrap_or, is_some, IsSome, refl, sym, ap, ◌∙◌, arith}
-use Rattle.std.specs.BTreeMap.{BTreeMap, get, insert_entry, is_at, IsOrdered, Updates, UpdatesBy}
+use Rattle.std.specs.BTreeMap.{BTreeMap, get, insert_entry, is_at, IsOrdered, Updates}
 use Rattle.std.specs.Cmp.{nat_cmp_total, eq_by_cmp_equiv}
 use Rattle.std.specs.List.{AllByRecursion, slice_get}
 use Rattle.std.specs.List.Sorted.{IsStrictlySortedBy}
@@ -100,14 +100,6 @@ module _ (held : BTreeMap ℕ ℕ) (end : ℕ) (s : IsIslands held end) where
       let all = s.once last in
       elim (cases_lt last end) [ inl low ↦ omega arith | inr high ↦ absurd (let none = holds_past last 0 end (omega (arith, high)) in omega arith) ]
 
-  -- and so does the one at a place, where there is one
-  pub inside_end_at : (k : ℕ) → k ≤ end → k + length_at held k ≤ end
-  inside_end_at k low = by (get nat_cmp held k) refl
-    where
-      by : (o : Option ℕ) → get nat_cmp held k ≡ o → k + unwrap_or o 0 ≤ end
-      by None is = omega (arith, low)
-      by (Some n) is = inside_end k n is
-
   -- a block that begins before the end of these bytes and ends behind their beginning has one of them
   pub shares : (at len k n : ℕ) → 0 < len → get nat_cmp held k ≡ Some n → k < at + len → at < k + n → Shares (blocks_of held.entries) at len
   shares at len k n filled is low high =
@@ -202,90 +194,55 @@ all_end held end s = go held.entries (λ i k n is. inside_end held end s k n (bt
   go [] each = tt
   go (e ∷ es) each = (each 0 e.0 e.1 refl, go es (λ i k n is. each (suc i) k n is))
 
--- ---- a block that takes in its neighbours
+-- ---- a block put in, alone or in the place of the one that it makes longer
 
-module _ (held : BTreeMap ℕ ℕ) (end at len after : ℕ) (next : after ≡ length_at held (at + len)) (p : ℕ) where
-  -- the one behind it
-  pub joined_behind : IsIslands held end → 0 < len → ((q : ℕ) → cover q (blocks_of held.entries) + holds q at len ≤ 1)
-      → holds p at (len + after) ≡ holds p at (length_at held at) + holds p at len + holds p (at + len) (length_at held (at + len))
-  joined_behind s filled free =
-      let none : holds p at (length_at held at) ≡ 0 = rw (none_at held end s at len filled free) (holds_none p at) in
-      let both = holds_join p at len after in
-      let same = ap (holds p (at + len)) next in
-      omega (arith, none, both, same)
+-- where none begins at its place
+pub joined_alone : (held : BTreeMap ℕ ℕ) (end : ℕ) → IsIslands held end → (at len : ℕ) → 0 < len → ((q : ℕ) → cover q (blocks_of held.entries) + holds q at len ≤ 1)
+    → (p : ℕ) → holds p at len ≡ holds p at (length_at held at) + holds p at len
+joined_alone held end s at len filled free p =
+    let none : holds p at (length_at held at) ≡ 0 = rw (none_at held end s at len filled free) (holds_none p at) in
+    omega (arith, none)
 
-  -- and the one before it
-  pub joined_before : (place n : ℕ) → get nat_cmp held place ≡ Some n → place + n ≡ at
-      → holds p place (n + (len + after)) ≡ holds p place (length_at held place) + holds p at len + holds p (at + len) (length_at held (at + len))
-  joined_before place n is ends =
-      let there : length_at held place ≡ n = ap (λ (o : Option ℕ). unwrap_or o 0) is in
-      let first = ap (holds p place) there in
-      let all = holds_join p place n (len + after) in
-      let behind = ap (λ q. holds p q (len + after)) ends in
-      let both = holds_join p at len after in
-      let same = ap (holds p (at + len)) next in
-      omega (arith, first, all, behind, both, same)
+-- where one ends at its place
+pub joined_before : (held : BTreeMap ℕ ℕ) (place n at len : ℕ) → get nat_cmp held place ≡ Some n → place + n ≡ at
+    → (p : ℕ) → holds p place (n + len) ≡ holds p place (length_at held place) + holds p at len
+joined_before held place n at len is ends p =
+    let there : length_at held place ≡ n = ap (λ (o : Option ℕ). unwrap_or o 0) is in
+    let first = ap (holds p place) there in
+    let all = holds_join p place n len in
+    let behind = ap (λ q. holds p q len) ends in
+    omega (arith, first, all, behind)
 
-module _ (old mid : BTreeMap ℕ ℕ) (end place size at len : ℕ) (s : IsIslands old end)
-    (put : mid.entries ≡ insert_entry nat_cmp old.entries place size) (puts : Updates nat_cmp old mid place (Some size))
-    (filled : 0 < len) (starts : place ≤ at) (ends : place + size ≡ at + len + length_at old (at + len))
-    (joined : (p : ℕ) → holds p place size ≡ holds p place (length_at old place) + holds p at len + holds p (at + len) (length_at old (at + len))) where
-  -- the block behind counts twice until it is taken out
-  grown : (p : ℕ) → cover p (blocks_of mid.entries) ≡ cover p (blocks_of old.entries) + holds p at len + holds p (at + len) (length_at old (at + len))
-  grown p =
-      let first : cover p (blocks_of mid.entries) + holds p place (length_at old place) ≡ cover p (blocks_of old.entries) + holds p place size
+module _ (old new : BTreeMap ℕ ℕ) (end place size at len : ℕ) (s : IsIslands old end)
+    (put : new.entries ≡ insert_entry nat_cmp old.entries place size) (puts : Updates nat_cmp old new place (Some size))
+    (joined : (p : ℕ) → holds p place size ≡ holds p place (length_at old place) + holds p at len) where
+  pub claimed : (p : ℕ) → cover p (blocks_of new.entries) ≡ cover p (blocks_of old.entries) + holds p at len
+  claimed p =
+      let first : cover p (blocks_of new.entries) + holds p place (length_at old place) ≡ cover p (blocks_of old.entries) + holds p place size
       = rw put (cover-insert_entry p old.entries place size s.ordered) in
       omega (arith, first, joined p)
 
-  some : (k n : ℕ) → get nat_cmp mid k ≡ Some n → 0 < n
-  some k n is = elim (cases_eq k place) [
-    | inl same ↦
-        let mine : unwrap_or (get nat_cmp mid k) 0 ≡ size = rw same (ap (λ (o : Option ℕ). unwrap_or o 0) puts.1) in
-        let its : unwrap_or (get nat_cmp mid k) 0 ≡ n = ap (λ (o : Option ℕ). unwrap_or o 0) is in
-        omega (arith, filled, starts, ends)
-    | inr apart ↦ s.filled k n (sym (puts.2 k (grind (arith, nat_tests, apart))) ∙ is)
-  ]
-
-  -- where none stands behind
-  pub claimed_last : length_at old (at + len) ≡ 0 → (p : ℕ) → cover p (blocks_of mid.entries) ≡ cover p (blocks_of old.entries) + holds p at len
-  claimed_last none p =
-      let nothing : holds p (at + len) (length_at old (at + len)) ≡ 0 = rw none (holds_none p (at + len)) in
-      omega (arith, grown p, nothing)
-
-  module _ (new : BTreeMap ℕ ℕ) (taken : new.entries ≡ remove_entry (is_at (nat_cmp (at + len))) mid.entries) (takes : UpdatesBy nat_cmp (nat_cmp (at + len)) mid new None) where
-    pub claimed : (p : ℕ) → cover p (blocks_of new.entries) ≡ cover p (blocks_of old.entries) + holds p at len
-    claimed p =
-        let other : is_at (nat_cmp place) (at + len) ≡ false = grind (arith, nat_tests, filled, starts) in
-        let stays : length_at mid (at + len) ≡ length_at old (at + len) = ap (λ (o : Option ℕ). unwrap_or o 0) (puts.2 (at + len) other) in
-        let gone : cover p (blocks_of new.entries) + holds p (at + len) (length_at mid (at + len)) ≡ cover p (blocks_of mid.entries)
-        = rw taken (cover-remove_entry p mid.entries (at + len)) in
-        let same = ap (holds p (at + len)) stays in
-        omega (arith, grown p, gone, same)
-
-    some_left : (k n : ℕ) → get nat_cmp new k ≡ Some n → 0 < n
-    some_left k n is = elim (cases_eq k (at + len)) [
+  module _ (filled : 0 < len) (starts : place ≤ at) (ends : place + size ≡ at + len)
+      (inside : at + len ≤ end) (free : (p : ℕ) → cover p (blocks_of old.entries) + holds p at len ≤ 1) where
+    some : (k n : ℕ) → get nat_cmp new k ≡ Some n → 0 < n
+    some k n is = elim (cases_eq k place) [
       | inl same ↦
-          let there : get nat_cmp new (at + len) ≡ Some n = rw same at is in
-          absurd (true≢false (sym (ap is_some there) ∙ ap is_some takes.1))
-      | inr differ ↦ some k n (sym (takes.2 k (grind (arith, nat_tests, differ))) ∙ is)
+          let mine : unwrap_or (get nat_cmp new k) 0 ≡ size = rw same (ap (λ (o : Option ℕ). unwrap_or o 0) puts.1) in
+          let its : unwrap_or (get nat_cmp new k) 0 ≡ n = ap (λ (o : Option ℕ). unwrap_or o 0) is in
+          omega (arith, filled, starts, ends)
+      | inr apart ↦ s.filled k n (sym (puts.2 k (grind (arith, nat_tests, apart))) ∙ is)
     ]
 
-  module _ (inside : at + len ≤ end) (free : (p : ℕ) → cover p (blocks_of old.entries) + holds p at len ≤ 1) where
-    once : (new : BTreeMap ℕ ℕ) → ((p : ℕ) → cover p (blocks_of new.entries) ≡ cover p (blocks_of old.entries) + holds p at len)
-        → (p : ℕ) → cover p (blocks_of new.entries) ≤ holds p 0 end
-    once new now p =
-        let all = now p in
+    once : (p : ℕ) → cover p (blocks_of new.entries) ≤ holds p 0 end
+    once p =
+        let all = claimed p in
         elim (cases_lt p end) [
           | inl low ↦ let one = holds_in p 0 end (omega arith) (omega arith) in omega (arith, free p)
           | inr high ↦ let none = holds_past p at len (omega arith) in omega (arith, s.once p)
         ]
 
-    pub islands_last : IsOrdered nat_cmp mid → length_at old (at + len) ≡ 0 → IsIslands mid end
-    islands_last ordered none = record { ordered = ordered; filled = some; once = once mid (claimed_last none) }
-
-    pub islands : (new : BTreeMap ℕ ℕ) → IsOrdered nat_cmp new → new.entries ≡ remove_entry (is_at (nat_cmp (at + len))) mid.entries
-        → UpdatesBy nat_cmp (nat_cmp (at + len)) mid new None → IsIslands new end
-    islands new ordered taken takes = record { ordered = ordered; filled = some_left new taken takes; once = once new (claimed new taken takes) }
+    pub islands : IsOrdered nat_cmp new → IsIslands new end
+    islands ordered = record { ordered = ordered; filled = some; once = once }
 
 -- ---- the last block made longer
 
@@ -294,23 +251,10 @@ module _ (old new : BTreeMap ℕ ℕ) (end : ℕ) (last : Block) (at len : ℕ) 
   pub apart_behind : (p : ℕ) → cover p (blocks_of old.entries) + holds p at len ≤ 1
   apart_behind = apart_from_last old end s at len last.at last.len inside is.found (omega (arith, ends)) (λ j low some. is.greatest j some)
 
-  none_behind : length_at old (at + len) ≡ 0
-  none_behind = by (get nat_cmp old (at + len)) refl
-    where
-      by : (o : Option ℕ) → get nat_cmp old (at + len) ≡ o → unwrap_or o 0 ≡ 0
-      by None there = refl
-      by (Some n) there = absurd (let low = is.greatest (at + len) (ap is_some there) in omega (arith, low, filled, ends))
-
-  joined_last : (p : ℕ) → holds p last.at (last.len + len) ≡ holds p last.at (length_at old last.at) + holds p at len + holds p (at + len) (length_at old (at + len))
-  joined_last p =
-      let all = joined_before old end at len 0 (sym none_behind) p last.at last.len is.found ends in
-      let same : holds p last.at (last.len + len) ≡ holds p last.at (last.len + (len + 0)) = ap (holds p last.at) (omega arith) in
-      omega (arith, all, same)
-
   module _ (put : new.entries ≡ insert_entry nat_cmp old.entries last.at (last.len + len)) (puts : Updates nat_cmp old new last.at (Some (last.len + len))) where
     pub claimed_behind : (p : ℕ) → cover p (blocks_of new.entries) ≡ cover p (blocks_of old.entries) + holds p at len
-    claimed_behind = claimed_last old new end last.at (last.len + len) at len s put puts filled (omega (arith, ends)) (omega (arith, ends, none_behind)) joined_last none_behind
+    claimed_behind = claimed old new end last.at (last.len + len) at len s put puts (joined_before old last.at last.len at len is.found ends)
 
     pub islands_behind : IsOrdered nat_cmp new → IsIslands new end
-    islands_behind ordered = islands_last old new end last.at (last.len + len) at len s put puts filled (omega (arith, ends)) (omega (arith, ends, none_behind)) joined_last
-        inside apart_behind ordered none_behind
+    islands_behind ordered = islands old new end last.at (last.len + len) at len s put puts (joined_before old last.at last.len at len is.found ends)
+        filled (omega (arith, ends)) (omega (arith, ends)) inside apart_behind ordered

@@ -6,7 +6,6 @@ pub mod WholeLaws
 pub mod WalkLaws
 pub mod MovesLaws
 pub mod IslandLaws
-pub mod NeighbourLaws
 pub mod Unheld
 pub mod Signed
 pub mod Steps

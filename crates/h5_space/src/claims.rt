@@ -25,8 +25,8 @@ pub enum ClaimFault {
 
 /// The blocks that were claimed, all of them below an end. No two of them share a byte.
 ///
-/// Only which bytes they hold counts, so neighbours are kept as one block. A claim takes time logarithmic in their
-/// number, in whatever order they come.
+/// Only which bytes they hold counts, so a claimed block grows where another one is claimed at its end. A claim takes
+/// time logarithmic in their number, in whatever order they come.
 #[derive(Drop)]
 pub struct Claims {
     end: u64,
@@ -100,14 +100,11 @@ impl Claims {
         if self.held.insert(island.at, island.len).is_err() {
             return Err(ClaimFault::NoMemory);
         }
-        let past = at + len;
-        if past < island.at + island.len {
-            self.held.remove(&past);
-        }
         Ok(())
     }
 
-    /// In how many blocks the claimed bytes stand, where neighbours count as one. Takes no memory.
+    /// In how many blocks the claimed bytes stand, where one that was claimed at the end of another counts as one with
+    /// it. Takes no memory.
     pub fn len(&self) -> u64
         ensures count { result ≡ length self.now.held }
         ensures small { result < 2 ^ 63 }
@@ -135,8 +132,8 @@ impl Claims {
     }
 }
 
-/// The block that these bytes make with those that end where they begin and begin where they end, where there are
-/// such; `None` where one of the bytes is held already.
+/// The block that these bytes make with the one that ends where they begin, where there is such; `None` where one of
+/// the bytes is held already.
 fn island_of(held: &BTreeMap<u64, u64>, last: Option<Block>, at: u64, len: u64) -> Option<Block>
     requires last { IfSome last (IsLastBlock held.now) }
     requires filled { 0 < len }
@@ -144,18 +141,12 @@ fn island_of(held: &BTreeMap<u64, u64>, last: Option<Block>, at: u64, len: u64) 
     ensures shared { IfNone result (Shares (blocks_of held.now.entries) at len) }
     ensures apart { IfSome result (λ b. (p : ℕ)
         → cover p (blocks_of held.now.entries) + holds p at len ≤ 1) }
-    ensures ends { IfSome result (λ b. (b.at ≤ at)
-        × (b.at + b.len ≡ at + len + length_at held.now (at + len))) }
+    ensures ends { IfSome result (λ b. (b.at ≤ at) × (b.at + b.len ≡ at + len)) }
     ensures joined { IfSome result (λ b. (p : ℕ)
-        → holds p b.at b.len ≡ holds p b.at (length_at held.now b.at) + holds p at len
-        + holds p (at + len) (length_at held.now (at + len))) }
+        → holds p b.at b.len ≡ holds p b.at (length_at held.now b.at) + holds p at len) }
 {
-    let (before, after) = neighbours(held, last, at + len);
-    let alone = Block {
-        at,
-        len: len + after,
-    };
-    let Some(before) = before else {
+    let alone = Block { at, len };
+    let Some(before) = block_before(held, last, at + len) else {
         return Some(alone);
     };
     let end = before.at + before.len;
@@ -164,54 +155,30 @@ fn island_of(held: &BTreeMap<u64, u64>, last: Option<Block>, at: u64, len: u64) 
     } else if end == at {
         Some(Block {
             at: before.at,
-            len: before.len + alone.len,
+            len: before.len + len,
         })
     } else {
         Some(alone)
     }
 }
 
-/// The last block that begins before `past`, and the length of the one that begins there, 0 where none does.
-fn neighbours(held: &BTreeMap<u64, u64>, last: Option<Block>, past: u64) -> (Option<Block>, u64)
+/// The last block that begins before `past`.
+fn block_before(held: &BTreeMap<u64, u64>, last: Option<Block>, past: u64) -> Option<Block>
     requires last { IfSome last (IsLastBlock held.now) }
-    ensures found { IfSome result.0
+    ensures found { IfSome result
         (λ b. (b.at < past) × (get nat_cmp held.now b.at ≡ Some b.len)) }
-    ensures last { IfSome result.0
+    ensures last { IfSome result
         (λ b. (k : ℕ) → k < past → IsSome (get nat_cmp held.now k) → k ≤ b.at) }
-    ensures none { IfNone result.0 ((k : ℕ) → k < past → get nat_cmp held.now k ≡ None) }
-    ensures after { result.1 ≡ length_at held.now past }
+    ensures none { IfNone result ((k : ℕ) → k < past → get nat_cmp held.now k ≡ None) }
 {
-    match last {
-        // No block begins behind the last one.
-        Some(last) if last.at < past => (Some(last), 0),
-        _ => neighbours_among(held, past),
+    // No block begins behind the last one.
+    if let Some(last) = last
+        && last.at < past
+    {
+        return Some(last);
     }
-}
-
-/// The same, looked for among all blocks.
-fn neighbours_among(held: &BTreeMap<u64, u64>, past: u64) -> (Option<Block>, u64)
-    ensures found { IfSome result.0
-        (λ b. (b.at < past) × (get nat_cmp held.now b.at ≡ Some b.len)) }
-    ensures last { IfSome result.0
-        (λ b. (k : ℕ) → k < past → IsSome (get nat_cmp held.now k) → k ≤ b.at) }
-    ensures none { IfNone result.0 ((k : ℕ) → k < past → get nat_cmp held.now k ≡ None) }
-    ensures after { result.1 ≡ length_at held.now past }
-{
-    let mut blocks = held.range(..=past);
-    let Some((&last, &last_len)) = blocks.next_back() else {
-        return (None, 0);
-    };
-    if last < past {
-        let before = Block {
-            at: last,
-            len: last_len,
-        };
-        return (Some(before), 0);
-    }
-    let Some((&at, &len)) = blocks.next_back() else {
-        return (None, last_len);
-    };
-    (Some(Block { at, len }), last_len)
+    let (&at, &len) = held.range(..past).next_back()?;
+    Some(Block { at, len })
 }
 
 /// The last block; `None` where nothing is held.

@@ -3,10 +3,10 @@ use Rattle.std.specs.Result.{OnOk}
 use Rattle.h5_bytes.specs.Blocks.{holds, cover}
 use Rattle.h5_bytes.proofs.BlockLaws.{holds_none, holds-le}
 use Rattle.h5_space.specs.Claimed.{Claimed}
-use Rattle.h5_space.specs.Islands.{blocks_of, length_at}
-use Rattle.h5_space.proofs.IslandLaws.{inside_end, inside_end_at, apart_behind, claimed_behind, islands_behind, claimed, claimed_last, islands, islands_last}
+use Rattle.h5_space.specs.Islands.{blocks_of}
+use Rattle.h5_space.proofs.IslandLaws.{inside_end, apart_behind, claimed_behind, islands_behind, claimed, islands}
 use Rattle.h5_space.proofs.claims.Claims.claim.Goals as goal
-use Rattle.h5_space.proofs.claims.Claims.claim.Goals.{After-set_last, After-remove, Else-past-island}
+use Rattle.h5_space.proofs.claims.Claims.claim.Goals.{After-set_last, After-insert}
 
 on_ok : {T E P : Type 0} (r : Result T E) → is_ok r ≡ true → OnOk r P → P
 on_ok (Ok v) is fact = fact
@@ -72,51 +72,20 @@ invariant_of-self c = islands_behind c.self.inside.held c.set_last.new.held c.se
     (omega arith) (omega arith) c.if-last-at.true (c.set_last.ensures.entries c.in-Some.last c.in-Some.ensures.last) (c.set_last.ensures.updates c.in-Some.last c.in-Some.ensures.last)
     (c.set_last.ensures.ordered c.in-Some.last c.in-Some.ensures.last)
 
-pub overflow_add-island : goal.overflow_add-island
-overflow_add-island c =
-    let low = inside_end_at c.self.inside.held c.self.inside.end c.self.invariant (c.args.at + c.args.len) (omega arith) in
-    omega (arith, low, c.in-Some-island_of.ensures.ends)
+-- where a block is put in
+now : (c : After-insert) → is_ok c.insert.result ≡ true → (p : ℕ) → cover p (blocks_of c.insert.new.self.entries) ≡ cover p (blocks_of c.self.inside.held.entries) + holds p c.args.at c.args.len
+now c ok = claimed c.self.inside.held c.insert.new.self c.self.inside.end c.in-Some-island_of.island.at c.in-Some-island_of.island.len c.args.at c.args.len
+    c.self.invariant (on_ok c.insert.result ok c.insert.ensures.entries) (on_ok c.insert.result ok c.insert.ensures.updates) c.in-Some-island_of.ensures.joined
 
--- where a block stands behind
-now : (c : After-remove) → (p : ℕ) → cover p (blocks_of c.remove.new.self.entries) ≡ cover p (blocks_of c.self.inside.held.entries) + holds p c.args.at c.args.len
-now c =
-    let ok = c.is_err.ensures.negation ∙ ap not c.if-is_err.false in
-    claimed c.self.inside.held c.insert.new.self c.self.inside.end c.in-Some-island_of.island.at c.in-Some-island_of.island.len c.args.at c.args.len
-    c.self.invariant (on_ok c.insert.result ok c.insert.ensures.entries) (on_ok c.insert.result ok c.insert.ensures.updates) (omega arith) c.in-Some-island_of.ensures.ends.0 c.in-Some-island_of.ensures.ends.1 c.in-Some-island_of.ensures.joined
-    c.remove.new.self c.remove.ensures.entries c.remove.ensures.updates
+pub returns-2-clause-claimed : goal.returns-2-clause-claimed
+returns-2-clause-claimed c p = rw (← c.self.view_is) (now (goal.at.returns-2-clause-claimed c).After-insert (c.is_err.ensures.negation ∙ ap not c.if-is_err.false) p)
 
-pub returns-then-past-island-clause-claimed : goal.returns-then-past-island-clause-claimed
-returns-then-past-island-clause-claimed c p = rw (← c.self.view_is) (now (goal.at.returns-then-past-island-clause-claimed c).After-remove p)
+pub returns-2-clause-separate : goal.returns-2-clause-separate
+returns-2-clause-separate c p = rw (now (goal.at.returns-2-clause-separate c).After-insert (c.is_err.ensures.negation ∙ ap not c.if-is_err.false) p) (c.in-Some-island_of.ensures.apart p)
 
-pub returns-then-past-island-clause-separate : goal.returns-then-past-island-clause-separate
-returns-then-past-island-clause-separate c p = rw (now (goal.at.returns-then-past-island-clause-separate c).After-remove p) (c.in-Some-island_of.ensures.apart p)
-
-pub invariant_of-self-then-past-island : goal.invariant_of-self-then-past-island
-invariant_of-self-then-past-island c =
+pub invariant_of-self-2 : goal.invariant_of-self-2
+invariant_of-self-2 c =
     let ok = c.is_err.ensures.negation ∙ ap not c.if-is_err.false in
     islands c.self.inside.held c.insert.new.self c.self.inside.end c.in-Some-island_of.island.at c.in-Some-island_of.island.len c.args.at c.args.len
-    c.self.invariant (on_ok c.insert.result ok c.insert.ensures.entries) (on_ok c.insert.result ok c.insert.ensures.updates) (omega arith) c.in-Some-island_of.ensures.ends.0 c.in-Some-island_of.ensures.ends.1 c.in-Some-island_of.ensures.joined
-    (omega arith) c.in-Some-island_of.ensures.apart c.remove.new.self c.remove.ensures.ordered c.remove.ensures.entries c.remove.ensures.updates
-
--- where none does
-none : (c : Else-past-island) → length_at c.self.inside.held (c.args.at + c.args.len) ≡ 0
-none c = omega (arith, c.in-Some-island_of.ensures.ends.1, c.if-past-island.false)
-
-now_last : (c : Else-past-island) → (p : ℕ) → cover p (blocks_of c.insert.new.self.entries) ≡ cover p (blocks_of c.self.inside.held.entries) + holds p c.args.at c.args.len
-now_last c =
-    let ok = c.is_err.ensures.negation ∙ ap not c.if-is_err.false in
-    claimed_last c.self.inside.held c.insert.new.self c.self.inside.end c.in-Some-island_of.island.at c.in-Some-island_of.island.len c.args.at c.args.len
-    c.self.invariant (on_ok c.insert.result ok c.insert.ensures.entries) (on_ok c.insert.result ok c.insert.ensures.updates) (omega arith) c.in-Some-island_of.ensures.ends.0 c.in-Some-island_of.ensures.ends.1 c.in-Some-island_of.ensures.joined (none c)
-
-pub returns-else-past-island-clause-claimed : goal.returns-else-past-island-clause-claimed
-returns-else-past-island-clause-claimed c p = rw (← c.self.view_is) (now_last (goal.at.returns-else-past-island-clause-claimed c).Else-past-island p)
-
-pub returns-else-past-island-clause-separate : goal.returns-else-past-island-clause-separate
-returns-else-past-island-clause-separate c p = rw (now_last (goal.at.returns-else-past-island-clause-separate c).Else-past-island p) (c.in-Some-island_of.ensures.apart p)
-
-pub invariant_of-self-else-past-island : goal.invariant_of-self-else-past-island
-invariant_of-self-else-past-island c =
-    let ok = c.is_err.ensures.negation ∙ ap not c.if-is_err.false in
-    islands_last c.self.inside.held c.insert.new.self c.self.inside.end c.in-Some-island_of.island.at c.in-Some-island_of.island.len c.args.at c.args.len
-    c.self.invariant (on_ok c.insert.result ok c.insert.ensures.entries) (on_ok c.insert.result ok c.insert.ensures.updates) (omega arith) c.in-Some-island_of.ensures.ends.0 c.in-Some-island_of.ensures.ends.1 c.in-Some-island_of.ensures.joined
-    (omega arith) c.in-Some-island_of.ensures.apart c.insert.ensures.ordered (none (goal.at.invariant_of-self-else-past-island c).Else-past-island)
+    c.self.invariant (on_ok c.insert.result ok c.insert.ensures.entries) (on_ok c.insert.result ok c.insert.ensures.updates) c.in-Some-island_of.ensures.joined
+    (omega arith) c.in-Some-island_of.ensures.ends.0 c.in-Some-island_of.ensures.ends.1 (omega arith) c.in-Some-island_of.ensures.apart c.insert.ensures.ordered
