@@ -1,5 +1,5 @@
 -- What is missing of the storage of selected cells, by the layout of their array.
-use Rattle.std.proofs.Common.{◌≡◌, inl, inr, ℕ, suc, ◌||◌, List, [], ◌∷◌, Bool, true, false, not, Option, Some, None, length, refl, sym, ap, ◌∙◌, subst, arith}
+use Rattle.std.proofs.Common.{◌≡◌, inl, inr, ℕ, zero, suc, ◌<◌, ◌||◌, List, [], ◌∷◌, Bool, true, false, not, Option, Some, None, length, refl, sym, ap, ◌∙◌, subst, arith}
 use Rattle.std.proofs.lemmas.Bool.Decides.{nat_tests}
 use Rattle.std.specs.Prelude.{◌==◌, if◌then◌else◌, is_some}
 use Rattle.std.specs.FinMap.{get}
@@ -12,10 +12,11 @@ use Rattle.h5_model.specs.Tree.Grid.{corner_of}
 use Rattle.h5_model.specs.Tree.Places.{IsInside, index_of, place_of}
 use Rattle.h5_model.specs.Views.Selection.{Slab, selected_cells, selection_of}
 use Rattle.h5_model.proofs.PlaceLaws.{index-place}
+use Rattle.h5_layout.specs.ArrayChunks.{ArrayChunks, IsInChunksOf}
 use Rattle.h5_layout.specs.Data.{stored_chunks}
 use Rattle.h5_layout.specs.Described.{Described}
 use Rattle.h5_layout.specs.HeldChunks.{IsChunkMet}
-use Rattle.h5_layout.specs.Lacking.{IsFound, IsMissingIn, lacks_cells}
+use Rattle.h5_layout.specs.Lacking.{IsFound, IsMissing, IsMissingIn, lacks_cells}
 use Rattle.h5_layout.specs.NewChunks.{AreMissing}
 use Rattle.h5_chunks.specs.Lists.{ChunkOffsets}
 use Rattle.h5_layout.specs.Standing.{is_stored_in}
@@ -104,16 +105,35 @@ module _ (image : List ℕ) (a : Described) (slab : Slab) where
         one_passes (λ p. not (is_some (get chunks (corner p)))) place chosen (selected_place a.sizes slab index inside of.0.1)
         (ap (λ (o : List ℕ). not (is_some (get chunks o))) here ∙ ap (λ (found : Option ℕ). not (is_some found)) of.1)
 
-    pub chunks_found : IsFound image a slab (if length new.offsets == 0 then None else Some (missing.Chunks new))
-    chunks_found = by_offsets new.offsets refl where
-      by_offsets : (offsets : List (List ℕ)) → new.offsets ≡ offsets → IsFound image a slab (if length new.offsets == 0 then None else Some (missing.Chunks new))
-      by_offsets [] none =
-          subst (λ (b : Bool). IsFound image a slab (if b then None else Some (missing.Chunks new))) (sym (ap (λ (os : List (List ℕ)). length os == 0) none))
-          (lacks_is (InChunks chunk root) is ∙ all_fail (λ p. not (is_some (get chunks (corner p)))) chosen (found_each none))
-      by_offsets (offsets ∷ others) some =
-          let past : (suc (length others) == 0) ≡ false = grind (arith, nat_tests) in
-          subst (λ (b : Bool). IsFound image a slab (if b then None else Some (missing.Chunks new)))
-          (sym (ap (λ (os : List (List ℕ)). length os == 0) some ∙ past)) (
-            lacks_is (InChunks chunk root) is ∙ missing_one offsets others some,
-            subst (IsMissingIn image a slab (missing.Chunks new)) (sym is) are,
-          )
+    -- no cell lacks storage just where no chunk is missing
+    pub none_lacks : length new.offsets ≡ 0 → lacks_cells image a slab ≡ false
+    none_lacks none = lacks_is (InChunks chunk root) is ∙ all_fail (λ p. not (is_some (get chunks (corner p)))) chosen (found_each (no_items new.offsets none)) where
+      no_items : (os : List (List ℕ)) → length os ≡ 0 → os ≡ []
+      no_items [] long = refl
+      no_items (o ∷ os) long = absurd (omega (arith, long))
+
+    pub some_lacks : 0 < length new.offsets → lacks_cells image a slab ≡ true
+    some_lacks some = by_offsets new.offsets refl where
+      by_offsets : (offsets : List (List ℕ)) → new.offsets ≡ offsets → lacks_cells image a slab ≡ true
+      by_offsets [] none = absurd (let long = ap (λ (os : List (List ℕ)). length os) none in omega (arith, some, long))
+      by_offsets (offsets ∷ others) there = lacks_is (InChunks chunk root) is ∙ missing_one offsets others there
+
+    pub lacking_some : lacks_cells image a slab ≡ true → 0 < length new.offsets
+    lacking_some lacks = by_count (length new.offsets) refl where
+      by_count : (n : ℕ) → length new.offsets ≡ n → 0 < n
+      by_count (suc n) count = omega arith
+      by_count zero none = absurd (let never : true ≡ false = sym lacks ∙ none_lacks none in cc)
+
+    pub chunks_found : 0 < length new.offsets → (k : ArrayChunks) → IsInChunksOf a k → IsFound image a slab (Some (missing.Chunks k new))
+    chunks_found some k of = (some_lacks some, subst (IsMissingIn image a slab (missing.Chunks k new)) (sym is) (are, of))
+
+  -- ---- by what is missing
+
+  array_in : (k : ArrayChunks) (new : ChunkOffsets) (l : Layout) → IsMissingIn image a slab (missing.Chunks k new) l → IsInChunksOf a k
+  array_in k new (InMessage bytes) missed = absurd missed
+  array_in k new (InBlock b) missed = absurd missed
+  array_in k new (InChunks chunk root) missed = missed.1
+
+  -- chunks are missing of the array as it is described
+  pub chunks_missing : (k : ArrayChunks) (new : ChunkOffsets) → IsMissing image a slab (missing.Chunks k new) → AreMissing image a k.chunk slab new × IsInChunksOf a k
+  chunks_missing k new missed = subst (IsMissingIn image a slab (missing.Chunks k new)) (array_in k new a.layout missed).layout missed

@@ -143,9 +143,9 @@ module _ (a : Described) (run : CellRun) (below : run.place + run.length ≤ cel
 
     -- so it is missing where it is not stored, and the cells of the run stand in it once it is made
     pub chunk_missing : (image : List ℕ) (root : Option ℕ) → a.layout ≡ InChunks chunk root → get (stored_chunks image a.fixed a.layout) corner ≡ None
-        → (m : Missing) → m ≡ missing.Chunks alone → IsRunMissing image a run m inner
-    chunk_missing image root laid none m are = subst (λ (x : Missing). IsRunMissing image a run x inner) (sym are) (record {
-      found = λ slab rank within is. chunks_found image a slab chunk root laid alone (row_missing slab within is image none alone refl);
+        → (k : ArrayChunks) → IsInChunksOf a k → (m : Missing) → m ≡ missing.Chunks k alone → IsRunMissing image a run m inner
+    chunk_missing image root laid none k of m are = subst (λ (x : Missing). IsRunMissing image a run x inner) (sym are) (record {
+      found = λ slab rank within is. chunks_found image a slab chunk root laid alone (row_missing slab within is image none alone refl) (omega arith) k of;
       made = λ now b at fixed sizes stored made.
           let chunked : stored_storage a.sizes (storage_of a.sizes a.layout) ≡ Chunked chunk = ap (λ (l : Layout). stored_storage a.sizes (storage_of a.sizes l)) laid in
           let such = chunked_alike b.sizes b.layout chunk (stored ∙ chunked) in

@@ -19,6 +19,7 @@ use Rattle.h5_header.specs.Listed.{Listed, messages_in}
 use Rattle.h5_laws.proofs.Lists.{In, all_in, contains_in}
 use Rattle.h5_chunks.specs.Shapes.{AreChunkSizes}
 use Rattle.h5_chunks.specs.Told.{chunk_blocks_told, chunks_told}
+use Rattle.h5_layout.specs.ArrayChunks.{ArrayChunks}
 use Rattle.h5_layout.specs.ArrayEdits.{IsArrayApart, IsArrayMoved, described_in}
 use Rattle.h5_layout.specs.Data.{AreDataRead, chunk_shape, data_blocks, dataset_told, stored_chunks}
 use Rattle.h5_layout.specs.Described.{Described}
@@ -117,8 +118,8 @@ missing_inside image a chunk root laid sound sizes slab new is o at =
 pub chunks_made : (s t : Space) (m : Listed) (was : IsArrayApart s m) (chunk : List ℕ) (root : ℕ) (laid : (described_in s.bytes m).layout ≡ InChunks chunk (Some root)) → AreChunkSizes chunk
     → IsFixed (described_in s.bytes m).fixed → fits (described_in s.bytes m).fixed (described_in s.bytes m).fill ≡ true → (new : ChunkOffsets)
     → HasFilledChunks s t (chunk_shape (described_in s.bytes m).fixed chunk) root (cells_of_fill (described_in s.bytes m).fixed (described_in s.bytes m).fill (cells chunk)) new.offsets
-    → (slab : Slab) → AreMissing s.bytes (described_in s.bytes m) chunk slab new → IsStorageMade s t m slab (missing.Chunks new)
-chunks_made s t m was chunk root laid sizes sound fit new filled slab is =
+    → (slab : Slab) → AreMissing s.bytes (described_in s.bytes m) chunk slab new → (k : ArrayChunks) → IsStorageMade s t m slab (missing.Chunks k new)
+chunks_made s t m was chunk root laid sizes sound fit new filled slab is k =
     let a : Described = described_in s.bytes m in
     let arr = is_array (messages_in s.bytes m.list) a was.array in
     let told = added_told s t m was a refl chunk root laid new.offsets filled in
@@ -183,8 +184,8 @@ module _ (old s t : Space) (m : Listed) (was : IsArrayApart old m) (chunk : List
         ap (λ (c : Chunks). cell_of s.bytes a.fixed a.fill a.sizes (InChunks chunk (Some root)) c index) tree.none ∙ none_reads s.bytes (Some root) index;
   }
 
-  pub tree_made : IsStorageMade old t m slab (missing.Chunks new)
-  tree_made =
+  pub tree_made : (k : ArrayChunks) → IsStorageMade old t m slab (missing.Chunks k new)
+  tree_made k =
       let stand = tree.moved.stand in
       let arr = is_array (messages_in old.bytes m.list) a was.array in
       let told = added_told s t m stand b tree.told chunk root refl new.offsets filled in

@@ -6,6 +6,7 @@ use Rattle.h5_model.specs.Format.Layout.{Layout, InBlock, InChunks}
 use Rattle.h5_model.specs.Tree.Objects.{Dataset, Storage, Compact, Contiguous, Chunked}
 use Rattle.h5_model.specs.Tree.Places.{cells}
 use Rattle.h5_model.specs.Views.Selection.{Slab, selection_of}
+use Rattle.h5_layout.specs.ArrayChunks.{IsInChunksOf}
 use Rattle.h5_layout.specs.Described.{Described}
 use Rattle.h5_layout.specs.NewChunks.{AreMissing}
 use Rattle.h5_layout.specs.Standing.{is_stored_cell}
@@ -16,10 +17,10 @@ use Rattle.h5_layout.specs.declared.lacking.Missing.TheVariants as missing
 abbrev pub lacks_cells : List ℕ → Described → Slab → Bool
 lacks_cells image a slab = list_any (λ place. not (is_stored_cell image a place)) (selection_of a.sizes slab)
 
--- by a layout: the block of the cells; or the chunks that the selection meets and that are not stored
+-- by a layout: the block of the cells; or the chunks that the selection meets and that are not stored, of the array as it is described
 abbrev pub IsMissingIn : List ℕ → Described → Slab → Missing → Layout → Type 0
 IsMissingIn image a slab missing.Block (InBlock b) = b ≡ None
-IsMissingIn image a slab (missing.Chunks new) (InChunks chunk root) = AreMissing image a chunk slab new
+IsMissingIn image a slab (missing.Chunks array new) (InChunks chunk root) = AreMissing image a chunk slab new × IsInChunksOf a array
 IsMissingIn image a slab _ _ = ⊥
 
 -- so much is missing of an array of the image

@@ -21,7 +21,7 @@ use Rattle.h5_layout.specs.declared.stored_run.RunStorage.TheVariants as storage
 -- What was missing of an array stands in the image: the block, or the first of the chunks, at this address.
 abbrev pub IsMadeAt : List ℕ → Described → Missing → ℕ → Type 0
 IsMadeAt image a missing.Block at = (b : Block) × (a.layout ≡ InBlock (Some b)) × (b.at ≡ at)
-IsMadeAt image a (missing.Chunks new) at = get (stored_chunks image a.fixed a.layout) (slice_index_or new.offsets 0 []) ≡ Some at
+IsMadeAt image a (missing.Chunks array new) at = get (stored_chunks image a.fixed a.layout) (slice_index_or new.offsets 0 []) ≡ Some at
 
 -- So much is missing for the cells of a run, whatever selects them. Once it is made, in an image where the array has the same type and
 -- sizes, and is stored, they stand one behind another in it, the first at this place, in cells.

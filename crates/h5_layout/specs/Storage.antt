@@ -36,12 +36,12 @@ chunks_room_in image a n _ = 0
 -- how many bytes the storage may take that is missing
 abbrev pub storage_bytes : List ℕ → Described → Missing → ℕ
 storage_bytes image a missing.Block = cells a.sizes * a.fixed.size
-storage_bytes image a (missing.Chunks new) = chunks_room_in image a (length new.offsets) a.layout
+storage_bytes image a (missing.Chunks array new) = chunks_room_in image a (length new.offsets) a.layout
 
 -- and how many calls of `take`
 abbrev pub storage_calls : Missing → ℕ
 storage_calls missing.Block = 1
-storage_calls (missing.Chunks new) = 18 * length new.offsets + 1
+storage_calls (missing.Chunks array new) = 18 * length new.offsets + 1
 
 -- ---- whether a tree has no room
 
@@ -54,7 +54,7 @@ is_low_root image a _ = true
 -- A refusal comes before any change: one chunk at most is missing, or the tree never gets too deep.
 abbrev pub is_refused_first : List ℕ → Described → Missing → Bool
 is_refused_first image a missing.Block = true
-is_refused_first image a (missing.Chunks new) = nat_le (length new.offsets) 1 || is_low_root image a a.layout
+is_refused_first image a (missing.Chunks array new) = nat_le (length new.offsets) 1 || is_low_root image a a.layout
 
 -- These chunks were stored, if there are any, besides those that were there.
 pub record HasStoredMore (old new : Chunks) (more : List (List ℕ)) : Type 0 where
@@ -86,7 +86,7 @@ IsDeepIn image a all n _ = ⊥
 
 abbrev pub IsDeepFor : List ℕ → Described → Missing → ℕ → Type 0
 IsDeepFor image a missing.Block n = ⊥
-IsDeepFor image a (missing.Chunks new) n = IsDeepIn image a new.offsets n a.layout
+IsDeepFor image a (missing.Chunks array new) n = IsDeepIn image a new.offsets n a.layout
 
 -- ---- what is made
 

@@ -22,10 +22,10 @@ use h5_shape::MAX_RANK;
 use h5_space::Image;
 use std::marker::Model;
 
-/// An array in chunks: the type of its cells, their fill, the sizes of a chunk, and the root of the tree. It borrows
-/// nothing, so that the image can be edited meanwhile.
+/// An array in chunks, as its header describes it: the type of its cells, their fill, the sizes of a chunk, and the root of
+/// the tree. It borrows nothing, so that the image can be edited meanwhile.
 #[derive(Drop)]
-pub(crate) struct ChunkedArray {
+pub struct ChunkedArray {
     fixed: Fixed,
     fill: i128,
     rank: usize,

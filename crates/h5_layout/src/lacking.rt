@@ -1,12 +1,14 @@
 //! Storage that is missing of cells that are to be written (File Format Specification 3.0, sections III.A.1 and IV.A.2.i).
 
-ghost use Rattle.std.specs.Prelude.{◌≡◌, ◌==◌, ◌||◌, if◌then◌else◌, IfOk, None, Some, is_some, length};
+ghost use Rattle.std.specs.Prelude.{◌≡◌, ◌<◌, ◌==◌, ◌||◌, if◌then◌else◌, IfOk, None, Some, is_some, length};
 ghost use Rattle.h5_model.specs.Views.Selection.{Within, selected_cells};
+ghost use Rattle.h5_layout.specs.ArrayChunks.{ArrayChunks, IsChunked, IsInChunksOf};
 ghost use Rattle.h5_layout.specs.Data.{AreDataRead};
 ghost use Rattle.h5_layout.specs.Lacking.{IsFound};
 ghost use Rattle.h5_layout.specs.declared.lacking.Missing.TheVariants as missing;
 
 use crate::array::ArrayRef;
+use crate::chunked::ChunkedArray;
 use crate::new_chunks::missing_chunks;
 use h5_bytes::Block;
 use h5_chunks::ChunkList;
@@ -20,8 +22,13 @@ use std::alloc::{AllocError, Global};
 pub enum Missing {
     /// The block of a contiguous array.
     Block,
-    /// Chunks.
-    Chunks(ChunkList),
+    /// Chunks of an array that is in chunks.
+    Chunks {
+        /// The array, as its header describes it.
+        array: ChunkedArray,
+        /// Those of its chunks that are missing.
+        new: ChunkList,
+    },
 }
 
 /// What is missing of the storage of the selected cells of an array of the image, or `None` where each of them is stored.
@@ -52,7 +59,7 @@ pub fn missing_of(
         }
         Layout::Chunked { .. } => {
             let new = missing_chunks(alloc, image, array, slab)?;
-            Ok(missing_part(new))
+            Ok(missing_part(array, new))
         }
     }
 }
@@ -68,13 +75,18 @@ fn missing_block(block: Option<Block>, slab: &Slab) -> Option<Missing>
     }
 }
 
-/// These chunks, where there are any.
-fn missing_part(new: ChunkList) -> Option<Missing>
-    ensures { result ≡ (if length new.offsets == 0 then None else Some (missing.Chunks new)) }
+/// These chunks of an array in chunks, where there are any.
+fn missing_part(array: &ArrayRef<'_>, new: ChunkList) -> Option<Missing>
+    requires { IsChunked array.now.layout }
+    ensures none { length new.offsets ≡ 0 → result ≡ None }
+    ensures some { 0 < length new.offsets
+        → (k : ArrayChunks) × IsInChunksOf array.now k × (result ≡ Some (missing.Chunks k new)) }
 {
     if new.is_empty() {
-        None
-    } else {
-        Some(Missing::Chunks(new))
+        return None;
     }
+    Some(Missing::Chunks {
+        array: ChunkedArray::of(array),
+        new,
+    })
 }

@@ -42,6 +42,7 @@ mod values;
 pub use address::{StoredRun, fill_stored, write_stored};
 pub use array::ArrayRef;
 pub use buffer::Buffer;
+pub use chunked::ChunkedArray;
 pub use extent::{lacks_maxima, set_sizes, sizes_of};
 pub use h5_chunks::{ChunkList, InsertFault};
 pub use h5_msg::{ChunkSizes, Layout};

@@ -9,6 +9,7 @@ ghost use Rattle.h5_model.specs.Format.Reached.{level_at, shape_kind};
 ghost use Rattle.h5_model.specs.Format.Superblock.{chunk_k};
 ghost use Rattle.h5_model.specs.Tree.Places.{cells as cells_of};
 ghost use Rattle.h5_model.specs.Views.Selection.{Slab};
+ghost use Rattle.h5_header.specs.Listed.{Listed};
 ghost use Rattle.h5_space.specs.Moves.{Spends};
 ghost use Rattle.h5_space.specs.declared.image.SpaceFault.{SpaceFault as FaultOfSpace};
 ghost use Rattle.h5_chunks.specs.Told.{chunks_told};
@@ -29,47 +30,41 @@ use crate::copied::{CellsToFill, copied_cells};
 use crate::filled::{fill_taken, store_all};
 use crate::header::{set_block, set_root};
 use crate::lacking::Missing;
-use crate::read::known_array;
 use h5_chunks::{
     ChunkList, ChunkShape, InsertFault, chunk_node_length, is_full_at, is_low, is_low_level,
     make_root,
 };
 use h5_header::Messages;
-use h5_msg::Layout;
 use h5_space::{Image, MAXIMUM_IMAGE, SpaceFault};
 
 /// Whether `make_storage` is refused before any change, if it is refused: one chunk at most is missing, or the root of the
 /// tree, or one that is to be made, is so low that the tree never gets too deep. Takes no memory.
 ///
-/// That the array was read, with its data, is the caller's condition.
+/// That the array was read, with its data, and that so much is missing of it for some selection, are the caller's conditions.
 pub fn is_refused_first(image: &Image, messages: &Messages, missing: &Missing) -> bool
     requires array { IsArrayApart image.now messages.now }
+    requires missing { (slab : Slab)
+        × IsMissing image.now.bytes (described_in image.now.bytes messages.now) slab missing.now }
     ensures { result ≡ refuses_first image.now.bytes (described_in image.now.bytes messages.now) missing.now }
 {
     match missing {
         Missing::Block => true,
-        Missing::Chunks(new) => new.len() <= 1 || has_low_root(image, messages),
+        Missing::Chunks { array, new } => new.len() <= 1 || has_low_root(image, array),
     }
 }
 
 /// Whether the root of the tree of chunks, or one that is made where there is none, is so low that the tree never gets too
 /// deep.
-fn has_low_root(image: &Image, messages: &Messages) -> bool
-    requires array { IsArrayApart image.now messages.now }
-    ensures { result ≡ is_low_root image.now.bytes (described_in image.now.bytes messages.now)
-        (described_in image.now.bytes messages.now).layout }
+fn has_low_root(image: &Image, array: &ChunkedArray) -> bool
+    requires { (m : Listed) × IsArrayApart image.now m
+        × IsInChunksOf (described_in image.now.bytes m) array.now }
+    ensures { (m : Listed) → IsInChunksOf (described_in image.now.bytes m) array.now
+        → result ≡ is_low_root image.now.bytes (described_in image.now.bytes m)
+        (described_in image.now.bytes m).layout }
 {
-    let array = known_array(image, messages);
-    match array.layout() {
-        Layout::Compact(_) => true,
-        Layout::Contiguous(_) => true,
-        Layout::Chunked { .. } => {
-            let chunks = ChunkedArray::of(&array);
-            match chunks.root() {
-                Some(root) => is_low(image, &chunks.shape(), root),
-                None => is_low_level(image, 0),
-            }
-        }
+    match array.root() {
+        Some(root) => is_low(image, &array.shape(), root),
+        None => is_low_level(image, 0),
     }
 }
 
@@ -104,15 +99,14 @@ pub fn check_storage(
             let cells = copied_cells(image, messages);
             check_room(image, cells.count * cells.fixed.size() as u64)
         }
-        Missing::Chunks(new) => {
-            let chunks = ChunkedArray::new(image, messages);
-            let shape = chunks.shape();
-            if let Some(root) = chunks.root() {
+        Missing::Chunks { array, new } => {
+            let shape = array.shape();
+            if let Some(root) = array.root() {
                 if is_first_full(image, &shape, root, new) {
                     return Err(InsertFault::TreeTooDeep);
                 }
             }
-            check_room(image, room_for(image, &shape, chunks.chunk_length(), new))
+            check_room(image, room_for(image, &shape, array.chunk_length(), new))
         }
     }
 }
@@ -178,10 +172,7 @@ pub fn make_storage(
             let cells = copied_cells(image, messages);
             make_block(image, messages, &cells)
         }
-        Missing::Chunks(new) => {
-            let chunks = ChunkedArray::new(image, messages);
-            make_chunks(image, messages, &chunks, new)
-        }
+        Missing::Chunks { array, new } => make_chunks(image, messages, array, new),
     }
 }
 
@@ -232,21 +223,21 @@ fn make_chunks(
         (described_in image.old.bytes messages.now) chunks.now.chunk slab new.now }
     ensures made { OnOk result ((slab : Slab) → AreMissing image.old.bytes
         (described_in image.old.bytes messages.now) chunks.now.chunk slab new.now
-        → IsStorageMade image.old image.new messages.now slab (missing.Chunks new.now)) }
+        → IsStorageMade image.old image.new messages.now slab (missing.Chunks chunks.now new.now)) }
     ensures spends { OnOk result (length_of image.new.bytes ≤ length_of image.old.bytes
         + storage_bytes image.old.bytes (described_in image.old.bytes messages.now)
-        (missing.Chunks new.now)) }
+        (missing.Chunks chunks.now new.now)) }
     ensures deep { result ≡ Err InsertFault.TreeTooDeep → (n : ℕ)
-        × IsDeepFor image.old.bytes (described_in image.old.bytes messages.now) (missing.Chunks new.now) n }
+        × IsDeepFor image.old.bytes (described_in image.old.bytes messages.now) (missing.Chunks chunks.now new.now) n }
     ensures deep_first { IsDeepFor image.old.bytes (described_in image.old.bytes messages.now)
-        (missing.Chunks new.now) 0 → result ≡ Err InsertFault.TreeTooDeep }
+        (missing.Chunks chunks.now new.now) 0 → result ≡ Err InsertFault.TreeTooDeep }
     ensures full { (result ≡ Err (InsertFault.Space SpaceFault.ImageFull))
         ↔ ((IsDeepFor image.old.bytes (described_in image.old.bytes messages.now)
-        (missing.Chunks new.now) 0 → ⊥)
+        (missing.Chunks chunks.now new.now) 0 → ⊥)
         × (2 ^ 31 < length_of image.old.bytes + storage_bytes image.old.bytes
-        (described_in image.old.bytes messages.now) (missing.Chunks new.now))) }
+        (described_in image.old.bytes messages.now) (missing.Chunks chunks.now new.now))) }
     ensures refused { refuses_first image.old.bytes (described_in image.old.bytes messages.now)
-        (missing.Chunks new.now) ≡ true → OnErr result (image.new ≡ image.old) }
+        (missing.Chunks chunks.now new.now) ≡ true → OnErr result (image.new ≡ image.old) }
 {
     let shape = chunks.shape();
     let bytes = room_for(image, &shape, chunks.chunk_length(), new);

@@ -110,9 +110,9 @@ fn storage_in_chunks(
         let _bytes = image.bytes();
         return Ok(RunStorage::Standing(at + row.place * chunks.fixed().size() as u64));
     }
-    let missing = Missing::Chunks(one_chunk(alloc, &shape, corner)?);
+    let new = one_chunk(alloc, &shape, corner)?;
     Ok(RunStorage::Missing {
-        missing,
+        missing: Missing::Chunks { array: chunks, new },
         inner: row.place,
     })
 }

@@ -1,10 +1,11 @@
-use Rattle.std.proofs.Common.{◌≡◌, sym, ap, ◌∙◌, subst}
+use Rattle.std.proofs.Common.{◌≡◌, inl, inr, length, sym, ap, ◌∙◌, subst, arith}
+use Rattle.std.proofs.lemmas.Bool.{cases_lt}
 use Rattle.h5_model.specs.Format.Layout.{InChunks}
 use Rattle.h5_model.proofs.CountLaws.{length-selection}
 use Rattle.h5_model.proofs.WithinLaws.{to_is_within}
 use Rattle.h5_msg.specs.Layouts.{layout_in}
 use Rattle.h5_layout.specs.Lacking.{IsFound}
-use Rattle.h5_layout.proofs.LackingLaws.{block_found, chunks_found, compact_found}
+use Rattle.h5_layout.proofs.LackingLaws.{block_found, chunks_found, compact_found, none_lacks}
 use Rattle.h5_layout.proofs.lacking.missing_of.Goals as goal
 
 pub returns-in-Compact : goal.returns-in-Compact
@@ -24,6 +25,13 @@ returns-in_ok-new-in-Chunked c =
     let image = c.args.image.now.bytes in
     let a = c.args.array.now in
     let layout : a.layout ≡ InChunks c.in-Chunked.sizes c.in-Chunked.tree = sym c.layout.ensures.layout ∙ ap layout_in c.in-Chunked.is in
-    subst (IsFound image a c.args.slab.now) (sym c.missing_part.ensures)
-    (chunks_found image a c.args.slab.now c.in-Chunked.sizes c.in-Chunked.tree layout c.in_ok-new-in-Chunked.new
-    (c.in_ok-new-in-Chunked.ensures c.in-Chunked.sizes c.in-Chunked.tree layout))
+    let new = c.in_ok-new-in-Chunked.new in
+    let are = c.in_ok-new-in-Chunked.ensures c.in-Chunked.sizes c.in-Chunked.tree layout in
+    elim (cases_lt 0 (length new.offsets)) [
+      | inl some ↦
+          let part = c.missing_part.ensures.some some in
+          subst (IsFound image a c.args.slab.now) (sym part.2) (chunks_found image a c.args.slab.now c.in-Chunked.sizes c.in-Chunked.tree layout new are some part.0 part.1)
+      | inr few ↦
+          let none : length new.offsets ≡ 0 = omega (arith, few) in
+          subst (IsFound image a c.args.slab.now) (sym (c.missing_part.ensures.none none)) (none_lacks image a c.args.slab.now c.in-Chunked.sizes c.in-Chunked.tree layout new are none)
+    ]

@@ -7,6 +7,9 @@ use Rattle.h5_layout.specs.ArrayChunks.{ArrayChunks}
 use Rattle.h5_layout.specs.ArrayEdits.{described_in}
 use Rattle.h5_chunks.specs.Edited.{AreChunksApart}
 use Rattle.h5_layout.specs.Described.{Described}
+use Rattle.h5_layout.specs.Lacking.{IsMissing}
+use Rattle.h5_layout.specs.declared.lacking.Missing.{Missing}
+use Rattle.h5_layout.proofs.LackingLaws.{chunks_missing}
 use Rattle.h5_layout.proofs.TrimmedArray.{chunks_apart}
 use Rattle.h5_layout.proofs.storage.check_storage.Goals as goal
 
@@ -22,7 +25,11 @@ overflow_mul-cells c =
 
 pub is_first_full-requires-clause-chunks : goal.is_first_full-requires-clause-chunks
 is_first_full-requires-clause-chunks c =
-    let k : ArrayChunks = c.new-chunks.result in
+    let k : ArrayChunks = c.in-Chunks.array in
+    let image = c.args.image.now.bytes in
+    let a : Described = described_in image c.args.messages.now in
+    let missed = subst (λ (x : Missing). IsMissing image a c.requires.missing.0 x) c.in-Chunks.is c.requires.missing.1 in
+    let of = (chunks_missing image a c.requires.missing.0 k c.in-Chunks.new missed).1 in
     let rooted : k.root ≡ Some c.in-Some.root = sym c.root.ensures ∙ c.in-Some.is in
     subst (λ (s : Shape). AreChunksApart c.args.image.now s c.in-Some.root) (sym c.shape-shape.ensures)
-    (chunks_apart c.args.image.now c.args.messages.now c.requires.array k c.new-chunks.ensures.chunks c.in-Some.root rooted)
+    (chunks_apart c.args.image.now c.args.messages.now c.requires.array k of c.in-Some.root rooted)

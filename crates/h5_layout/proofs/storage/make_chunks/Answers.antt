@@ -119,9 +119,9 @@ returns-in-Some-clause-made c =
     let root = c.in-Some.root in
     let all = c.args.new.now.offsets in
     let kept : List ℕ = cells_of_fill (cells_to d).fixed (cells_to d).fill (cells_to d).count in
-    then_ok c.add_chunks.result c.add_chunks.ensures.stored (λ filled.
+    then_ok c.add_chunks.result c.add_chunks.ensures.stored (λ filled slab missing.
     chunks_made old new c.args.messages.now c.requires.array (k d).chunk root (laid d (Some root) c.in-Some.is) c.cells-cells.ensures.sound.sizes (sound d) (of_type d) c.args.new.now
-    (subst (λ (bs : List ℕ). HasFilledChunks old new (form d) root bs all) (bytes d) (subst (λ (s : Shape). HasFilledChunks old new s root kept all) (shape d) filled)))
+    (subst (λ (bs : List ℕ). HasFilledChunks old new (form d) root bs all) (bytes d) (subst (λ (s : Shape). HasFilledChunks old new s root kept all) (shape d) filled)) slab missing (k d))
 
 pub returns-in-Some-clause-deep : goal.returns-in-Some-clause-deep
 returns-in-Some-clause-deep c is =
@@ -155,7 +155,7 @@ returns-in-None-clause-made c =
     then_ok c.make_tree.result c.make_tree.ensures.made (λ was slab missing.
     let made = subst (λ (bs : List ℕ). IsTreeMade old new (m d) (form d) bs all) (bytes d) (subst (λ (s : Shape). IsTreeMade old new (m d) s kept all) (shape d) was) in
     tree_made old made.named new (m d) c.requires.array (k d).chunk made.root (laid d None c.in-None.is) made.tree c.cells-cells.ensures.sound.sizes (sound d) (of_type d) c.args.new.now
-    made.filled slab missing)
+    made.filled slab missing (k d))
 
 pub returns-in-None-clause-deep : goal.returns-in-None-clause-deep
 returns-in-None-clause-deep c is =

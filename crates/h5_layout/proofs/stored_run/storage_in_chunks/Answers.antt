@@ -115,9 +115,9 @@ returns-clause-storage c =
     let d = (goal.at.returns-clause-storage c).After-locate-row in
     let e = (goal.at.returns-clause-storage c).After-stored_at in
     let shape = c.shape-shape.ensures ∙ ap (λ (t : Fixed). chunk_shape t (k d).chunk) (of d).fixed in
-    let alone = c.in_ok-one_chunk.ensures ∙ ap (λ (s : Shape). record { rank = length s.sizes; bytes = s.bytes; offsets = corner d ∷ [] }) shape in
+    let alone = c.in_ok-new.ensures ∙ ap (λ (s : Shape). record { rank = length s.sizes; bytes = s.bytes; offsets = corner d ∷ [] }) shape in
     chunk_missing (a d) c.args.run c.requires.below c.requires.some (k d).chunk (corner d) (corner_is d) (inner d) (inner_is d) c.locate-row.result.length (omega arith) (beside d)
-    c.args.image.now.bytes (k d).root (of d).layout (found e None c.in_default.is) _ (ap missing.Chunks alone)
+    c.args.image.now.bytes (k d).root (of d).layout (found e None c.in_default.is) (k d) (of d) _ (ap (missing.Chunks (k d)) alone)
 
 pub returns-clause-one : goal.returns-clause-one
 returns-clause-one c at one there =
@@ -126,9 +126,9 @@ returns-clause-one c at one there =
     absurd (row_absent (a d) c.args.run c.requires.below c.requires.some (k d).chunk (corner d) (corner_is d) (inner d) (inner_is d) c.locate-row.result.length (omega arith) (beside d)
     c.args.image.now.bytes (k d).root (of d).layout (found e None c.in_default.is) at there)
 
-pub returns-in_err-one_chunk-clause-one : goal.returns-in_err-one_chunk-clause-one
-returns-in_err-one_chunk-clause-one c at one there =
-    let d = (goal.at.returns-in_err-one_chunk-clause-one c).After-locate-row in
-    let e = (goal.at.returns-in_err-one_chunk-clause-one c).After-stored_at in
+pub returns-in_err-new-clause-one : goal.returns-in_err-new-clause-one
+returns-in_err-new-clause-one c at one there =
+    let d = (goal.at.returns-in_err-new-clause-one c).After-locate-row in
+    let e = (goal.at.returns-in_err-new-clause-one c).After-stored_at in
     absurd (row_absent (a d) c.args.run c.requires.below c.requires.some (k d).chunk (corner d) (corner_is d) (inner d) (inner_is d) c.locate-row.result.length (omega arith) (beside d)
     c.args.image.now.bytes (k d).root (of d).layout (found e None c.in_default.is) at there)
