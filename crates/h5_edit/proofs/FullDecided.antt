@@ -129,4 +129,4 @@ deep_in_decided image a all (InChunks chunk (Some root)) = decide_both (decide_l
 -- whether the first missing chunk finds no room
 pub deep_first_decided : (image : List ℕ) (a : Described) (m : Missing) → IsDecided (IsDeepFor image a m 0)
 deep_first_decided image a missing.Block = inr (λ never. never)
-deep_first_decided image a (missing.Chunks new) = deep_in_decided image a new.offsets a.layout
+deep_first_decided image a (missing.Chunks array new) = deep_in_decided image a new.offsets a.layout

@@ -43,7 +43,7 @@ use Rattle.h5_layout.specs.declared.lacking.Missing.{Missing}
 use Rattle.h5_layout.specs.declared.lacking.Missing.TheVariants as missing
 use Rattle.h5_edit.proofs.SelectedStored.{none_passes}
 use Rattle.h5_layout.proofs.ChosenPlaces.{selected_place}
-use Rattle.h5_layout.proofs.LackingLaws.{chunks_found}
+use Rattle.h5_layout.proofs.LackingLaws.{lacking_some}
 use Rattle.h5_edit.proofs.WriteBound.{new_counted}
 use Rattle.h5_edit.proofs.WrittenTrees.{some_of, storage_kept}
 
@@ -147,16 +147,6 @@ module _ (image : List ℕ) (ms : List Message) (a : Described) (has : HasArray 
               let never : true ≡ false = sym (ap not unstored) ∙ here in
               absurd (cc)
 
-    -- where a cell is lacking, one is missing
-    some_missing : (new : ChunkOffsets) → AreMissing image a chunk slab new → lacks_cells image a slab ≡ true → 0 < length new.offsets
-    some_missing new are lacks = by_count (length new.offsets) refl where
-      by_count : (n : ℕ) → length new.offsets ≡ n → 0 < n
-      by_count (suc n) is_n = omega arith
-      by_count zero none =
-          let found = subst (λ n. IsFound image a slab (if n == 0 then None else Some (missing.Chunks new))) none (chunks_found image a slab chunk root is new are) in
-          let never : true ≡ false = sym lacks ∙ found in
-          absurd (cc)
-
   -- ---- the bound
 
   abbrev size : ℕ
@@ -180,15 +170,15 @@ module _ (image : List ℕ) (ms : List Message) (a : Described) (has : HasArray 
       ∙ ap (λ (test : Bool). if test then size else 0) some
   some_bound missing.Block lacks (InMessage bytes) is never = absurd never
   some_bound missing.Block lacks (InChunks chunk root) is never = absurd never
-  some_bound (missing.Chunks new) lacks (InMessage bytes) is never = absurd never
-  some_bound (missing.Chunks new) lacks (InBlock b) is never = absurd never
-  some_bound (missing.Chunks new) lacks (InChunks chunk root) is are =
+  some_bound (missing.Chunks array new) lacks (InMessage bytes) is never = absurd never
+  some_bound (missing.Chunks array new) lacks (InBlock b) is never = absurd never
+  some_bound (missing.Chunks array new) lacks (InChunks chunk root) is are =
       let n = length new.offsets in
       let bytes = cells chunk * a.fixed.size in
       let node : chunk_node (chunk_k image) (length a.sizes) ≡ node_length (chunk_kind (chunk_k image) (length chunk))
       = ap (chunk_node (chunk_k image)) (sym (ranked ms a has chunk root is)) ∙ node_long (chunk_k image) (length chunk) in
-      ap (chunks_bound room (length a.sizes) bytes) (missing_counted chunk root is new are)
-      ∙ bound_some room (length a.sizes) bytes n (some_missing chunk root is new are lacks)
+      ap (chunks_bound room (length a.sizes) bytes) (missing_counted chunk root is new are.0)
+      ∙ bound_some room (length a.sizes) bytes n (lacking_some image a slab chunk root is new are.0 lacks)
       ∙ ap (λ long. n * (bytes + 17 * long) + long) node
       ∙ sym (ap (chunks_room_in image a n) is)
 
@@ -205,15 +195,15 @@ module _ (image : List ℕ) (ms : List Message) (a : Described) (has : HasArray 
   -- one of those that are missing
   pub deep_below : (m : Missing) (n : ℕ) (l : Layout) → a.layout ≡ l → IsMissingIn image a slab m l → IsDeepFor image a m n → n < new_chunks room edit (dataset_by l)
   deep_below missing.Block n l is missed deep = absurd deep
-  deep_below (missing.Chunks new) n (InMessage bytes) is never deep = absurd never
-  deep_below (missing.Chunks new) n (InBlock b) is never deep = absurd never
-  deep_below (missing.Chunks new) n (InChunks chunk None) is are deep =
+  deep_below (missing.Chunks array new) n (InMessage bytes) is never deep = absurd never
+  deep_below (missing.Chunks array new) n (InBlock b) is never deep = absurd never
+  deep_below (missing.Chunks array new) n (InChunks chunk None) is are deep =
       let low = new_below _ new.offsets n (subst (IsDeepIn image a new.offsets n) is deep) in
-      let count = missing_counted chunk None is new are in
+      let count = missing_counted chunk None is new are.0 in
       omega (arith, low, count)
-  deep_below (missing.Chunks new) n (InChunks chunk (Some root)) is are deep =
+  deep_below (missing.Chunks array new) n (InChunks chunk (Some root)) is are deep =
       let low = turn_below _ root new.offsets n (subst (IsDeepIn image a new.offsets n) is deep) in
-      let count = missing_counted chunk (Some root) is new are in
+      let count = missing_counted chunk (Some root) is new are.0 in
       omega (arith, low, count)
 
   none_new : lacks_cells image a slab ≡ false → (l : Layout) → a.layout ≡ l → new_chunks room edit (dataset_by l) ≡ 0
@@ -232,16 +222,16 @@ module _ (image : List ℕ) (ms : List Message) (a : Described) (has : HasArray 
 alike_in : (image : List ℕ) (a : Described) (chosen : Slab) (m other : Missing) (n : ℕ) (l : Layout) → IsMissingIn image a chosen m l → IsMissingIn image a chosen other l
     → IsDeepFor image a other n → IsDeepFor image a m n
 alike_in image a chosen m missing.Block n l missed others deep = absurd deep
-alike_in image a chosen missing.Block (missing.Chunks new) n (InMessage bytes) missed others deep = absurd others
-alike_in image a chosen missing.Block (missing.Chunks new) n (InBlock b) missed others deep = absurd others
-alike_in image a chosen missing.Block (missing.Chunks new) n (InChunks chunk root) missed others deep = absurd missed
-alike_in image a chosen (missing.Chunks own) (missing.Chunks new) n (InMessage bytes) missed others deep = absurd others
-alike_in image a chosen (missing.Chunks own) (missing.Chunks new) n (InBlock b) missed others deep = absurd others
-alike_in image a chosen (missing.Chunks own) (missing.Chunks new) n (InChunks chunk root) missed others deep =
+alike_in image a chosen missing.Block (missing.Chunks array new) n (InMessage bytes) missed others deep = absurd others
+alike_in image a chosen missing.Block (missing.Chunks array new) n (InBlock b) missed others deep = absurd others
+alike_in image a chosen missing.Block (missing.Chunks array new) n (InChunks chunk root) missed others deep = absurd missed
+alike_in image a chosen (missing.Chunks own_array own) (missing.Chunks array new) n (InMessage bytes) missed others deep = absurd others
+alike_in image a chosen (missing.Chunks own_array own) (missing.Chunks array new) n (InBlock b) missed others deep = absurd others
+alike_in image a chosen (missing.Chunks own_array own) (missing.Chunks array new) n (InChunks chunk root) missed others deep =
     subst (λ (all : List (List ℕ)). IsDeepIn image a all n a.layout)
-    (layout.rising_once new.offsets own.offsets others.rising missed.rising (λ x. (
-      (λ there. (missed.each x).1 ((others.each x).0 there)),
-      (λ there. (others.each x).1 ((missed.each x).0 there)),
+    (layout.rising_once new.offsets own.offsets (others.0).rising (missed.0).rising (λ x. (
+      (λ there. ((missed.0).each x).1 (((others.0).each x).0 there)),
+      (λ there. ((others.0).each x).1 (((missed.0).each x).0 there)),
     ))) deep
 
 pub deep_alike : (image : List ℕ) (a : Described) (chosen : Slab) (m other : Missing) (n : ℕ) → IsMissing image a chosen m → IsMissing image a chosen other

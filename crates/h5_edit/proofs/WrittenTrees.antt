@@ -82,9 +82,9 @@ module _ (sizes : List ℕ) (slab : Slab) where
       ∙ sym (ap (λ (c : Option Block). stored_storage sizes (storage_of sizes (InBlock c))) none)
   storage_made image a missing.Block (InMessage bytes) never some = absurd never
   storage_made image a missing.Block (InChunks chunk root) never some = absurd never
-  storage_made image a (missing.Chunks new) (InMessage bytes) never some = absurd never
-  storage_made image a (missing.Chunks new) (InBlock b) never some = absurd never
-  storage_made image a (missing.Chunks new) (InChunks chunk root) are some = refl
+  storage_made image a (missing.Chunks array new) (InMessage bytes) never some = absurd never
+  storage_made image a (missing.Chunks array new) (InBlock b) never some = absurd never
+  storage_made image a (missing.Chunks array new) (InChunks chunk root) are some = refl
 
   -- where each has, it stays
   pub storage_kept : (l : Layout) (chunks : Chunks) → list_any (λ place. not (is_stored_in l chunks (index_of sizes place))) places ≡ false
