@@ -67,8 +67,8 @@ module _ (old mid new : Space) (m : Listed) (was : IsArrayApart old m) (none : (
   moved : IsArrayMoved old new m m
   moved = layout_moved old mid new m was no_blocks bs taken 2 w wrote l named_now tt data_now refl
 
-  told : described_in new.bytes m ≡ record a { layout = l }
-  told = layout_told_now old mid new m was no_blocks bs taken 2 w wrote l named_now tt data_now refl
+  pub block_told : described_in new.bytes m ≡ record a { layout = l }
+  block_told = layout_told_now old mid new m was no_blocks bs taken 2 w wrote l named_now tt data_now refl
 
   module _ (sound : IsFixed a.fixed) (fit : fits a.fixed a.fill ≡ true) (there : part at len mid.bytes ≡ cells_of_fill a.fixed a.fill (cells a.sizes)) where
     reads : dataset_told new.bytes (record a { layout = l }) ≡ stored_all (dataset_told old.bytes (record a { layout = InBlock None }))
@@ -80,9 +80,9 @@ module _ (old mid new : Space) (m : Listed) (was : IsArrayApart old m) (none : (
     pub block_made : (slab : Slab) → IsStorageMade old new m slab missing.Block
     block_made slab = record {
       moved = moved;
-      told = told ∙ ap (λ (x : Layout). record a { layout = x }) (sym (ap (λ (y : Described). y.layout) told));
-      dataset = ap (dataset_told new.bytes) told ∙ reads ∙ ap (λ (x : Layout). stored_all (dataset_told old.bytes (record a { layout = x }))) (sym none);
-      stored = ap (λ (y : Described). lacks_cells new.bytes y slab) told ∙ all_fail (λ place. false) (selection_of a.sizes slab) (λ place at. refl);
+      told = block_told ∙ ap (λ (x : Layout). record a { layout = x }) (sym (ap (λ (y : Described). y.layout) block_told));
+      dataset = ap (dataset_told new.bytes) block_told ∙ reads ∙ ap (λ (x : Layout). stored_all (dataset_told old.bytes (record a { layout = x }))) (sym none);
+      stored = ap (λ (y : Described). lacks_cells new.bytes y slab) block_told ∙ all_fail (λ place. false) (selection_of a.sizes slab) (λ place at. refl);
       trimmed = λ chunked. absurd (false≢true (sym (ap (λ (x : Layout). is_chunked (storage_of a.sizes x)) none) ∙ chunked));
     }
 

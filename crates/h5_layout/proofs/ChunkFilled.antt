@@ -192,6 +192,10 @@ module _ (s mid new : Space) (shape : Shape) (root : ℕ) (offsets : List ℕ) (
   differs : (o : List ℕ) (a : ℕ) → get old o ≡ Some a → o ≡ offsets → ⊥
   differs o a there same = some_differs (get old offsets) a absent (sym (ap (get old) same) ∙ there)
 
+  -- it is stored there
+  pub found_filled : get (chunks_told new.bytes shape root) offsets ≡ Some at
+  found_filled = ap (λ (c : Chunks). get c offsets) chunks_now ∙ found_more old offsets at
+
   pub filled_one : HasFilledChunks s new shape root w (offsets ∷ [])
   filled_one = record {
     stand = written_apart mid new shape root stored.stand offsets at there_now w long wrote;

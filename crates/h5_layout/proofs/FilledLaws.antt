@@ -1,6 +1,6 @@
 -- Chunks stored with each cell the fill, some after others.
 use Rattle.std.proofs.Common.{◌≡◌, ℕ, ◌+◌, ◌*◌, ℤ, inl, inr, List, [], ◌++◌, length, replicate, Option, Some, refl, sym, ap, ◌∙◌, subst}
-use Rattle.std.specs.Prelude.{OnErr, OnOk, IfErr, Result, Ok, Err}
+use Rattle.std.specs.Prelude.{OnErr, OnOk, IfErr, IfOk, Result, Ok, Err}
 use Rattle.std.specs.FinMap.{get}
 use Rattle.std.specs.List.{Contains}
 use Rattle.std.proofs.lemmas.Option.{same_Some}
@@ -91,14 +91,19 @@ module _ (shape : Shape) (root : ℕ) (bytes : List ℕ) where
 -- ---- how the storing ends
 
 -- where it can't fail, a refusal leaves whatever is asked
-pub never_refused : {P Q : Type 0} (R : Type 0) (r : Result (Unit {0}) InsertFault) → IfErr r (λ fault. P) → IfErr r (λ fault. Q) → (P → Q → ⊥) → OnErr r R
-never_refused R (Ok done) turn low never = tt
+pub never_refused : {P Q : Type 0} (R : Type 0) (r : Result ℕ InsertFault) → IfErr r (λ fault. P) → IfErr r (λ fault. Q) → (P → Q → ⊥) → OnErr r R
+never_refused R (Ok at) turn low never = tt
 never_refused R (Err fault) turn low never = absurd (never turn low)
 
 -- what follows where it has ended well
-pub then_ok : {P Q : Type 0} (r : Result (Unit {0}) InsertFault) → OnOk r P → (P → Q) → OnOk r Q
-then_ok (Ok done) p next = next p
+pub then_ok : {P Q : Type 0} (r : Result ℕ InsertFault) → OnOk r P → (P → Q) → OnOk r Q
+then_ok (Ok at) p next = next p
 then_ok (Err fault) p next = tt
+
+-- and of the address that is given then
+pub then_at : {P : Type 0} {Q R : ℕ → Type 0} (r : Result ℕ InsertFault) → OnOk r P → IfOk r Q → (P → (at : ℕ) → Q at → R at) → IfOk r R
+then_at (Ok at) p q next = next p at q
+then_at (Err fault) p q next = tt
 
 -- ---- the room that a chunk may take, where K stays
 

@@ -75,6 +75,12 @@ module _ (s t : Space) (m : Listed) (was : IsArrayApart s m) (a : Described) (is
   pub added_told : described_in t.bytes m ≡ a
   added_told = array_still s t m was (chunk_blocks_told s.bytes (chunk_shape a.fixed chunk) root) (chunk_blocks_told t.bytes (chunk_shape a.fixed chunk) root) (blocks_at s.bytes) filled.moves ∙ is
 
+  -- a chunk that is stored now is one of the array
+  pub added_placed : (o : List ℕ) (at : ℕ) → get (chunks_told t.bytes (chunk_shape a.fixed chunk) root) o ≡ Some at
+      → get (stored_chunks t.bytes (described_in t.bytes m).fixed (described_in t.bytes m).layout) o ≡ Some at
+  added_placed o at found =
+      ap (λ (x : Described). get (stored_chunks t.bytes x.fixed x.layout) o) added_told ∙ ap (λ (l : Layout). get (stored_chunks t.bytes a.fixed l) o) laid ∙ found
+
   pub added_moved : IsArrayMoved s t m m
   added_moved =
       data_moved s t m was (chunk_blocks_told s.bytes (chunk_shape a.fixed chunk) root) (chunk_blocks_told t.bytes (chunk_shape a.fixed chunk) root) (blocks_at s.bytes) filled.moves

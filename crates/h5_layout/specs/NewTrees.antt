@@ -1,6 +1,6 @@
 -- A tree for the chunks of an array that had none (File Format Specification 3.0, sections III.A.1 and IV.A.2.i).
-use Rattle.std.specs.Prelude.{◌≡◌, ℕ, Some, List}
-use Rattle.std.specs.FinMap.{empty}
+use Rattle.std.specs.Prelude.{◌≡◌, ℕ, ◌<◌, Some, List, [], length, slice_index_or}
+use Rattle.std.specs.FinMap.{empty, get}
 use Rattle.h5_model.specs.Format.Layout.{InChunks}
 use Rattle.h5_model.specs.Format.Reached.{Shape}
 use Rattle.h5_space.specs.Space.{Space}
@@ -17,9 +17,10 @@ pub record IsTreeNamed (old new : Space) (m : Listed) (shape : Shape) (root : �
   pub stand : AreChunksApart new shape root
   pub none : chunks_told new.bytes shape root ≡ empty
 
--- and chunks at these offsets were stored in it then, each with these bytes
-pub record IsTreeMade (old new : Space) (m : Listed) (shape : Shape) (bytes : List ℕ) (more : List (List ℕ)) : Type 0 where
+-- and chunks at these offsets were stored in it then, each with these bytes, the first, if there is one, at this address
+pub record IsTreeMade (old new : Space) (m : Listed) (shape : Shape) (bytes : List ℕ) (more : List (List ℕ)) (at : ℕ) : Type 0 where
   pub named : Space
   pub root : ℕ
   pub tree : IsTreeNamed old named m shape root
   pub filled : HasFilledChunks named new shape root bytes more
+  pub first : 0 < length more → get (chunks_told new.bytes shape root) (slice_index_or more 0 []) ≡ Some at

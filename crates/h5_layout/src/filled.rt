@@ -1,7 +1,7 @@
 //! Blocks that were taken, with each cell the fill, and chunks stored so where their tree stands (File Format Specification
 //! 3.0, section III.A.1).
 
-ghost use Rattle.std.specs.Prelude.{◌≡◌, ℕ, ◌+◌, ◌*◌, ◌^◌, ◌≤◌, IfErr, None, OnOk, [], ◌∷◌, length, replicate, true};
+ghost use Rattle.std.specs.Prelude.{◌≡◌, ℕ, ◌+◌, ◌*◌, ◌^◌, ◌<◌, ◌≤◌, IfErr, IfOk, None, OnOk, Some, [], ◌∷◌, length, replicate, slice_index_or, true};
 ghost use Rattle.std.specs.FinMap.{get};
 ghost use Rattle.h5_bytes.specs.Bytes.{part};
 ghost use Rattle.h5_model.specs.Format.Chunks.{IsChunkKey, offsets_in};
@@ -21,7 +21,8 @@ use crate::copied::CellsToFill;
 use h5_chunks::{ChunkList, ChunkShape, InsertFault, is_full_at, store};
 use h5_space::Image;
 
-/// Stores new chunks in a tree, with each cell the fill. Takes no memory.
+/// Stores new chunks in a tree, with each cell the fill, and gives the address of the first of them, or 0 where there is none.
+/// Takes no memory.
 ///
 /// These are the caller's conditions: the chunks of the tree were read, on blocks that share no byte with each other, with
 /// the superblock or with a free block; chunks of this shape can be stored, and have as many cells as are to be filled; none
@@ -36,7 +37,7 @@ pub(crate) fn store_all(
     root: u64,
     new: &ChunkList,
     cells: &CellsToFill,
-) -> Result<(), InsertFault>
+) -> Result<u64, InsertFault>
     requires chunks { AreChunksApart image.old shape.now root }
     requires storable { CanBeStored shape.now }
     requires cells { FillsChunk cells.now.fixed cells.now.fill cells.now.count shape.now }
@@ -47,6 +48,8 @@ pub(crate) fn store_all(
         + length new.now.offsets * store_room image.old.bytes shape.now ≤ 2 ^ 31 }
     ensures stored { OnOk result (HasFilledChunks image.old image.new shape.now root
         (cells_of_fill cells.now.fixed cells.now.fill cells.now.count) new.now.offsets) }
+    ensures first { IfOk result (λ at. 0 < length new.now.offsets
+        → get (chunks_told image.new.bytes shape.now root) (slice_index_or new.now.offsets 0 []) ≡ Some at) }
     ensures spends { OnOk result (Spends image.old image.new
         (length new.now.offsets * store_room image.old.bytes shape.now) (18 * length new.now.offsets)) }
     ensures deep { IfErr result (λ fault. fault ≡ InsertFault.TreeTooDeep) }
@@ -55,24 +58,28 @@ pub(crate) fn store_all(
     ensures low { IfErr result (λ fault. (low : ℕ) → is_low_level (chunk_k image.old.bytes) low ≡ true
         → IsBushy image.old.bytes shape.now root low → ⊥) }
 {
+    let mut first = 0;
     for k in 0..new.len() {
         let key = new.key(k);
         if is_full_at(image, shape, root, key) {
             return Err(InsertFault::TreeTooDeep);
         }
-        store_filled(image, shape, root, key, cells);
+        let at = store_filled(image, shape, root, key, cells);
+        if k == 0 {
+            first = at;
+        }
     }
-    Ok(())
+    Ok(first)
 }
 
-/// Stores the chunk with this key in a tree, with each cell the fill.
+/// Stores the chunk with this key in a tree, with each cell the fill, and gives its address.
 fn store_filled(
     image: &mut Image,
     shape: &ChunkShape<'_>,
     root: u64,
     key: &[u8],
     cells: &CellsToFill,
-)
+) -> u64
     requires chunks { AreChunksApart image.old shape.now root }
     requires storable { CanBeStored shape.now }
     requires cells { FillsChunk cells.now.fixed cells.now.fill cells.now.count shape.now }
@@ -88,11 +95,14 @@ fn store_filled(
     ensures stored { HasFilledChunks image.old image.new shape.now root
         (cells_of_fill cells.now.fixed cells.now.fill cells.now.count)
         (offsets_in (length shape.now.sizes) key.now ∷ []) }
+    ensures at { get (chunks_told image.new.bytes shape.now root)
+        (offsets_in (length shape.now.sizes) key.now) ≡ Some result }
     ensures spends { Spends image.old image.new (store_room image.old.bytes shape.now) 18 }
 {
     let end = image.bytes().len() as u64;
     let at = store(image, shape, root, key);
     fill_taken(image, cells, at, end);
+    at
 }
 
 /// Makes each cell of a block that was taken the fill. Behind the old end of the image the block is zero, so that a fill of 0

@@ -1,8 +1,8 @@
 //! Storage made for the cells of an array, where the array stands (File Format Specification 3.0, sections III.A.1 and
 //! IV.A.2.i).
 
-ghost use Rattle.std.specs.Prelude.{◌≡◌, ◌↔◌, ℕ, ◌+◌, ◌-◌, ◌*◌, ◌^◌, ◌<◌, ◌≤◌, ◌||◌, Err, IfErr, IsTrue, OnErr, OnOk, None, min, nat_le, length as length_of, true};
-ghost use Rattle.std.specs.FinMap.{empty};
+ghost use Rattle.std.specs.Prelude.{◌≡◌, ◌↔◌, ℕ, ◌+◌, ◌-◌, ◌*◌, ◌^◌, ◌<◌, ◌≤◌, ◌||◌, Err, IfErr, IfOk, IsTrue, OnErr, OnOk, None, Some, [], min, nat_le, length as length_of, slice_index_or, true};
+ghost use Rattle.std.specs.FinMap.{empty, get};
 ghost use Rattle.h5_model.specs.Format.Fixed.{fits};
 ghost use Rattle.h5_model.specs.Format.Layout.{InBlock, InChunks};
 ghost use Rattle.h5_model.specs.Format.Reached.{level_at, shape_kind};
@@ -19,9 +19,10 @@ ghost use Rattle.h5_chunks.specs.Bushy.{is_low_level};
 ghost use Rattle.h5_chunks.specs.Edited.{AreChunksApart, CanBeStored, chunk_node_length};
 ghost use Rattle.h5_layout.specs.Data.{chunk_shape};
 ghost use Rattle.h5_layout.specs.Filled.{AreToStore, FillsChunk, HasFilledChunks, cells_of_fill};
-ghost use Rattle.h5_layout.specs.Lacking.{IsMissing};
+ghost use Rattle.h5_layout.specs.Lacking.{IsFound, IsMissing};
 ghost use Rattle.h5_layout.specs.NewChunks.{AreMissing};
 ghost use Rattle.h5_layout.specs.NewTrees.{IsTreeMade, IsTreeNamed};
+ghost use Rattle.h5_layout.specs.RunStorage.{IsMadeAt};
 ghost use Rattle.h5_layout.specs.Storage.{IsDeepFor, IsFullInNewTree, IsFullInTurn, IsStorageMade, chunks_room, is_low_root, is_refused_first as refuses_first, storage_bytes};
 ghost use Rattle.h5_layout.specs.declared.lacking.Missing.TheVariants as missing;
 
@@ -125,6 +126,7 @@ fn check_room(image: &Image, bytes: u64) -> Result<(), InsertFault>
 }
 
 /// Makes the storage that is missing of an array: the block of a contiguous one, or chunks, each cell of which is the fill.
+/// Gives the address of the block, or of the first of the chunks.
 ///
 /// The block's address and size, or the address of a tree that is new, come into the Data Layout message. Each chunk comes
 /// into the tree by one way down. The room for all that is made before the first change.
@@ -145,7 +147,7 @@ pub fn make_storage(
     image: &mut Image,
     messages: &Messages,
     missing: &Missing,
-) -> Result<(), InsertFault>
+) -> Result<u64, InsertFault>
     requires array { IsArrayApart image.old messages.now }
     requires missing { (slab : Slab)
         × IsMissing image.old.bytes (described_in image.old.bytes messages.now) slab missing.now }
@@ -153,6 +155,9 @@ pub fn make_storage(
     ensures made { OnOk result ((slab : Slab)
         → IsMissing image.old.bytes (described_in image.old.bytes messages.now) slab missing.now
         → IsStorageMade image.old image.new messages.now slab missing.now) }
+    ensures placed { IfOk result (λ at. (slab : Slab)
+        → IsFound image.old.bytes (described_in image.old.bytes messages.now) slab (Some missing.now)
+        → IsMadeAt image.new.bytes (described_in image.new.bytes messages.now) missing.now at) }
     ensures spends { OnOk result (length_of image.new.bytes ≤ length_of image.old.bytes
         + storage_bytes image.old.bytes (described_in image.old.bytes messages.now) missing.now) }
     ensures deep { result ≡ Err InsertFault.TreeTooDeep
@@ -176,12 +181,12 @@ pub fn make_storage(
     }
 }
 
-/// Makes the block of a contiguous array, each cell of which is the fill.
+/// Makes the block of a contiguous array, each cell of which is the fill, and gives its address.
 fn make_block(
     image: &mut Image,
     messages: &Messages,
     cells: &CellsToFill,
-) -> Result<(), InsertFault>
+) -> Result<u64, InsertFault>
     requires array { IsArrayApart image.old messages.now }
     requires none { (described_in image.old.bytes messages.now).layout ≡ InBlock None }
     requires fixed { cells.now.fixed ≡ (described_in image.old.bytes messages.now).fixed }
@@ -190,6 +195,8 @@ fn make_block(
     requires count { cells.now.count ≡ cells_of (described_in image.old.bytes messages.now).sizes }
     ensures made { OnOk result ((slab : Slab)
         → IsStorageMade image.old image.new messages.now slab missing.Block) }
+    ensures placed { IfOk result (λ at.
+        IsMadeAt image.new.bytes (described_in image.new.bytes messages.now) missing.Block at) }
     ensures spends { OnOk result (length_of image.new.bytes ≤ length_of image.old.bytes
         + cells.now.count * cells.now.fixed.size) }
     ensures space { IfErr result (λ fault. (f : FaultOfSpace) × (fault ≡ InsertFault.Space f)) }
@@ -207,16 +214,17 @@ fn make_block(
     let at = image.take(length);
     fill_taken(image, cells, at, end);
     set_block(image, messages, at, length);
-    Ok(())
+    Ok(at)
 }
 
-/// Makes chunks of an array, each cell of which is the fill, and a tree for them where there is none.
+/// Makes chunks of an array, each cell of which is the fill, and a tree for them where there is none. Gives the address of the
+/// first chunk.
 fn make_chunks(
     image: &mut Image,
     messages: &Messages,
     chunks: &ChunkedArray,
     new: &ChunkList,
-) -> Result<(), InsertFault>
+) -> Result<u64, InsertFault>
     requires array { IsArrayApart image.old messages.now }
     requires chunks { IsInChunksOf (described_in image.old.bytes messages.now) chunks.now }
     requires missing { (slab : Slab) × AreMissing image.old.bytes
@@ -224,6 +232,9 @@ fn make_chunks(
     ensures made { OnOk result ((slab : Slab) → AreMissing image.old.bytes
         (described_in image.old.bytes messages.now) chunks.now.chunk slab new.now
         → IsStorageMade image.old image.new messages.now slab (missing.Chunks chunks.now new.now)) }
+    ensures placed { IfOk result (λ at. 0 < length_of new.now.offsets
+        → IsMadeAt image.new.bytes (described_in image.new.bytes messages.now)
+        (missing.Chunks chunks.now new.now) at) }
     ensures spends { OnOk result (length_of image.new.bytes ≤ length_of image.old.bytes
         + storage_bytes image.old.bytes (described_in image.old.bytes messages.now)
         (missing.Chunks chunks.now new.now)) }
@@ -272,7 +283,7 @@ fn is_first_full(image: &Image, shape: &ChunkShape<'_>, root: u64, new: &ChunkLi
     !new.is_empty() && is_full_at(image, shape, root, new.key(0))
 }
 
-/// Makes chunks in the tree at this root. `bytes` is the room that they may take.
+/// Makes chunks in the tree at this root, and gives the address of the first. `bytes` is the room that they may take.
 fn add_chunks(
     image: &mut Image,
     shape: &ChunkShape<'_>,
@@ -280,7 +291,7 @@ fn add_chunks(
     bytes: u64,
     new: &ChunkList,
     cells: &CellsToFill,
-) -> Result<(), InsertFault>
+) -> Result<u64, InsertFault>
     requires chunks { AreChunksApart image.old shape.now root }
     requires storable { CanBeStored shape.now }
     requires cells { FillsChunk cells.now.fixed cells.now.fill cells.now.count shape.now }
@@ -289,6 +300,8 @@ fn add_chunks(
         (2 ^ 64 - 1) }
     ensures stored { OnOk result (HasFilledChunks image.old image.new shape.now root
         (cells_of_fill cells.now.fixed cells.now.fill cells.now.count) new.now.offsets) }
+    ensures first { IfOk result (λ at. 0 < length_of new.now.offsets
+        → get (chunks_told image.new.bytes shape.now root) (slice_index_or new.now.offsets 0 []) ≡ Some at) }
     ensures spends { OnOk result (length_of image.new.bytes ≤ length_of image.old.bytes
         + chunks_room image.old.bytes shape.now (length_of new.now.offsets)) }
     ensures deep { result ≡ Err InsertFault.TreeTooDeep
@@ -313,7 +326,7 @@ fn add_chunks(
     store_all(image, shape, root, new, cells)
 }
 
-/// Makes chunks in a tree that is new. `bytes` is the room that they may take.
+/// Makes chunks in a tree that is new, and gives the address of the first. `bytes` is the room that they may take.
 fn make_tree(
     image: &mut Image,
     messages: &Messages,
@@ -321,7 +334,7 @@ fn make_tree(
     bytes: u64,
     new: &ChunkList,
     cells: &CellsToFill,
-) -> Result<(), InsertFault>
+) -> Result<u64, InsertFault>
     requires array { IsArrayApart image.old messages.now }
     requires none { (described_in image.old.bytes messages.now).layout ≡ InChunks shape.now.sizes None }
     requires shape { shape.now ≡ chunk_shape
@@ -331,7 +344,7 @@ fn make_tree(
     requires new { AreToStore empty shape.now new.now }
     requires bytes { bytes ≡ min (chunks_room image.old.bytes shape.now (length_of new.now.offsets))
         (2 ^ 64 - 1) }
-    ensures made { OnOk result (IsTreeMade image.old image.new messages.now shape.now
+    ensures made { IfOk result (IsTreeMade image.old image.new messages.now shape.now
         (cells_of_fill cells.now.fixed cells.now.fill cells.now.count) new.now.offsets) }
     ensures spends { OnOk result (length_of image.new.bytes ≤ length_of image.old.bytes
         + chunks_room image.old.bytes shape.now (length_of new.now.offsets)) }

@@ -6,7 +6,7 @@ use Rattle.h5_space.specs.Moves.{Spends}
 use Rattle.h5_space.proofs.MovesLaws.{spends_then, spends_within}
 use Rattle.h5_chunks.specs.Edited.{store_room}
 use Rattle.h5_layout.specs.Filled.{cells_of_fill}
-use Rattle.h5_layout.proofs.ChunkFilled.{filled_one, stored_fit}
+use Rattle.h5_layout.proofs.ChunkFilled.{filled_one, found_filled, stored_fit}
 use Rattle.h5_layout.proofs.FilledLaws.{fill_long}
 use Rattle.h5_layout.proofs.filled.store_filled.Goals as goal
 
@@ -28,6 +28,13 @@ returns-clause-stored c =
     let s = c.args.shape.now in
     let cells = c.args.cells.now in
     filled_one c.args.image.now c.store-at.new.image c.fill_taken.new.image s c.args.root (offsets_in (length s.sizes) c.args.key.now) c.store-at.result c.requires.absent c.store-at.ensures.stored
+    c.requires.chunks c.store-at.ensures.kept c.store-at.ensures.bushy (cells_of_fill cells.fixed cells.fill cells.count) (fill_long cells.fixed cells.fill cells.count s c.requires.cells) c.fill_taken.ensures
+
+pub returns-clause-at : goal.returns-clause-at
+returns-clause-at c =
+    let s = c.args.shape.now in
+    let cells = c.args.cells.now in
+    found_filled c.args.image.now c.store-at.new.image c.fill_taken.new.image s c.args.root (offsets_in (length s.sizes) c.args.key.now) c.store-at.result c.requires.absent c.store-at.ensures.stored
     c.requires.chunks c.store-at.ensures.kept c.store-at.ensures.bushy (cells_of_fill cells.fixed cells.fill cells.count) (fill_long cells.fixed cells.fill cells.count s c.requires.cells) c.fill_taken.ensures
 
 pub returns-clause-spends : goal.returns-clause-spends

@@ -29,7 +29,7 @@ returns-clause-deep c is =
     let root = c.args.root in
     let all = c.args.new.now.offsets in
     let same = ap (λ (x : Space). x.bytes) c.in_default.ensures.ok in
-    let turn = subst (λ (r : Result (Unit {0}) InsertFault). IfErr r (λ fault. (n : ℕ) × IsFullInTurn c.reserve.new.self.bytes s root all n)) is c.store_all.ensures.turn in
+    let turn = subst (λ (r : Result ℕ InsertFault). IfErr r (λ fault. (n : ℕ) × IsFullInTurn c.reserve.new.self.bytes s root all n)) is c.store_all.ensures.turn in
     (turn.0, subst (λ (image : List ℕ). IsFullInTurn image s root all turn.0) same turn.1)
 
 -- where one chunk at most comes in, or the root is low, the first chunk alone finds no room

@@ -1,4 +1,4 @@
-use Rattle.std.proofs.Common.{◌≡◌, ℕ, ◌+◌, ◌*◌, ◌^◌, ◌≤◌, List, ℤ, [], ◌∷◌, length, length-append, replicate, true, inl, inr, sym, ap, ◌∙◌, subst, arith}
+use Rattle.std.proofs.Common.{◌≡◌, ℕ, ◌+◌, ◌*◌, ◌^◌, ◌≤◌, List, ℤ, [], ◌∷◌, length, length-append, replicate, true, inl, inr, refl, sym, ap, ◌∙◌, subst, arith}
 use Rattle.std.proofs.Math.Nat.{mul-le-mul_right}
 use Rattle.std.proofs.lemmas.Bool.{cases_lt}
 use Rattle.std.proofs.lemmas.List.{length-replicate}
@@ -17,7 +17,7 @@ use Rattle.h5_layout.specs.Described.{Described}
 use Rattle.h5_layout.specs.Filled.{cells_of_fill}
 use Rattle.h5_layout.specs.declared.copied.CellsToFill.{CellsToFill}
 use Rattle.h5_layout.proofs.ArrayMoved.{header_stands}
-use Rattle.h5_layout.proofs.BlockMade.{IsBlockFilled, block_filled, block_long, block_made}
+use Rattle.h5_layout.proofs.BlockMade.{IsBlockFilled, block_filled, block_long, block_made, block_told}
 use Rattle.h5_layout.proofs.FilledLaws.{fill_count}
 use Rattle.h5_layout.proofs.NewTreeLaws.{block_place}
 use Rattle.h5_layout.proofs.StorableLaws.{fixed_told}
@@ -72,6 +72,15 @@ module _ (c : After-fill_taken) where
       block_filled old c.reserve.new.self c.take-at.new.self now _ _ c.in_default.ensures.ok at len c.take-at.ensures.bytes c.take-at.ensures.taken c.take-at.ensures.inside
       (cells_of_fill to.fixed to.fill to.count) long c.fill_taken.ensures
 
+  few : length old.bytes + len ≤ 2 ^ 31
+  few = elim (cases_lt (2 ^ 31) (length old.bytes + len)) [
+    | inl more ↦ absurd (c.in_default.not-Err _ (c.reserve.ensures.full.1 more))
+    | inr fits ↦ fits
+  ]
+
+  room : len ≡ cells a.sizes * a.fixed.size
+  room = (λ i. c.requires.count i * c.size.ensures.size i) ∙ ap (λ (x : Fixed). cells a.sizes * x.size) c.requires.fixed
+
 pub set_block-requires-clause-within : goal.set_block-requires-clause-within
 set_block-requires-clause-within c =
     let d = (goal.at.set_block-requires-clause-within c).After-fill_taken in
@@ -87,16 +96,19 @@ pub returns-clause-made : goal.returns-clause-made
 returns-clause-made c =
     let d = (goal.at.returns-clause-made c).After-fill_taken in
     let f = filled d in
-    let few : length (old d).bytes + len d ≤ 2 ^ 31 = elim (cases_lt (2 ^ 31) (length (old d).bytes + len d)) [
-      | inl more ↦ absurd (c.in_default.not-Err _ (c.reserve.ensures.full.1 more))
-      | inr fits ↦ fits
-    ] in
     let fixed = c.requires.fixed in
-    let room : len d ≡ cells (a d).sizes * (a d).fixed.size = (λ i. c.requires.count i * c.size.ensures.size i) ∙ ap (λ (x : Fixed). cells (a d).sizes * x.size) fixed in
-    block_made (old d) (now d) c.set_block.new.image c.args.messages.now c.requires.array c.requires.none (at d) (len d) f.inside (omega (arith, f.grown, few)) f.moves room c.set_block.ensures
+    block_made (old d) (now d) c.set_block.new.image c.args.messages.now c.requires.array c.requires.none (at d) (len d) f.inside (omega (arith, f.grown, few d)) f.moves (room d) c.set_block.ensures
     (fixed_told (messages_in (old d).bytes c.args.messages.now.list) (a d) c.requires.array.array)
     (subst (λ (x : Fixed). fits x (a d).fill ≡ true) fixed (subst (λ (v : ℤ). fits (to d).fixed v ≡ true) c.requires.fill c.requires.of_type))
     (f.there ∙ (λ i. cells_of_fill (fixed i) (c.requires.fill i) (c.requires.count i)))
+
+pub returns-clause-placed : goal.returns-clause-placed
+returns-clause-placed c =
+    let d = (goal.at.returns-clause-placed c).After-fill_taken in
+    let f = filled d in
+    let told = block_told (old d) (now d) c.set_block.new.image c.args.messages.now c.requires.array c.requires.none (at d) (len d) f.inside (omega (arith, f.grown, few d)) f.moves (room d)
+    c.set_block.ensures in
+    (block (at d) (len d), ap (λ (x : Described). x.layout) told, refl)
 
 pub returns-clause-spends : goal.returns-clause-spends
 returns-clause-spends c =

@@ -1,6 +1,7 @@
-use Rattle.std.proofs.Common.{◌≡◌, ◌↔◌, ℕ, ◌+◌, ◌*◌, ◌^◌, ◌<◌, true, List, length, Option, Some, None, sym, ap, ◌∙◌, subst}
-use Rattle.std.specs.Prelude.{Err}
-use Rattle.std.specs.FinMap.{empty}
+use Rattle.std.proofs.Common.{◌≡◌, ◌↔◌, ℕ, ◌+◌, ◌*◌, ◌^◌, ◌<◌, true, List, [], length, Option, Some, None, refl, sym, ap, ◌∙◌, subst}
+use Rattle.std.specs.Prelude.{Err, slice_index_or}
+use Rattle.std.specs.FinMap.{empty, get}
+use Rattle.std.proofs.lemmas.Result.{IfOk-weaker}
 use Rattle.h5_chunks.specs.InsertFaultType.{InsertFault}
 use Rattle.h5_space.specs.declared.image.SpaceFault.{SpaceFault}
 use Rattle.h5_header.specs.Listed.{Listed, messages_in}
@@ -19,11 +20,11 @@ use Rattle.h5_layout.specs.Filled.{AreToStore, FillsChunk, HasFilledChunks, cell
 use Rattle.h5_layout.specs.NewTrees.{IsTreeMade}
 use Rattle.h5_layout.specs.Storage.{IsDeepIn, IsFullInNewTree, IsFullInTurn, chunks_room, chunks_room_in}
 use Rattle.h5_layout.specs.declared.copied.CellsToFill.{CellsToFill}
-use Rattle.h5_layout.proofs.FilledLaws.{then_ok}
+use Rattle.h5_layout.proofs.FilledLaws.{then_at, then_ok}
 use Rattle.h5_layout.proofs.NewTreeLaws.{chunks_apart}
 use Rattle.h5_layout.proofs.RoomLaws.{is_array}
 use Rattle.h5_layout.proofs.StorableLaws.{storable_told}
-use Rattle.h5_layout.proofs.StorageMade.{chunks_made, to_store, tree_made}
+use Rattle.h5_layout.proofs.StorageMade.{added_placed, chunks_made, to_store, tree_made}
 use Rattle.h5_layout.proofs.storage.make_chunks.Goals as goal
 use Rattle.h5_layout.proofs.storage.make_chunks.Goals.{After-root}
 
@@ -123,6 +124,19 @@ returns-in-Some-clause-made c =
     chunks_made old new c.args.messages.now c.requires.array (k d).chunk root (laid d (Some root) c.in-Some.is) c.cells-cells.ensures.sound.sizes (sound d) (of_type d) c.args.new.now
     (subst (λ (bs : List ℕ). HasFilledChunks old new (form d) root bs all) (bytes d) (subst (λ (s : Shape). HasFilledChunks old new s root kept all) (shape d) filled)) slab missing (k d))
 
+pub returns-in-Some-clause-placed : goal.returns-in-Some-clause-placed
+returns-in-Some-clause-placed c =
+    let d = (goal.at.returns-in-Some-clause-placed c).After-root in
+    let old = c.args.image.now in
+    let new = c.add_chunks.new.image in
+    let root = c.in-Some.root in
+    let all = c.args.new.now.offsets in
+    let kept : List ℕ = cells_of_fill (cells_to d).fixed (cells_to d).fill (cells_to d).count in
+    then_at c.add_chunks.result c.add_chunks.ensures.stored c.add_chunks.ensures.first (λ filled at first some.
+    added_placed old new c.args.messages.now c.requires.array (a d) refl (k d).chunk root (laid d (Some root) c.in-Some.is) all
+    (subst (λ (bs : List ℕ). HasFilledChunks old new (form d) root bs all) (bytes d) (subst (λ (s : Shape). HasFilledChunks old new s root kept all) (shape d) filled))
+    (slice_index_or all 0 []) at (subst (λ (s : Shape). get (chunks_told new.bytes s root) (slice_index_or all 0 []) ≡ Some at) (shape d) (first some)))
+
 pub returns-in-Some-clause-deep : goal.returns-in-Some-clause-deep
 returns-in-Some-clause-deep c is =
     let d = (goal.at.returns-in-Some-clause-deep c).After-root in
@@ -152,10 +166,23 @@ returns-in-None-clause-made c =
     let new = c.make_tree.new.image in
     let all = c.args.new.now.offsets in
     let kept : List ℕ = cells_of_fill (cells_to d).fixed (cells_to d).fill (cells_to d).count in
-    then_ok c.make_tree.result c.make_tree.ensures.made (λ was slab missing.
-    let made = subst (λ (bs : List ℕ). IsTreeMade old new (m d) (form d) bs all) (bytes d) (subst (λ (s : Shape). IsTreeMade old new (m d) s kept all) (shape d) was) in
+    IfOk-weaker c.make_tree.result _ _ (λ at was slab missing.
+    let made = subst (λ (bs : List ℕ). IsTreeMade old new (m d) (form d) bs all at) (bytes d) (subst (λ (s : Shape). IsTreeMade old new (m d) s kept all at) (shape d) was) in
     tree_made old made.named new (m d) c.requires.array (k d).chunk made.root (laid d None c.in-None.is) made.tree c.cells-cells.ensures.sound.sizes (sound d) (of_type d) c.args.new.now
-    made.filled slab missing (k d))
+    made.filled slab missing (k d)) c.make_tree.ensures.made
+
+pub returns-in-None-clause-placed : goal.returns-in-None-clause-placed
+returns-in-None-clause-placed c =
+    let d = (goal.at.returns-in-None-clause-placed c).After-root in
+    let old = c.args.image.now in
+    let new = c.make_tree.new.image in
+    let all = c.args.new.now.offsets in
+    let kept : List ℕ = cells_of_fill (cells_to d).fixed (cells_to d).fill (cells_to d).count in
+    IfOk-weaker c.make_tree.result _ _ (λ at was some.
+    let made = subst (λ (bs : List ℕ). IsTreeMade old new (m d) (form d) bs all at) (bytes d) (subst (λ (s : Shape). IsTreeMade old new (m d) s kept all at) (shape d) was) in
+    added_placed made.named new (m d) made.tree.moved.stand (record (a d) { layout = InChunks (k d).chunk (Some made.root) }) made.tree.told (k d).chunk made.root refl all made.filled
+    (slice_index_or all 0 []) at (made.first some))
+    c.make_tree.ensures.made
 
 pub returns-in-None-clause-deep : goal.returns-in-None-clause-deep
 returns-in-None-clause-deep c is =

@@ -1,14 +1,16 @@
 use Rattle.std.proofs.Common.{ℕ, List, sym, subst}
+use Rattle.std.proofs.lemmas.Result.{IfOk-weaker}
 use Rattle.h5_model.specs.Views.Selection.{Slab}
 use Rattle.h5_layout.specs.ArrayChunks.{IsInChunksOf}
 use Rattle.h5_layout.specs.ArrayEdits.{described_in}
 use Rattle.h5_layout.specs.Described.{Described}
 use Rattle.h5_layout.specs.Lacking.{IsMissing}
 use Rattle.h5_layout.specs.NewChunks.{AreMissing}
+use Rattle.h5_layout.specs.RunStorage.{IsMadeAt}
 use Rattle.h5_layout.specs.Storage.{IsDeepFor, IsStorageMade}
 use Rattle.h5_layout.specs.declared.lacking.Missing.{Missing}
 use Rattle.h5_layout.proofs.FilledLaws.{then_ok}
-use Rattle.h5_layout.proofs.LackingLaws.{chunks_missing}
+use Rattle.h5_layout.proofs.LackingLaws.{chunks_missing, lacking_some}
 use Rattle.h5_layout.proofs.storage.make_storage.Goals as goal
 use Rattle.h5_layout.proofs.storage.make_storage.Goals.{In-Chunks}
 
@@ -44,3 +46,19 @@ pub returns-in-Chunks-clause-deep : goal.returns-in-Chunks-clause-deep
 returns-in-Chunks-clause-deep c is =
     let d = (goal.at.returns-in-Chunks-clause-deep c).In-Chunks in
     subst (λ (x : Missing). (n : ℕ) × IsDeepFor (image d) (a d) x n) (sym c.in-Chunks.is) (c.make_chunks.ensures.deep is)
+
+pub returns-in-Block-clause-placed : goal.returns-in-Block-clause-placed
+returns-in-Block-clause-placed c =
+    let new = c.make_block.new.image.bytes in
+    IfOk-weaker c.make_block.result _ _ (λ at made slab found.
+    subst (λ (x : Missing). IsMadeAt new (described_in new c.args.messages.now) x at) (sym c.in-Block.is) made) c.make_block.ensures.placed
+
+pub returns-in-Chunks-clause-placed : goal.returns-in-Chunks-clause-placed
+returns-in-Chunks-clause-placed c =
+    let d = (goal.at.returns-in-Chunks-clause-placed c).In-Chunks in
+    let new = c.make_chunks.new.image.bytes in
+    let k = c.in-Chunks.array in
+    IfOk-weaker c.make_chunks.result _ _ (λ at made slab found.
+    let own = missed d slab found.1 in
+    let some = lacking_some (image d) (a d) slab k.chunk k.root own.1.layout c.in-Chunks.new own.0 found.0 in
+    subst (λ (x : Missing). IsMadeAt new (described_in new c.args.messages.now) x at) (sym c.in-Chunks.is) (made some)) c.make_chunks.ensures.placed

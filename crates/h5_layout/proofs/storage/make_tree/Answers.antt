@@ -13,7 +13,7 @@ use Rattle.h5_chunks.specs.Told.{chunks_told}
 use Rattle.h5_layout.specs.NewTrees.{IsTreeNamed}
 use Rattle.h5_layout.specs.Storage.{HasStoredMore, IsFullInNewTree, IsFullInTurn}
 use Rattle.h5_chunks.proofs.BushyTrees.{bushy_empty, empty_level}
-use Rattle.h5_layout.proofs.FilledLaws.{never_refused, store_room_same, then_ok}
+use Rattle.h5_layout.proofs.FilledLaws.{never_refused, store_room_same, then_at, then_ok}
 use Rattle.h5_layout.proofs.RoomChanged.{named_from}
 use Rattle.h5_layout.proofs.storage.make_tree.Goals as goal
 use Rattle.h5_layout.proofs.storage.make_tree.Goals.{After-store_all}
@@ -68,12 +68,13 @@ module _ (c : After-store_all) where
 pub returns-clause-made : goal.returns-clause-made
 returns-clause-made c =
     let d = (goal.at.returns-clause-made c).After-store_all in
-    then_ok c.store_all.result c.store_all.ensures.stored (λ filled. record {
+    then_at c.store_all.result c.store_all.ensures.stored c.store_all.ensures.first (λ filled at first. record {
       named = named d;
       root = c.name_tree-root.result;
       tree = named_from c.args.image.now _ _ (named d) c.args.messages.now (s d) c.name_tree-root.result
           (subst (λ (x : Space). IsTreeNamed x (named d) c.args.messages.now (s d) c.name_tree-root.result) c.in_default.ensures.ok (tree d));
       filled = filled;
+      first = first;
     })
 
 pub returns-clause-spends : goal.returns-clause-spends
@@ -91,7 +92,7 @@ pub returns-clause-deep : goal.returns-clause-deep
 returns-clause-deep c is =
     let d = (goal.at.returns-clause-deep c).After-store_all in
     let all = c.args.new.now.offsets in
-    let turn = subst (λ (r : Result (Unit {0}) InsertFault). IfErr r (λ fault. (n : ℕ) × IsFullInTurn (named d).bytes (s d) c.name_tree-root.result all n)) is c.store_all.ensures.turn in
+    let turn = subst (λ (r : Result ℕ InsertFault). IfErr r (λ fault. (n : ℕ) × IsFullInTurn (named d).bytes (s d) c.name_tree-root.result all n)) is c.store_all.ensures.turn in
     (turn.0, in_new d all turn.0 turn.1)
 
 pub returns-clause-refused : goal.returns-clause-refused
