@@ -1,8 +1,11 @@
 -- Where the cells of a run stand, or the one block or chunk that is missing for them.
-use Rattle.std.proofs.Common.{◌≡◌, inl, inr, ℕ, ◌+◌, ◌*◌, ◌<◌, ◌≤◌, List, [], ◌∷◌, Option, Some, None, length, refl, sym, ap, ap₂, ◌∙◌, subst, arith}
-use Rattle.std.specs.Prelude.{◌&&◌, is_some, nat_lt, option_map}
-use Rattle.std.specs.FinMap.{get}
+use Rattle.std.proofs.Common.{◌≡◌, inl, inr, ℕ, ◌+◌, ◌*◌, ◌^◌, ◌<◌, ◌≤◌, List, [], ◌∷◌, Option, Some, None, length, refl, sym, ap, ap₂, ◌∙◌, subst, arith}
+use Rattle.std.specs.Prelude.{◌&&◌, is_some, nat_lt, option_map, slice_index_or}
+use Rattle.std.specs.FinMap.{get, get-empty}
+use Rattle.std.specs.Cmp.Lexicographic.{slice_cmp}
 use Rattle.std.specs.List.{range_with_len}
+use Rattle.std.specs.Ordering.{nat_cmp}
+use Rattle.std.proofs.Math.Nat.{mul-le-mul_left}
 use Rattle.std.proofs.lemmas.Option.{same_Some}
 use Rattle.h5_laws.proofs.Lists.{In, contains_in, from_range, in_contains, in_range}
 use Rattle.h5_model.specs.Format.Chunks.{Chunks}
@@ -20,17 +23,18 @@ use Rattle.h5_chunks.specs.Shapes.{AreChunkSizes}
 use Rattle.h5_shape.specs.declared.runs.CellRun.{CellRun}
 use Rattle.h5_layout.specs.ArrayChunks.{ArrayChunks, IsInChunksOf}
 use Rattle.h5_layout.specs.ChunkCells.{AreBeside, left_in_row}
-use Rattle.h5_layout.specs.Data.{chunk_shape, stored_chunks}
+use Rattle.h5_layout.specs.Data.{AreDataRead, chunk_shape, stored_chunks}
 use Rattle.h5_layout.specs.Described.{Described}
 use Rattle.h5_layout.specs.HeldChunks.{IsChunkMet}
 use Rattle.h5_layout.specs.Kept.{chunks_below_root}
 use Rattle.h5_layout.specs.Lacking.{stored_storage}
 use Rattle.h5_layout.specs.NewChunks.{AreMissing}
-use Rattle.h5_layout.specs.RunStorage.{IsRunMissing}
+use Rattle.h5_layout.specs.RunStorage.{IsMadeAt, IsRunMissing}
 use Rattle.h5_layout.specs.Standing.{IsStandingAt, address_at, address_of}
 use Rattle.h5_layout.specs.declared.lacking.Missing.{Missing}
 use Rattle.h5_layout.specs.declared.lacking.Missing.TheVariants as missing
 use Rattle.h5_layout.proofs.ChosenPlaces.{index_selected, selected_place}
+use Rattle.h5_layout.proofs.GridLaws.{chunk_inside}
 use Rattle.h5_layout.proofs.LackingLaws.{block_lacking, chunks_found}
 use Rattle.h5_layout.proofs.LocateLaws.{inner_inside, length-index, some_cells}
 use Rattle.h5_layout.proofs.KeptValues.{stored_below}
@@ -79,8 +83,9 @@ module _ (a : Described) (run : CellRun) (below : run.place + run.length ≤ cel
 
   -- ---- in a block
 
-  pub block_missing : (image : List ℕ) → a.layout ≡ InBlock None → IsRunMissing image a run missing.Block run.place
-  block_missing image laid = record {
+  pub block_missing : (image : List ℕ) → a.layout ≡ InBlock None → cells a.sizes ≤ 2 ^ 40 → a.fixed.size ≤ 8 → IsRunMissing image a run missing.Block run.place
+  block_missing image laid few wide = record {
+    small = (let eight = mul-le-mul_left run.place wide in omega (arith, below, few, eight));
     found = λ slab rank within is. block_lacking image a slab laid run.place (first_chosen slab is);
     made = λ now b at fixed sizes stored (block, there, here).
         let room : run.place + run.length ≤ cells b.sizes = subst (λ (ds : List ℕ). run.place + run.length ≤ cells ds) (sym sizes) below in
@@ -143,8 +148,9 @@ module _ (a : Described) (run : CellRun) (below : run.place + run.length ≤ cel
 
     -- so it is missing where it is not stored, and the cells of the run stand in it once it is made
     pub chunk_missing : (image : List ℕ) (root : Option ℕ) → a.layout ≡ InChunks chunk root → get (stored_chunks image a.fixed a.layout) corner ≡ None
-        → (k : ArrayChunks) → IsInChunksOf a k → (m : Missing) → m ≡ missing.Chunks k alone → IsRunMissing image a run m inner
-    chunk_missing image root laid none k of m are = subst (λ (x : Missing). IsRunMissing image a run x inner) (sym are) (record {
+        → (k : ArrayChunks) → IsInChunksOf a k → (m : Missing) → m ≡ missing.Chunks k alone → inner * a.fixed.size ≤ 2 ^ 30 → IsRunMissing image a run m inner
+    chunk_missing image root laid none k of m are few = subst (λ (x : Missing). IsRunMissing image a run x inner) (sym are) (record {
+      small = omega (arith, few);
       found = λ slab rank within is. chunks_found image a slab chunk root laid alone (row_missing slab within is image none alone refl) (omega arith) k of;
       made = λ now b at fixed sizes stored made.
           let chunked : stored_storage a.sizes (storage_of a.sizes a.layout) ≡ Chunked chunk = ap (λ (l : Layout). stored_storage a.sizes (storage_of a.sizes l)) laid in
@@ -163,3 +169,19 @@ module _ (a : Described) (run : CellRun) (below : run.place + run.length ≤ cel
         ∙ ap (option_map (λ at. at + place_of chunk (inner_of chunk index) * a.fixed.size)) (ap (get chunks) (sym corner_is) ∙ none) in
         let never : None ≡ Some at = sym nowhere ∙ there in
         cc
+
+-- ---- where what was missing stands
+
+-- it lies in the image
+pub made_inside : (image : List ℕ) (a : Described) (m : Missing) (at : ℕ) → AreDataRead image a.fixed a.layout → IsMadeAt image a m at → at ≤ length image
+made_inside image a missing.Block at read (block, laid, here) =
+    let inside : block.at + block.len ≤ length image = subst (AreDataRead image a.fixed) laid read in
+    omega (arith, inside, here)
+made_inside image a (missing.Chunks array new) at read found = in_layout a.layout read found where
+  in_layout : (l : Layout) → AreDataRead image a.fixed l → get (stored_chunks image a.fixed l) (slice_index_or new.offsets 0 []) ≡ Some at → at ≤ length image
+  in_layout (InMessage bytes) stands there = absurd (let never : None ≡ Some at = sym (get-empty (slice_cmp nat_cmp) _) ∙ there in cc)
+  in_layout (InBlock b) stands there = absurd (let never : None ≡ Some at = sym (get-empty (slice_cmp nat_cmp) _) ∙ there in cc)
+  in_layout (InChunks sizes None) stands there = absurd (let never : None ≡ Some at = sym (get-empty (slice_cmp nat_cmp) _) ∙ there in cc)
+  in_layout (InChunks sizes (Some root)) stands there =
+      let inside = chunk_inside image (chunk_shape a.fixed sizes) root stands _ at there in
+      omega (arith, inside)

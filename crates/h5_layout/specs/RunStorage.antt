@@ -1,6 +1,6 @@
 -- Where the cells of a run of an array stand one behind another, or the one block or chunk that is missing for them (File Format
 -- Specification 3.0, sections III.A.1 and IV.A.2.i).
-use Rattle.std.specs.Prelude.{◌≡◌, ℕ, ◌+◌, ◌*◌, ◌<◌, Some, List, [], length, slice_index_or}
+use Rattle.std.specs.Prelude.{◌≡◌, ℕ, ◌+◌, ◌*◌, ◌^◌, ◌<◌, ◌≤◌, Some, List, [], length, slice_index_or}
 use Rattle.std.specs.FinMap.{get}
 use Rattle.std.specs.List.{range_with_len}
 use Rattle.h5_bytes.specs.declared.Block.{Block}
@@ -28,6 +28,7 @@ IsMadeAt image a (missing.Chunks array new) at = get (stored_chunks image a.fixe
 pub record IsRunMissing (image : List ℕ) (a : Described) (run : CellRun) (missing : Missing) (inner : ℕ) : Type 0 where
   pub found : (slab : Slab) → length slab ≡ length a.sizes → Within a.sizes slab → selection_of a.sizes slab ≡ range_with_len run.place run.length
       → IsFound image a slab (Some missing)
+  pub small : inner * a.fixed.size ≤ 2 ^ 43
   pub made : (now : List ℕ) (b : Described) (at : ℕ) → b.fixed ≡ a.fixed → b.sizes ≡ a.sizes
       → storage_of b.sizes b.layout ≡ stored_storage a.sizes (storage_of a.sizes a.layout) → IsMadeAt now b missing at
       → IsStandingAt now b run.place run.length (at + inner * a.fixed.size)

@@ -15,7 +15,7 @@ use Rattle.h5_layout.specs.declared.lacking.Missing.{Missing}
 use Rattle.h5_open.specs.declared.opened.object.OpenedObject.{OpenedObject}
 use Rattle.h5_open.specs.declared.opened.object.OpenedContent.TheVariants as content
 use Rattle.h5_layout.specs.ArrayEdits.{IsArrayApart, described_in}
-use Rattle.h5_layout.specs.Lacking.{IsMissing, stored_all}
+use Rattle.h5_layout.specs.Lacking.{IsFound, IsMissing, stored_all}
 use Rattle.h5_layout.specs.RunStorage.{IsMadeAt}
 use Rattle.h5_layout.specs.Storage.{IsDeepFor, IsStorageMade, storage_bytes}
 use Rattle.h5_open.specs.ChangedInPlace.{IsChangedInPlace}
@@ -123,9 +123,12 @@ module _ (image : Space) (slots : List (Option OpenedObject)) (numbers : BTreeMa
           storage_stored image slots numbers opened number p at kind mid new slab missing (made slab lacks_here) ended end long small place
           (subst (λ (b : Described). Contains (selection_of b.sizes slab) place) is chosen)
 
-      pub made_placed : (at_place : ℕ)
-          → ((slab : Slab) → IsMissing image.bytes (described_in image.bytes p.messages) slab missing → IsMadeAt mid.bytes (described_in mid.bytes p.messages) missing at_place)
-          → (a : Described) (slab : Slab) → IsArrayThere f number a → IsMissing f.image a slab missing
-          → (b : Described) → IsArrayThere (opened_state new slots) number b → IsMadeAt new.bytes b missing at_place
-      made_placed at_place placed a slab there lacks =
-          storage_placed image slots numbers opened number p at kind mid new slab_here missing made_here ended end long small at_place (placed slab_here missing_here.1)
+      pub made_placed : (place : ℕ)
+          → ((slab : Slab) → IsFound image.bytes (described_in image.bytes p.messages) slab (Some missing) → IsMadeAt mid.bytes (described_in mid.bytes p.messages) missing place)
+          → (a : Described) (slab : Slab) → IsArrayThere f number a → IsFound f.image a slab (Some missing)
+          → (b : Described) → IsArrayThere (opened_state new slots) number b → IsMadeAt new.bytes b missing place × (place ≤ length new.bytes)
+      made_placed place placed a slab there found =
+          let is = there_is a there in
+          let found_here : IsFound image.bytes (described_in image.bytes p.messages) slab (Some missing)
+          = subst (λ (b : Described). IsFound image.bytes b slab (Some missing)) is (subst (λ (g : FileState). IsFound g.image a slab (Some missing)) (sym view) found) in
+          storage_placed image slots numbers opened number p at kind mid new slab_here missing made_here ended end long small place (placed slab found_here)

@@ -1,6 +1,6 @@
 -- An opened image in which storage was made for the cells of an array, where the array stands: it is opened as it is now, and in the tree
 -- that array alone is another.
-use Rattle.std.proofs.Common.{◌≡◌, ℕ, ◌+◌, ◌≤◌, ◌^◌, Bool, true, false, List, [], ◌∷◌, length, refl, sym, ap, ◌∙◌, subst, inl, inr, Option, Some}
+use Rattle.std.proofs.Common.{◌≡◌, ℕ, ◌+◌, ◌≤◌, ◌^◌, Bool, true, false, List, [], ◌∷◌, length, refl, sym, ap, ◌∙◌, subst, inl, inr, Option, Some, arith}
 use Rattle.std.specs.FinMap.{get}
 use Rattle.std.specs.Prelude.{not, slice_get, slice_index_or, ◌||◌}
 use Rattle.std.specs.BTreeMap.{BTreeMap}
@@ -30,6 +30,7 @@ use Rattle.h5_open.specs.declared.opened.object.OpenedContent.TheVariants as con
 use Rattle.h5_layout.specs.Lacking.{lacks_cells, stored_all, stored_storage}
 use Rattle.h5_layout.specs.RunStorage.{IsMadeAt}
 use Rattle.h5_layout.specs.Storage.{IsStorageMade}
+use Rattle.h5_layout.proofs.RunStorageLaws.{made_inside}
 use Rattle.h5_open.specs.ChangedInPlace.{IsChangedInPlace}
 use Rattle.h5_open.specs.Opened.Kept.{IsContentTidy, IsOpened}
 use Rattle.h5_open.specs.Opened.Objects.{tree_of}
@@ -143,9 +144,12 @@ module _ (old : Space) (slots : List (Option OpenedObject)) (numbers : BTreeMap 
 
     -- and the first block or chunk that was made is where it was
     pub storage_placed : (place : ℕ) → IsMadeAt mid.bytes (array_told mid_ms) missing place
-        → (b : Described) → IsArrayThere (opened_state new slots) number b → IsMadeAt new.bytes b missing place
+        → (b : Described) → IsArrayThere (opened_state new slots) number b → IsMadeAt new.bytes b missing place × (place ≤ length new.bytes)
     storage_placed place placed b there =
-        subst (λ (a : Described). IsMadeAt new.bytes a missing place) (sym (array_again b there)) (same_place missing placed) where
+        let inside = made_inside mid.bytes (array_told mid_ms) missing place made.moved.stand.read placed in (
+          subst (λ (a : Described). IsMadeAt new.bytes a missing place) (sym (array_again b there)) (same_place missing placed),
+          omega (arith, inside, long),
+        ) where
           same_place : (m : Missing) → IsMadeAt mid.bytes (array_told mid_ms) m place → IsMadeAt new.bytes (array_told mid_ms) m place
           same_place missed.Block is = is
           same_place (missed.Chunks array chunks) is = ap (λ (c : Chunks). get c (slice_index_or chunks.offsets 0 [])) chunks_are ∙ is

@@ -1,13 +1,13 @@
 //! Storage made for the cells of an array where it stands (File Format Specification 3.0, sections III.A.1 and IV.A.2.i).
 
-ghost use Rattle.std.specs.Prelude.{◌≡◌, ◌↔◌, ℕ, ◌+◌, ◌^◌, ◌<◌, ◌≤◌, Err, IfOk, OnErr, OnOk, ◌∷◌, [], length};
+ghost use Rattle.std.specs.Prelude.{◌≡◌, ◌↔◌, ℕ, ◌+◌, ◌^◌, ◌<◌, ◌≤◌, Err, IfOk, OnErr, OnOk, Some, ◌∷◌, [], length};
 ghost use Rattle.std.specs.List.{Contains};
 ghost use Rattle.h5_model.specs.Edits.Applied.{with_dataset};
 ghost use Rattle.h5_model.specs.Tree.Objects.{with_object};
 ghost use Rattle.h5_model.specs.Views.Selection.{Slab, selection_of};
 ghost use Rattle.h5_layout.specs.Described.{Described};
 ghost use Rattle.h5_layout.specs.ArrayEdits.{IsArrayApart, described_in};
-ghost use Rattle.h5_layout.specs.Lacking.{IsMissing, stored_all};
+ghost use Rattle.h5_layout.specs.Lacking.{IsFound, IsMissing, stored_all};
 ghost use Rattle.h5_layout.specs.RunStorage.{IsMadeAt};
 ghost use Rattle.h5_layout.specs.Storage.{IsDeepFor, IsStorageMade, storage_bytes};
 ghost use Rattle.h5_open.specs.ChangedInPlace.{IsChangedInPlace};
@@ -56,8 +56,9 @@ impl Opened {
             → IsMissing self.old.image a slab missing.now
             → (place : ℕ) → Contains (selection_of a.sizes slab) place → IsCellStored self.new number place) }
         ensures placed { IfOk result (λ at. (a : Described) (slab : Slab) → IsArrayThere self.old number a
-            → IsMissing self.old.image a slab missing.now
-            → (b : Described) → IsArrayThere self.new number b → IsMadeAt self.new.image b missing.now at) }
+            → IsFound self.old.image a slab (Some missing.now)
+            → (b : Described) → IsArrayThere self.new number b
+            → IsMadeAt self.new.image b missing.now at × (at ≤ length self.new.image)) }
         ensures deep { (a : Described) → IsArrayThere self.old number a
             → result ≡ Err InsertFault.TreeTooDeep
             → (n : ℕ) × IsDeepFor self.old.image a missing.now n }
@@ -99,7 +100,7 @@ fn make_all_or_none(
         → IsMissing image.old.bytes (described_in image.old.bytes messages.now) slab missing.now
         → IsStorageMade image.old image.new messages.now slab missing.now) }
     ensures placed { IfOk result (λ at. (slab : Slab)
-        → IsMissing image.old.bytes (described_in image.old.bytes messages.now) slab missing.now
+        → IsFound image.old.bytes (described_in image.old.bytes messages.now) slab (Some missing.now)
         → IsMadeAt image.new.bytes (described_in image.new.bytes messages.now) missing.now at) }
     ensures spends { OnOk result (length image.new.bytes ≤ length image.old.bytes
         + storage_bytes image.old.bytes (described_in image.old.bytes messages.now) missing.now) }

@@ -1,8 +1,10 @@
-use Rattle.std.proofs.Common.{ℕ, ◌+◌, ◌*◌, sym, ap, ◌∙◌}
+use Rattle.std.proofs.Common.{ℕ, ◌+◌, ◌*◌, sym, ap, arith, ◌∙◌}
 use Rattle.std.specs.Prelude.{Ok}
 use Rattle.h5_model.specs.Format.Fixed.{Fixed}
 use Rattle.h5_model.specs.Format.Layout.{InBlock}
+use Rattle.h5_model.proofs.PlainValues.{size-high}
 use Rattle.h5_msg.specs.Layouts.{layout_in}
+use Rattle.h5_shape.proofs.Products.{cells_le}
 use Rattle.h5_layout.specs.Described.{Described}
 use Rattle.h5_layout.specs.Standing.{IsStandingAt}
 use Rattle.h5_layout.specs.declared.stored_run.RunStorage.TheVariants as storage
@@ -15,7 +17,11 @@ pub returns-in_default-clause-storage : goal.returns-in_default-clause-storage
 returns-in_default-clause-storage c =
     let a : Described = c.args.array.now in
     let laid = sym c.layout.ensures.layout ∙ ap layout_in c.in-Contiguous.is ∙ ap InBlock c.in_default.is in
-    block_missing a c.args.run c.requires.below c.requires.some c.args.image.now.bytes laid
+    let small = c.layout.ensures.sound.small in
+    let le = cells_le a.sizes in
+    let size = c.size-size.ensures.size ∙ ap (λ (t : Fixed). t.size) c.fixed.ensures in
+    let high = size-high c.fixed.result c.size-size.ensures.one_of in
+    block_missing a c.args.run c.requires.below c.requires.some c.args.image.now.bytes laid (omega (arith, small, le)) (omega (arith, c.size-size.ensures.size, size, high))
 
 -- the cells stand in the block
 module _ (c : In-Some) where

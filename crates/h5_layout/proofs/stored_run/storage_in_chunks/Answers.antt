@@ -118,6 +118,7 @@ returns-clause-storage c =
     let alone = c.in_ok-new.ensures ∙ ap (λ (s : Shape). record { rank = length s.sizes; bytes = s.bytes; offsets = corner d ∷ [] }) shape in
     chunk_missing (a d) c.args.run c.requires.below c.requires.some (k d).chunk (corner d) (corner_is d) (inner d) (inner_is d) c.locate-row.result.length (omega arith) (beside d)
     c.args.image.now.bytes (k d).root (of d).layout (found e None c.in_default.is) (k d) (of d) _ (ap (missing.Chunks (k d)) alone)
+    (let small = c.of-chunks.ensures.sound.small in omega (arith, small, low d (a d).fixed.size (ap (λ (t : Fixed). t.size) (sym (of d).fixed))))
 
 pub returns-clause-one : goal.returns-clause-one
 returns-clause-one c at one there =

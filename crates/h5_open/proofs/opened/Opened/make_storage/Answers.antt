@@ -59,41 +59,41 @@ make_all_or_none-requires-clause-missing c =
 
 -- ---- refused
 
-pub returns-in_err-make_all_or_none-clause-sound : goal.returns-in_err-make_all_or_none-clause-sound
-returns-in_err-make_all_or_none-clause-sound c =
+pub returns-in_err-at-clause-sound : goal.returns-in_err-at-clause-sound
+returns-in_err-at-clause-sound c =
     let opened : IsOpened c.make_all_or_none.new.image c.self.inside.index.objects.items c.self.inside.index.numbers
-    = subst (λ (s : Space). IsOpened s c.self.inside.index.objects.items c.self.inside.index.numbers) (sym c.in_err-make_all_or_none.ensures.refused) c.self.invariant in
+    = subst (λ (s : Space). IsOpened s c.self.inside.index.objects.items c.self.inside.index.numbers) (sym c.in_err-at.ensures.refused) c.self.invariant in
     sound c.make_all_or_none.new.image c.self.inside.index.objects.items c.self.inside.index.numbers opened
 
-pub returns-in_err-make_all_or_none-clause-deep : goal.returns-in_err-make_all_or_none-clause-deep
-returns-in_err-make_all_or_none-clause-deep c a is =
+pub returns-in_err-at-clause-deep : goal.returns-in_err-at-clause-deep
+returns-in_err-at-clause-deep c a is =
     let answered = err_from_is_err_and c.from_residual.result c.from_residual.ensures.1 in
     let at = lent c.self.inside.image c.self.inside.index.objects.items c.self.inside.index.numbers c.self.invariant c.args.self.now c.self.view_is
     c.args.number c.args.missing.now c.requires.missing
     c.index.result.now c.index.ensures c.as_ref.result c.as_ref.ensures.value c.unwrap-object.result c.unwrap-object.ensures in
     rw (answered.1, answered.2)
     (deep_said c.self.inside.image c.self.inside.index.objects.items c.self.inside.index.numbers c.self.invariant c.args.self.now c.self.view_is
-    c.args.number c.args.missing.now c.requires.missing c.unwrap-object.result.now at _ c.in_err-make_all_or_none.ensures.deep a is)
+    c.args.number c.args.missing.now c.requires.missing c.unwrap-object.result.now at _ c.in_err-at.ensures.deep a is)
 
-pub returns-in_err-make_all_or_none-clause-deep_first : goal.returns-in_err-make_all_or_none-clause-deep_first
-returns-in_err-make_all_or_none-clause-deep_first c a is =
+pub returns-in_err-at-clause-deep_first : goal.returns-in_err-at-clause-deep_first
+returns-in_err-at-clause-deep_first c a is =
     let answered = err_from_is_err_and c.from_residual.result c.from_residual.ensures.1 in
     let at = lent c.self.inside.image c.self.inside.index.objects.items c.self.inside.index.numbers c.self.invariant c.args.self.now c.self.view_is
     c.args.number c.args.missing.now c.requires.missing
     c.index.result.now c.index.ensures c.as_ref.result c.as_ref.ensures.value c.unwrap-object.result c.unwrap-object.ensures in
     rw (answered.1, answered.2)
     (deep_first_said c.self.inside.image c.self.inside.index.objects.items c.self.inside.index.numbers c.self.invariant c.args.self.now c.self.view_is
-    c.args.number c.args.missing.now c.requires.missing c.unwrap-object.result.now at _ c.in_err-make_all_or_none.ensures.deep_first a is)
+    c.args.number c.args.missing.now c.requires.missing c.unwrap-object.result.now at _ c.in_err-at.ensures.deep_first a is)
 
-pub returns-in_err-make_all_or_none-clause-full : goal.returns-in_err-make_all_or_none-clause-full
-returns-in_err-make_all_or_none-clause-full c a is =
+pub returns-in_err-at-clause-full : goal.returns-in_err-at-clause-full
+returns-in_err-at-clause-full c a is =
     let answered = err_from_is_err_and c.from_residual.result c.from_residual.ensures.1 in
     let at = lent c.self.inside.image c.self.inside.index.objects.items c.self.inside.index.numbers c.self.invariant c.args.self.now c.self.view_is
     c.args.number c.args.missing.now c.requires.missing
     c.index.result.now c.index.ensures c.as_ref.result c.as_ref.ensures.value c.unwrap-object.result c.unwrap-object.ensures in
     rw (answered.1, answered.2)
     (full_said c.self.inside.image c.self.inside.index.objects.items c.self.inside.index.numbers c.self.invariant c.args.self.now c.self.view_is
-    c.args.number c.args.missing.now c.requires.missing c.unwrap-object.result.now at _ c.in_err-make_all_or_none.ensures.full a is)
+    c.args.number c.args.missing.now c.requires.missing c.unwrap-object.result.now at _ c.in_err-at.ensures.full a is)
 
 -- ---- made
 
@@ -103,7 +103,7 @@ write_end-requires-clause-superblock c =
     c.args.number c.args.missing.now c.requires.missing
     c.index.result.now c.index.ensures c.as_ref.result c.as_ref.ensures.value c.unwrap-object.result c.unwrap-object.ensures in
     superblock_there c.self.inside.image c.self.inside.index.objects.items c.self.inside.index.numbers c.self.invariant c.args.self.now c.self.view_is
-    c.args.number c.args.missing.now c.requires.missing c.unwrap-object.result.now at c.make_all_or_none.new.image c.in_ok-make_all_or_none.ensures.made
+    c.args.number c.args.missing.now c.requires.missing c.unwrap-object.result.now at c.make_all_or_none.new.image c.in_ok-at.ensures.made
 
 at_end : (c : After-write_end) → slice_get c.self.inside.index.objects.items c.args.number ≡ Some (Some c.unwrap-object.result.now)
 at_end c = lent c.self.inside.image c.self.inside.index.objects.items c.self.inside.index.numbers c.self.invariant c.args.self.now c.self.view_is
@@ -113,12 +113,12 @@ at_end c = lent c.self.inside.image c.self.inside.index.objects.items c.self.ins
 fits : (c : After-write_end) → length c.self.inside.image.bytes
     + storage_bytes c.self.inside.image.bytes (described_in c.self.inside.image.bytes c.unwrap-object.result.now.messages) c.args.missing.now ≤ 2 ^ 31
 fits c =
-    let e = c.in_ok-make_all_or_none.ensures in
+    let e = c.in_ok-at.ensures in
     fits_by _ _ _ _ (λ deep. no_fault _ _ (e.deep_first deep)) (no_fault _ _) ((λ deep. deep), (λ deep. deep)) e.full
 
 opened_now : (c : After-write_end) → IsOpened c.write_end.new.image c.self.inside.index.objects.items c.self.inside.index.numbers
 opened_now c =
-    let e = c.in_ok-make_all_or_none.ensures in
+    let e = c.in_ok-at.ensures in
     let t = c.write_end.ensures in
     made_opened c.self.inside.image c.self.inside.index.objects.items c.self.inside.index.numbers c.self.invariant c.args.self.now c.self.view_is
     c.args.number c.args.missing.now c.requires.missing c.unwrap-object.result.now (at_end c)
@@ -129,7 +129,7 @@ invariant_of-self-2 c = opened_now c
 
 pub returns-clause-changed : goal.returns-clause-changed
 returns-clause-changed c =
-    let e = c.in_ok-make_all_or_none.ensures in
+    let e = c.in_ok-at.ensures in
     let t = c.write_end.ensures in
     made_changed c.self.inside.image c.self.inside.index.objects.items c.self.inside.index.numbers c.self.invariant c.args.self.now c.self.view_is
     c.args.number c.args.missing.now c.requires.missing c.unwrap-object.result.now (at_end c)
@@ -140,7 +140,7 @@ returns-clause-sound c = sound c.write_end.new.image c.self.inside.index.objects
 
 pub returns-clause-stored : goal.returns-clause-stored
 returns-clause-stored c =
-    let e = c.in_ok-make_all_or_none.ensures in
+    let e = c.in_ok-at.ensures in
     let t = c.write_end.ensures in
     made_stored c.self.inside.image c.self.inside.index.objects.items c.self.inside.index.numbers c.self.invariant c.args.self.now c.self.view_is
     c.args.number c.args.missing.now c.requires.missing c.unwrap-object.result.now (at_end c)
@@ -148,7 +148,7 @@ returns-clause-stored c =
 
 pub returns-clause-placed : goal.returns-clause-placed
 returns-clause-placed c =
-    let e = c.in_ok-make_all_or_none.ensures in
+    let e = c.in_ok-at.ensures in
     let t = c.write_end.ensures in
     made_placed c.self.inside.image c.self.inside.index.objects.items c.self.inside.index.numbers c.self.invariant c.args.self.now c.self.view_is
     c.args.number c.args.missing.now c.requires.missing c.unwrap-object.result.now (at_end c)
@@ -157,9 +157,9 @@ returns-clause-placed c =
 pub returns-clause-deep_first : goal.returns-clause-deep_first
 returns-clause-deep_first c =
     deep_first_said c.self.inside.image c.self.inside.index.objects.items c.self.inside.index.numbers c.self.invariant c.args.self.now c.self.view_is
-    c.args.number c.args.missing.now c.requires.missing c.unwrap-object.result.now (at_end c) _ c.in_ok-make_all_or_none.ensures.deep_first
+    c.args.number c.args.missing.now c.requires.missing c.unwrap-object.result.now (at_end c) _ c.in_ok-at.ensures.deep_first
 
 pub returns-clause-full : goal.returns-clause-full
 returns-clause-full c =
     full_said c.self.inside.image c.self.inside.index.objects.items c.self.inside.index.numbers c.self.invariant c.args.self.now c.self.view_is
-    c.args.number c.args.missing.now c.requires.missing c.unwrap-object.result.now (at_end c) _ c.in_ok-make_all_or_none.ensures.full
+    c.args.number c.args.missing.now c.requires.missing c.unwrap-object.result.now (at_end c) _ c.in_ok-at.ensures.full

@@ -12,7 +12,7 @@ deep_in : (image copy : Space) → copy ≡ record image { room_bytes = 0; room_
     → (Deep → (n : ℕ) × IsDeepFor copy.bytes (described_in copy.bytes m) missing n) → Deep → (n : ℕ) × IsDeepFor image.bytes (described_in image.bytes m) missing n
 deep_in image copy is m missing Deep = subst (λ (s : Space). Deep → (n : ℕ) × IsDeepFor s.bytes (described_in s.bytes m) missing n) is
 
-pub returns-in_err-make_storage-clause-deep : goal.returns-in_err-make_storage-clause-deep
-returns-in_err-make_storage-clause-deep c =
-    let answered = err_from_is_err_and c.from_residual-in_err-make_storage.result c.from_residual-in_err-make_storage.ensures.1 in
-    rw (answered.1, answered.2) (deep_in c.args.image.now c.in-Ok.copy c.in-Ok.ensures c.args.messages.now c.args.missing.now _ c.in_err-make_storage.ensures.deep)
+pub returns-in_err-at-clause-deep : goal.returns-in_err-at-clause-deep
+returns-in_err-at-clause-deep c =
+    let answered = err_from_is_err_and c.from_residual-in_err-at.result c.from_residual-in_err-at.ensures.1 in
+    rw (answered.1, answered.2) (deep_in c.args.image.now c.in-Ok.copy c.in-Ok.ensures c.args.messages.now c.args.missing.now _ c.in_err-at.ensures.deep)
