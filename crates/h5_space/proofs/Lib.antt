@@ -5,7 +5,8 @@ pub mod PartLaws
 pub mod WholeLaws
 pub mod WalkLaws
 pub mod MovesLaws
-pub mod IslandLaws
+pub mod IndexedLaws
+pub mod PlaceOrder
 pub mod Unheld
 pub mod Signed
 pub mod Steps

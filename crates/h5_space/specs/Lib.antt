@@ -5,4 +5,4 @@ pub mod Whole
 pub mod Moves
 pub mod Claimed
 pub mod Walk
-pub mod Islands
+pub mod Indexed

@@ -1,10 +1,8 @@
-ghost use Rattle.std.specs.Prelude.{◌≡◌, ℕ, ◌+◌, ◌<◌, ◌≤◌, ◌^◌, [], ◌↔◌, OnOk, OnErr, IsOk, Err, IfSome, IfNone, IsSome, Some, None, length};
-ghost use Rattle.std.specs.BTreeMap.{get, insert_entry, Updates, IsOrdered};
-ghost use Rattle.std.specs.Ordering.{nat_cmp};
-ghost use Rattle.h5_bytes.specs.Blocks.{holds, cover, Separate};
+ghost use Rattle.std.specs.Prelude.{◌≡◌, ℕ, ◌+◌, ◌<◌, ◌≤◌, ◌^◌, [], ◌∷◌, ◌++◌, ◌↔◌, OnOk, OnErr, IsOk, Err, IfErr, IfSome, IfNone, length};
+ghost use Rattle.std.specs.List.{All};
+ghost use Rattle.h5_bytes.specs.Blocks.{block, holds, cover, Separate};
 ghost use Rattle.h5_space.specs.Claimed.{Shares};
-ghost use Rattle.h5_bytes.specs.declared.Block.{Block};
-ghost use Rattle.h5_space.specs.Islands.{IsIslands, IsLastBlock, blocks_of, length_at};
+ghost use Rattle.h5_space.specs.Indexed.{IsLastBefore};
 
 use crate::image::Image;
 use h5_bytes::Block;
@@ -25,13 +23,15 @@ pub enum ClaimFault {
 
 /// The blocks that were claimed, all of them below an end. No two of them share a byte.
 ///
-/// Only which bytes they hold counts, so a claimed block grows where another one is claimed at its end. A claim takes
-/// time logarithmic in their number, in whatever order they come.
+/// Only which bytes they hold counts, so a claimed block grows where another one is claimed at its end. A claim
+/// searches them twice at most, in whatever order they come, and once where a block grows.
 #[derive(Drop)]
 pub struct Claims {
     end: u64,
-    // From the place of a block to its length.
-    held: BTreeMap<u64, u64>,
+    // In the order in which they were begun.
+    held: Vec<Block>,
+    // From the place of a block to its index. A block that grows keeps both, so nothing is written here for it.
+    places: BTreeMap<u64, usize>,
 }
 
 impl Model for Claims {
@@ -39,11 +39,11 @@ impl Model for Claims {
 
     ghost Value = { Claimed };
 
-    ghost use Rattle.h5_space.specs.Islands.{IsIslands, blocks_of};
+    ghost use Rattle.h5_space.specs.Indexed.{IsIndexed};
 
-    ghost view = { λ s. record { end = s.end; held = blocks_of s.held.entries } };
+    ghost view = { λ s. record { end = s.end; held = s.held.items } };
 
-    ghost invariant = { λ s. IsIslands s.held s.end };
+    ghost invariant = { λ s. IsIndexed s.held.items s.places s.end };
 }
 
 impl Claims {
@@ -53,7 +53,8 @@ impl Claims {
     {
         Claims {
             end,
-            held: BTreeMap::new(alloc),
+            held: Vec::new(alloc),
+            places: BTreeMap::new(alloc),
         }
     }
 
@@ -85,26 +86,23 @@ impl Claims {
         if len == 0 {
             return Ok(());
         }
-        // Blocks mostly come in ascending order, one just behind another.
-        let last = last_block(&self.held);
-        if let Some(last) = last
-            && last.at + last.len == at
-        {
-            set_last(&mut self.held, last.len + len);
-            return Ok(());
+        if let Some(index) = self.last_before(at + len) {
+            let before = self.held[index];
+            let end = before.at + before.len;
+            if end > at {
+                return Err(ClaimFault::Overlap);
+            }
+            if end == at {
+                // The block before grows in its place, which takes no memory.
+                self.held[index].len += len;
+                return Ok(());
+            }
         }
-        let Some(island) = island_of(&self.held, last, at, len) else {
-            return Err(ClaimFault::Overlap);
-        };
-        // Where a block ends at `at`, it grows in its place, which takes no memory.
-        if self.held.insert(island.at, island.len).is_err() {
-            return Err(ClaimFault::NoMemory);
-        }
-        Ok(())
+        self.begin(at, len)
     }
 
-    /// In how many blocks the claimed bytes stand, where one that was claimed at the end of another counts as one with
-    /// it. Takes no memory.
+    /// In how many blocks the claimed bytes are kept: as many as `give_all` uses of the reserved room. Blocks that were
+    /// claimed one behind another may count as one. Takes no memory.
     pub fn len(&self) -> u64
         ensures count { result ≡ length self.now.held }
         ensures small { result < 2 ^ 63 }
@@ -126,79 +124,49 @@ impl Claims {
         ensures room_bytes { image.new.room_bytes ≡ image.old.room_bytes }
         ensures room_blocks { image.new.room_blocks + length self.now.held ≡ image.old.room_blocks }
     {
-        for (at, len) in self.held.iter() {
-            image.give(*at, *len);
+        // In ascending order, so that no block moves those that were given before it.
+        for index in self.places.values() {
+            let block = self.held[*index];
+            image.give(block.at, block.len);
         }
     }
-}
 
-/// The block that these bytes make with the one that ends where they begin, where there is such; `None` where one of
-/// the bytes is held already.
-fn island_of(held: &BTreeMap<u64, u64>, last: Option<Block>, at: u64, len: u64) -> Option<Block>
-    requires last { IfSome last (IsLastBlock held.now) }
-    requires filled { 0 < len }
-    requires islands { (end : ℕ) × (end < 2 ^ 64) × (at + len ≤ end) × IsIslands held.now end }
-    ensures shared { IfNone result (Shares (blocks_of held.now.entries) at len) }
-    ensures apart { IfSome result (λ b. (p : ℕ)
-        → cover p (blocks_of held.now.entries) + holds p at len ≤ 1) }
-    ensures ends { IfSome result (λ b. (b.at ≤ at) × (b.at + b.len ≡ at + len)) }
-    ensures joined { IfSome result (λ b. (p : ℕ)
-        → holds p b.at b.len ≡ holds p b.at (length_at held.now b.at) + holds p at len) }
-{
-    let alone = Block { at, len };
-    let Some(before) = block_before(held, last, at + len) else {
-        return Some(alone);
-    };
-    let end = before.at + before.len;
-    if end > at {
-        None
-    } else if end == at {
-        Some(Block {
-            at: before.at,
-            len: before.len + len,
-        })
-    } else {
-        Some(alone)
-    }
-}
-
-/// The last block that begins before `past`.
-fn block_before(held: &BTreeMap<u64, u64>, last: Option<Block>, past: u64) -> Option<Block>
-    requires last { IfSome last (IsLastBlock held.now) }
-    ensures found { IfSome result
-        (λ b. (b.at < past) × (get nat_cmp held.now b.at ≡ Some b.len)) }
-    ensures last { IfSome result
-        (λ b. (k : ℕ) → k < past → IsSome (get nat_cmp held.now k) → k ≤ b.at) }
-    ensures none { IfNone result ((k : ℕ) → k < past → get nat_cmp held.now k ≡ None) }
-{
-    // No block begins behind the last one.
-    if let Some(last) = last
-        && last.at < past
+    /// The index of the last block that begins before `place`. Where bytes end at `place`, the blocks that begin behind
+    /// it share none of them, and of the others none ends behind this one.
+    fn last_before(&self, place: u64) -> Option<usize>
+        ensures found { IfSome result (IsLastBefore self.now.held place) }
+        ensures none { IfNone result (All (λ b. place ≤ b.at) self.now.held) }
     {
-        return Some(last);
+        // Blocks mostly come in ascending order, and the last of all is found without a search.
+        if let Some((&last, &index)) = self.places.last_key_value()
+            && last < place
+        {
+            return Some(index);
+        }
+        let (_, &index) = self.places.range(..place).next_back()?;
+        Some(index)
     }
-    let (&at, &len) = held.range(..past).next_back()?;
-    Some(Block { at, len })
-}
 
-/// The last block; `None` where nothing is held.
-fn last_block(held: &BTreeMap<u64, u64>) -> Option<Block>
-    ensures some { IsSome result ↔ (0 < length held.now.entries) }
-    ensures last { IfSome result (IsLastBlock held.now) }
-{
-    let (&at, &len) = held.last_key_value()?;
-    Some(Block { at, len })
-}
-
-/// Gives the last block another length. Takes no memory.
-fn set_last(held: &mut BTreeMap<u64, u64>, len: u64)
-    ensures updates { (last : Block) → IsLastBlock held.old last
-        → Updates nat_cmp held.old held.new last.at (Some len) }
-    ensures entries { (last : Block) → IsLastBlock held.old last
-        → held.new.entries ≡ insert_entry nat_cmp held.old.entries last.at len }
-    ensures ordered { (last : Block) → IsLastBlock held.old last → IsOrdered nat_cmp held.new }
-{
-    if let Some(mut last) = held.last_entry() {
-        last.insert(len);
+    /// Keeps bytes that are not claimed as a block of their own. A refusal changes nothing.
+    fn begin(&mut self, at: u64, len: u64) -> Result<(), ClaimFault>
+        requires filled { 0 < len }
+        requires inside { at + len ≤ self.old.end }
+        requires free { (p : ℕ) → cover p self.old.held + holds p at len ≤ 1 }
+        ensures begun { OnOk result ((p : ℕ)
+            → cover p self.new.held ≡ cover p self.old.held + holds p at len) }
+        ensures separate { Separate self.new.held }
+        ensures end { self.new.end ≡ self.old.end }
+        ensures refused { IfErr result (λ fault. fault ≡ ClaimFault.NoMemory) }
+        ensures err { OnErr result (self.new ≡ self.old) }
+    {
+        // The room comes first, so that no place without its block stays in the map where memory is refused.
+        if self.held.reserve(1).is_err() {
+            return Err(ClaimFault::NoMemory);
+        }
+        if self.places.insert(at, self.held.len()).is_err() {
+            return Err(ClaimFault::NoMemory);
+        }
+        self.held.push_reserved(Block { at, len });
+        Ok(())
     }
 }

@@ -1,29 +1,28 @@
-use Rattle.std.proofs.Common.{◌≡◌, ℕ, ◌+◌, ◌≤◌, List, is_ok, not, true, true≢false, Result, Ok, Err, ap, sym, ◌∙◌, arith}
-use Rattle.std.specs.Result.{OnOk}
-use Rattle.h5_bytes.specs.Blocks.{holds, cover}
+use Rattle.std.proofs.Common.{◌≡◌, ℕ, ◌+◌, ◌≤◌, ◌<◌, List, length, is_ok, get_or, set, true≢false, Result, Ok, Err, refl, ap, sym, ◌∙◌, subst, arith}
+use Rattle.std.specs.List.{All}
+use Rattle.std.specs.Result.{IfErr}
+use Rattle.std.proofs.lemmas.List.{get_or_default}
+use Rattle.h5_bytes.specs.Blocks.{block, holds, cover}
+use Rattle.h5_bytes.specs.declared.Block.{Block}
 use Rattle.h5_bytes.proofs.BlockLaws.{holds_none, holds-le}
-use Rattle.h5_space.specs.Claimed.{Claimed}
-use Rattle.h5_space.specs.Islands.{blocks_of}
-use Rattle.h5_space.proofs.IslandLaws.{inside_end, apart_behind, claimed_behind, islands_behind, claimed, islands}
+use Rattle.h5_space.specs.Claimed.{Claimed, Shares}
+use Rattle.h5_space.specs.Indexed.{IsLastBefore}
+use Rattle.h5_space.specs.declared.claims.ClaimFault.{ClaimFault}
+use Rattle.h5_space.specs.declared.claims.ClaimFault.TheVariants.{Overlap, NoMemory}
+use Rattle.h5_space.proofs.IndexedLaws.{inside_end, shares, apart_from_last, apart_from_all, none_shared, cover-grown, grown}
 use Rattle.h5_space.proofs.claims.Claims.claim.Goals as goal
-use Rattle.h5_space.proofs.claims.Claims.claim.Goals.{After-set_last, After-insert}
+use Rattle.h5_space.proofs.claims.Claims.claim.Goals.{After-last_before, After-index_mut, in-Some+else-end-at+else-end-at-2, in_default}
 
-on_ok : {T E P : Type 0} (r : Result T E) → is_ok r ≡ true → OnOk r P → P
-on_ok (Ok v) is fact = fact
-on_ok (Err e) is fact = absurd (true≢false (sym is))
-
--- what is claimed is claimed once
-once : (s : Claimed) (es : List (ℕ × ℕ)) (end : ℕ) → blocks_of es ≡ s.held → ((p : ℕ) → cover p (blocks_of es) ≤ holds p 0 end) → (p : ℕ) → cover p s.held ≤ 1
-once s es end is all p = rw (← is) (omega (arith, all p, holds-le p 0 end))
+-- ---- where nothing is claimed
 
 pub returns-then-at-self-clause-separate : goal.returns-then-at-self-clause-separate
-returns-then-at-self-clause-separate c = once c.args.self.now c.self.inside.held.entries c.self.inside.end (ap (λ (s : Claimed). s.held) c.self.view_is) c.self.invariant.once
+returns-then-at-self-clause-separate c p = let same = ap (λ (s : Claimed). cover p s.held) c.self.view_is in omega (arith, same, c.self.invariant.once p, holds-le p 0 c.self.inside.end)
 
 pub returns-then-len-eq0-clause-separate : goal.returns-then-len-eq0-clause-separate
-returns-then-len-eq0-clause-separate c = once c.args.self.now c.self.inside.held.entries c.self.inside.end (ap (λ (s : Claimed). s.held) c.self.view_is) c.self.invariant.once
+returns-then-len-eq0-clause-separate c p = let same = ap (λ (s : Claimed). cover p s.held) c.self.view_is in omega (arith, same, c.self.invariant.once p, holds-le p 0 c.self.inside.end)
 
-pub returns-in_default-clause-separate : goal.returns-in_default-clause-separate
-returns-in_default-clause-separate c = once c.args.self.now c.self.inside.held.entries c.self.inside.end (ap (λ (s : Claimed). s.held) c.self.view_is) c.self.invariant.once
+pub returns-then-end-at-clause-separate : goal.returns-then-end-at-clause-separate
+returns-then-end-at-clause-separate c p = let same = ap (λ (s : Claimed). cover p s.held) c.self.view_is in omega (arith, same, c.self.invariant.once p, holds-le p 0 c.self.inside.end)
 
 pub returns-then-len-eq0-clause-claimed : goal.returns-then-len-eq0-clause-claimed
 returns-then-len-eq0-clause-claimed c p =
@@ -38,54 +37,111 @@ returns-then-len-eq0-clause-overlap c = (
       omega (arith, shared.1.1)),
 )
 
-pub overflow_add-last : goal.overflow_add-last
-overflow_add-last c =
-    let low = inside_end c.self.inside.held c.self.inside.end c.self.invariant c.in-Some.last.at c.in-Some.last.len c.in-Some.ensures.last.found in
+-- ---- the block before
+
+held_is : (c : After-last_before) → c.self.inside.held.items ≡ c.args.self.now.held
+held_is c = ap (λ (s : Claimed). s.held) c.self.view_is
+
+end_is : (c : After-last_before) → c.self.inside.end ≡ c.args.self.now.end
+end_is c = ap (λ (s : Claimed). s.end) c.self.view_is
+
+module _ (c : After-last_before) (i : ℕ) (b : Block) (found : IsLastBefore c.args.self.now.held (c.args.at + c.args.len) i)
+    (is : b ≡ get_or c.self.inside.held.items i b) where
+  last : IsLastBefore c.self.inside.held.items (c.args.at + c.args.len) i
+  last = subst (λ (bs : List Block). IsLastBefore bs (c.args.at + c.args.len) i) (sym (held_is c)) found
+
+  ends : b.at + b.len ≤ c.self.inside.end
+  ends = subst (λ (x : Block). x.at + x.len ≤ c.self.inside.end) (sym is) (inside_end c.self.inside.held.items c.self.inside.places c.self.inside.end c.self.invariant i b last.within)
+
+  -- where it ends by their beginning, the bytes are free
+  free : b.at + b.len ≤ c.args.at → (p : ℕ) → cover p c.self.inside.held.items + holds p c.args.at c.args.len ≤ 1
+  free low = apart_from_last c.self.inside.held.items c.self.inside.places c.self.inside.end c.self.invariant c.args.at c.args.len i b last is low
+
+-- what is free is not shared
+not_shared : (c : After-last_before) → ((p : ℕ) → cover p c.self.inside.held.items + holds p c.args.at c.args.len ≤ 1) → Shares c.args.self.now.held c.args.at c.args.len → ⊥
+not_shared c free shared = none_shared c.self.inside.held.items c.args.at c.args.len free (subst (λ (bs : List Block). Shares bs c.args.at c.args.len) (sym (held_is c)) shared)
+
+pub overflow_add-end : goal.overflow_add-end
+overflow_add-end c =
+    let low = ends (goal.at.overflow_add-end c).After-last_before c.in-Some.index c.index-before.result.now c.in-Some.ensures.found c.index-before.ensures in
     omega (arith, low)
 
--- where the last block grows
-now_behind : (c : After-set_last) → (p : ℕ) → cover p (blocks_of c.set_last.new.held.entries) ≡ cover p (blocks_of c.self.inside.held.entries) + holds p c.args.at c.args.len
-now_behind c = claimed_behind c.self.inside.held c.set_last.new.held c.self.inside.end c.in-Some.last c.args.at c.args.len c.self.invariant c.in-Some.ensures.last
-    (omega arith) (omega arith) c.if-last-at.true (c.set_last.ensures.entries c.in-Some.last c.in-Some.ensures.last) (c.set_last.ensures.updates c.in-Some.last c.in-Some.ensures.last)
+pub returns-then-end-at-clause-overlap : goal.returns-then-end-at-clause-overlap
+returns-then-end-at-clause-overlap c =
+    let before : After-last_before = (goal.at.returns-then-end-at-clause-overlap c).After-last_before in
+    let b = c.index-before.result.now in
+    let found = last before c.in-Some.index b c.in-Some.ensures.found c.index-before.ensures in
+    let inside : c.args.at + c.args.len ≤ c.args.self.now.end = omega (arith, end_is before) in
+    let low : b.at < c.args.at + c.args.len = subst (λ (x : Block). x.at < c.args.at + c.args.len) (sym c.index-before.ensures) (found.before b) in
+    let shared : Shares c.args.self.now.held c.args.at c.args.len = subst (λ (bs : List Block). Shares bs c.args.at c.args.len) (held_is before)
+    (shares c.self.inside.held.items c.self.inside.places c.self.inside.end c.self.invariant c.args.at c.args.len c.in-Some.index b (omega arith) found.within c.index-before.ensures low c.if-end-at.true) in
+    (λ e. (inside, shared), λ both. refl)
 
-apart : (c : After-set_last) → (p : ℕ) → cover p (blocks_of c.self.inside.held.entries) + holds p c.args.at c.args.len ≤ 1
-apart c = apart_behind c.self.inside.held c.set_last.new.held c.self.inside.end c.in-Some.last c.args.at c.args.len c.self.invariant c.in-Some.ensures.last
-    (omega arith) (omega arith) c.if-last-at.true
+-- ---- the block before grows
 
-pub returns-clause-claimed : goal.returns-clause-claimed
-returns-clause-claimed c p = rw (← c.self.view_is) (now_behind (goal.at.returns-clause-claimed c).After-set_last p)
+module _ (c : After-index_mut) where
+  abbrev grows : Block
+  grows = c.index_mut.result.now
 
-pub returns-clause-separate : goal.returns-clause-separate
-returns-clause-separate c p = rw (now_behind (goal.at.returns-clause-separate c).After-set_last p) (apart (goal.at.returns-clause-separate c).After-set_last p)
+  grown_within : c.in-Some.index < length c.self.inside.held.items
+  grown_within = (last (goal.at.After-index_mut c).After-last_before c.in-Some.index c.index-before.result.now c.in-Some.ensures.found c.index-before.ensures).within
 
-pub returns-clause-overlap : goal.returns-clause-overlap
-returns-clause-overlap c = (
-  λ e. absurd (true≢false (ap is_ok e)),
-  λ shared. absurd (
-      let free = apart (goal.at.returns-clause-overlap c).After-set_last shared.1.0 in
-      let same = ap (λ (s : Claimed). cover shared.1.0 s.held) c.self.view_is in
-      omega (arith, shared.1.1, shared.1.2, free, same)),
-)
+  grown_free : (p : ℕ) → cover p c.self.inside.held.items + holds p c.args.at c.args.len ≤ 1
+  grown_free = free (goal.at.After-index_mut c).After-last_before c.in-Some.index c.index-before.result.now c.in-Some.ensures.found c.index-before.ensures (omega arith)
+
+  grown_ends : grows.at + grows.len ≡ c.args.at
+  grown_ends =
+      let same = c.index-before.ensures ∙ get_or_default c.self.inside.held.items c.in-Some.index c.index-before.result.now grows grown_within ∙ sym c.index_mut.ensures.value in
+      subst (λ (b : Block). b.at + b.len ≡ c.args.at) same c.if-end-at-2.true
+
+  now_grown : (p : ℕ) → cover p (set c.self.inside.held.items c.in-Some.index (block grows.at (grows.len + c.args.len))) ≡ cover p c.self.inside.held.items + holds p c.args.at c.args.len
+  now_grown = cover-grown c.self.inside.held.items c.in-Some.index grows c.args.at c.args.len grown_within c.index_mut.ensures.value grown_ends
 
 pub invariant_of-self : goal.invariant_of-self
-invariant_of-self c = islands_behind c.self.inside.held c.set_last.new.held c.self.inside.end c.in-Some.last c.args.at c.args.len c.self.invariant c.in-Some.ensures.last
-    (omega arith) (omega arith) c.if-last-at.true (c.set_last.ensures.entries c.in-Some.last c.in-Some.ensures.last) (c.set_last.ensures.updates c.in-Some.last c.in-Some.ensures.last)
-    (c.set_last.ensures.ordered c.in-Some.last c.in-Some.ensures.last)
+invariant_of-self c =
+    let before : After-index_mut = (goal.at.invariant_of-self c).After-index_mut in
+    grown c.self.inside.held.items c.in-Some.index (grows before) c.args.at c.args.len (grown_within before) c.index_mut.ensures.value (grown_ends before)
+    c.self.inside.places c.self.inside.end c.self.invariant (omega arith) (omega arith) (grown_free before)
 
--- where a block is put in
-now : (c : After-insert) → is_ok c.insert.result ≡ true → (p : ℕ) → cover p (blocks_of c.insert.new.self.entries) ≡ cover p (blocks_of c.self.inside.held.entries) + holds p c.args.at c.args.len
-now c ok = claimed c.self.inside.held c.insert.new.self c.self.inside.end c.in-Some-island_of.island.at c.in-Some-island_of.island.len c.args.at c.args.len
-    c.self.invariant (on_ok c.insert.result ok c.insert.ensures.entries) (on_ok c.insert.result ok c.insert.ensures.updates) c.in-Some-island_of.ensures.joined
+pub returns-then-end-at-2-clause-claimed : goal.returns-then-end-at-2-clause-claimed
+returns-then-end-at-2-clause-claimed c p =
+    let before : After-index_mut = (goal.at.returns-then-end-at-2-clause-claimed c).After-index_mut in
+    let same = ap (cover p) (held_is (goal.at.returns-then-end-at-2-clause-claimed c).After-last_before) in
+    omega (arith, same, now_grown before p)
 
-pub returns-2-clause-claimed : goal.returns-2-clause-claimed
-returns-2-clause-claimed c p = rw (← c.self.view_is) (now (goal.at.returns-2-clause-claimed c).After-insert (c.is_err.ensures.negation ∙ ap not c.if-is_err.false) p)
+pub returns-then-end-at-2-clause-separate : goal.returns-then-end-at-2-clause-separate
+returns-then-end-at-2-clause-separate c p =
+    let before : After-index_mut = (goal.at.returns-then-end-at-2-clause-separate c).After-index_mut in
+    omega (arith, now_grown before p, grown_free before p)
 
-pub returns-2-clause-separate : goal.returns-2-clause-separate
-returns-2-clause-separate c p = rw (now (goal.at.returns-2-clause-separate c).After-insert (c.is_err.ensures.negation ∙ ap not c.if-is_err.false) p) (c.in-Some-island_of.ensures.apart p)
+pub returns-then-end-at-2-clause-overlap : goal.returns-then-end-at-2-clause-overlap
+returns-then-end-at-2-clause-overlap c =
+    let before : After-index_mut = (goal.at.returns-then-end-at-2-clause-overlap c).After-index_mut in
+    (λ e. absurd (true≢false (ap is_ok e)), λ both. absurd (not_shared (goal.at.returns-then-end-at-2-clause-overlap c).After-last_before (grown_free before) both.1))
 
-pub invariant_of-self-2 : goal.invariant_of-self-2
-invariant_of-self-2 c =
-    let ok = c.is_err.ensures.negation ∙ ap not c.if-is_err.false in
-    islands c.self.inside.held c.insert.new.self c.self.inside.end c.in-Some-island_of.island.at c.in-Some-island_of.island.len c.args.at c.args.len
-    c.self.invariant (on_ok c.insert.result ok c.insert.ensures.entries) (on_ok c.insert.result ok c.insert.ensures.updates) c.in-Some-island_of.ensures.joined
-    (omega arith) c.in-Some-island_of.ensures.ends.0 c.in-Some-island_of.ensures.ends.1 (omega arith) c.in-Some-island_of.ensures.apart c.insert.ensures.ordered
+-- ---- the bytes begin a block
+
+behind_free : (c : After-last_before) → All (λ (b : Block). c.args.at + c.args.len ≤ b.at) c.args.self.now.held → (p : ℕ) → cover p c.self.inside.held.items + holds p c.args.at c.args.len ≤ 1
+behind_free c behind = apart_from_all c.self.inside.held.items c.self.inside.places c.self.inside.end c.self.invariant c.args.at c.args.len
+    (subst (λ (bs : List Block). All (λ (b : Block). c.args.at + c.args.len ≤ b.at) bs) (sym (held_is c)) behind)
+
+pub begin-requires-clause-free : goal.begin-requires-clause-free
+begin-requires-clause-free c =
+    let before : After-last_before = (goal.at.begin-requires-clause-free c).After-last_before in
+    subst (λ (bs : List Block). (p : ℕ) → cover p bs + holds p c.args.at c.args.len ≤ 1) (held_is before) (elim c.match-last_before.branch [
+      | in-Some+else-end-at+else-end-at-2 w ↦ free before w.in-Some.index w.index-before.result.now w.in-Some.ensures.found w.index-before.ensures w.if-end-at.false
+      | in_default w ↦ behind_free before w.in_default.ensures.none
+    ])
+
+no_overlap : (r : Result (Unit {0}) ClaimFault) → IfErr r (λ fault. fault ≡ NoMemory) → r ≡ Err Overlap → ⊥
+no_overlap (Ok v) refused is = true≢false (ap is_ok is)
+no_overlap (Err e) refused is = cc
+
+pub returns-clause-overlap : goal.returns-clause-overlap
+returns-clause-overlap c =
+    let before : After-last_before = (goal.at.returns-clause-overlap c).After-last_before in
+    let none : (p : ℕ) → cover p c.self.inside.held.items + holds p c.args.at c.args.len ≤ 1 = elim c.match-last_before.branch [
+      | in-Some+else-end-at+else-end-at-2 w ↦ free before w.in-Some.index w.index-before.result.now w.in-Some.ensures.found w.index-before.ensures w.if-end-at.false
+      | in_default w ↦ behind_free before w.in_default.ensures.none
+    ] in
+    (λ e. absurd (no_overlap c.begin.result c.begin.ensures.refused e), λ both. absurd (not_shared before none both.1))
