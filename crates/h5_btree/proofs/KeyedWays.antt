@@ -18,10 +18,10 @@ use Rattle.h5_btree.proofs.ClimbSteps.{all_from, at_or}
 use Rattle.h5_btree.proofs.SplitSteps.{written_apart, written_others}
 
 module _ (V W : Reading) (same : KeepsRows V W) where
-  children-keyed : (n : ℕ) → (W n).children ≡ (V n).children
+  pub children-keyed : (n : ℕ) → (W n).children ≡ (V n).children
   children-keyed n = ap (λ (k : Node). k.children) (same n).1
 
-  IsWay-keyed : (m root : ℕ) (way : List Step) (a : ℕ) (front back : List ℕ) → IsWay V m root way a front back → IsWay W m root way a front back
+  pub IsWay-keyed : (m root : ℕ) (way : List Step) (a : ℕ) (front back : List ℕ) → IsWay V m root way a front back → IsWay W m root way a front back
   IsWay-keyed m root [] a front back is = is
   IsWay-keyed m root (s ∷ way) a front back (f, bk, below, rest) = (
     f,

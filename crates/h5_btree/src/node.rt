@@ -2,13 +2,13 @@
 
 ghost use Rattle.std.specs.Prelude.{◌≡◌, ◌↔◌, ◌+◌, ◌*◌, ◌<◌, ◌≤◌, ◌==◌, [], IfErr, IsOk, Some, length, slice_get, slice_index_or};
 ghost use Rattle.std.specs.List.{AllByRecursion};
-ghost use Rattle.h5_model.specs.Format.Links.{key_name, offset_in};
+ghost use Rattle.h5_model.specs.Format.Links.{offset_in};
 ghost use Rattle.h5_model.specs.Format.Nodes.{child_in, entries_in, key_in, key_place, node_length, node_of};
 ghost use Rattle.h5_btree.specs.Form.{MayBeRoot, MayStandAt};
 
 use crate::kind::NodeKind;
 use crate::read::NodeFault;
-use h5_bytes::{text_from, u16_at, u64_at};
+use h5_bytes::{u16_at, u64_at};
 use std::marker::Model;
 
 /// How many bytes stand before the first key.
@@ -101,15 +101,6 @@ impl<'a> Node<'a> {
         ensures { result ≡ offset_in (slice_index_or self.now.keys i []) }
     {
         u64_at(key_at(self.kind, self.bytes, i), 0)
-    }
-
-    /// The name that key `i` stands for, in the tree of a group: the text at the key's offset in this heap segment,
-    /// up to the first zero. It is empty where the offset passes the end.
-    pub fn key_name<'b>(&self, i: usize, segment: &'b [u8]) -> &'b [u8]
-        requires { i < length self.now.keys }
-        ensures { result.now ≡ key_name segment.now self.now i }
-    {
-        text_from(segment, self.key_offset(i))
     }
 
     /// The address of child `i`.

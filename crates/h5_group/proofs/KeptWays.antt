@@ -1,5 +1,5 @@
 -- Ways down a group's tree that stay where its heap is edited, and where keys of its nodes give way.
-use Rattle.std.proofs.Common.{◌≡◌, ℕ, suc, ◌+◌, ◌*◌, ◌^◌, ◌<◌, ◌≤◌, Bool, true, false, List, [], ◌∷◌, ◌++◌, length, map, take, drop, slice_index, refl, sym, ap, ◌∙◌, subst, arith, ◌==◌, if◌then◌else◌}
+use Rattle.std.proofs.Common.{◌≡◌, ℕ, ◌+◌, ◌*◌, ◌^◌, ◌<◌, ◌≤◌, Bool, true, false, List, [], ◌∷◌, ◌++◌, length, map, slice_index, refl, sym, ap, ◌∙◌, subst, arith, ◌==◌, if◌then◌else◌}
 use Rattle.std.specs.List.{AllByRecursion, Contains, list_any}
 use Rattle.h5_bytes.specs.Bytes.{undefined}
 use Rattle.h5_bytes.specs.Blocks.{cover, Inside, IsKept, Keeps}
@@ -9,21 +9,20 @@ use Rattle.h5_model.specs.Format.Addresses.{SymbolTable}
 use Rattle.h5_model.specs.Format.Superblock.{leaf_k}
 use Rattle.h5_model.specs.Format.Heap.{heap_blocks}
 use Rattle.h5_model.specs.Format.Nodes.{HasTree, Kind, group_kind, node_at, node_length, node_of, reading_of, tree_blocks}
-use Rattle.h5_model.specs.Format.Rows.{Node, Reading, blank, next_row}
+use Rattle.h5_model.specs.Format.Rows.{Node, Reading, blank}
 use Rattle.h5_model.specs.Format.Symbols.{Target, entries_of, symbol_block, symbols_at}
-use Rattle.h5_model.proofs.RowLaws.{all_listed, at_listed}
+use Rattle.h5_model.proofs.RowLaws.{at_listed}
 use Rattle.h5_laws.proofs.Lists.{In, in_all, in_contains}
 use Rattle.h5_space.specs.Moves.{Moves}
 use Rattle.h5_space.specs.Space.{Space}
-use Rattle.h5_btree.specs.Climb.{IsWay, KeepsRows}
+use Rattle.h5_btree.specs.Climb.{KeepsRows}
 use Rattle.h5_btree.specs.Insertion.{KeepsEntries, Owns}
 use Rattle.h5_btree.specs.Removal.{EndsInTree}
 use Rattle.h5_btree.specs.declared.way.Step.{Step}
+use Rattle.h5_btree.proofs.KeyedWays.{children-keyed, IsWay-keyed}
 use Rattle.h5_btree.proofs.SplitSteps.{apart_then}
-use Rattle.h5_btree.proofs.TreeReadings.{Listed}
 use Rattle.h5_btree.proofs.WayRows.{next_row-keyed, IsRow-keyed}
-use Rattle.h5_btree.proofs.WaySteps.{first_owned}
-use Rattle.h5_group.specs.Edited.{IsGroupIn, node_below}
+use Rattle.h5_group.specs.Edited.{IsGroupIn}
 use Rattle.h5_group.specs.Nodes.Trees.{kind_in}
 use Rattle.h5_group.specs.Told.{symbol_nodes_told}
 use Rattle.h5_group.specs.Ways.{AreWaysKept}
@@ -122,27 +121,6 @@ module _ (s t : Space) (table : SymbolTable) (links : List (List ℕ × Target))
   }
 
 -- ---- keys of nodes give way
-
-module _ (V W : Reading) (same : KeepsRows V W) where
-  children-keyed : (n : ℕ) → (W n).children ≡ (V n).children
-  children-keyed n = ap (λ (k : Node). k.children) (same n).1
-
-  IsWay-keyed : (m root : ℕ) (way : List Step) (a : ℕ) (front back : List ℕ) → IsWay V m root way a front back → IsWay W m root way a front back
-  IsWay-keyed m root [] a front back is = is
-  IsWay-keyed m root (s ∷ way) a front back (f, bk, below, rest) = (
-    f,
-    bk,
-    record {
-      place = subst (λ (xs : List ℕ). s.place < length xs) (sym (children-keyed s.node)) below.place;
-      child = ap (λ (xs : List ℕ). slice_index xs s.place) (children-keyed s.node) ∙ below.child;
-      fronts = below.fronts ∙ ap (λ (xs : List ℕ). xs ++ take s.place (V s.node).children) (sym (next_row-keyed V W same f))
-          ∙ ap (λ (xs : List ℕ). next_row W f ++ take s.place xs) (sym (children-keyed s.node));
-      backs = below.backs ∙ ap (λ (xs : List ℕ). drop (suc s.place) xs ++ next_row V bk) (sym (children-keyed s.node))
-          ∙ ap (λ (xs : List ℕ). drop (suc s.place) (W s.node).children ++ xs) (sym (next_row-keyed V W same bk));
-      row = IsRow-keyed V W same (suc m) undefined (f ++ s.node ∷ bk) below.row;
-    },
-    IsWay-keyed (suc m) root way s.node f bk rest,
-  )
 
 -- a node has other keys alone
 abbrev pub IsKeyed : Space → Space → Kind → ℕ → Type 0

@@ -2,14 +2,13 @@
 
 ghost use Rattle.std.specs.Prelude.{◌≡◌, ◌+◌, ◌*◌, ◌<◌, ◌≤◌, ◌==◌, IfErr, IfOk, Some, length, map, option_map, slice_get};
 ghost use Rattle.h5_bytes.specs.Bytes.{part};
-ghost use Rattle.h5_bytes.specs.Texts.{text_at};
 ghost use Rattle.h5_model.specs.Format.Links.{Ascend};
-ghost use Rattle.h5_model.specs.Format.Symbols.{Entry, entries_of, link_of, symbols_in};
+ghost use Rattle.h5_model.specs.Format.Symbols.{entries_of, link_of, symbols_in};
 ghost use Rattle.h5_snod.specs.Entries.{symbol_from};
 ghost use Rattle.h5_snod.specs.Names.{IsPlace, entry_names};
 
 use crate::entry::{SymbolEntry, read_entry};
-use crate::search::{entry_name, find_name};
+use crate::search::find_name;
 use h5_bytes::u16_at;
 use std::marker::Model;
 
@@ -66,16 +65,6 @@ impl<'a> SymbolNode<'a> {
         ensures { option_map symbol_from (slice_get self.now k) ≡ Some result }
     {
         read_entry(entry_bytes(self.bytes, k))
-    }
-
-    /// The name of the entry with this index: the text at the entry's offset in this heap segment, up to the first
-    /// zero. It is empty where the offset passes the end.
-    pub fn name<'b>(&self, k: usize, segment: &'b [u8]) -> &'b [u8]
-        requires { k < length self.now }
-        ensures { option_map (λ (e : Entry).
-            text_at segment.now e.name) (slice_get self.now k) ≡ Some result.now }
-    {
-        entry_name(self.bytes, k, segment)
     }
 
     /// The index of the entry with this name. The names stand in this heap segment, in ascending order of their

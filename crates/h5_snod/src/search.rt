@@ -37,7 +37,7 @@ pub(crate) fn find_name(
 }
 
 /// The name of an entry, in a heap's segment.
-pub(crate) fn entry_name<'a>(bytes: &[u8], k: usize, segment: &'a [u8]) -> &'a [u8]
+fn entry_name<'a>(bytes: &[u8], k: usize, segment: &'a [u8]) -> &'a [u8]
     requires { 48 + 40 * k ≤ length bytes.now }
     ensures { result.now ≡ name_at segment.now bytes.now k }
 {

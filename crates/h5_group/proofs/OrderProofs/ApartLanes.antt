@@ -1,13 +1,13 @@
 -- What sixteen bytes from one place and from another have in common: the bits of the masks that comparisons of them give.
 use Rattle.std.proofs.Common.{◌≡◌, ◌≢◌, ℕ, ◌+◌, ◌%◌, ◌^◌, ◌<◌, ◌≤◌, ◌⊎◌, inl, inr, refl, sym, ap, ◌∙◌, arith, w8, w64}
-use Rattle.std.proofs.Common.{List, Bool, true, false, not, cond, eqb, map, max, length, get_or, bit_or}
+use Rattle.std.proofs.Common.{List, Bool, true, false, not, cond, eqb, map, max, length, get_or, bit_or, replicate}
 use native.Mathlib.Nat.{zero-div}
 use Rattle.std.specs.Int.{bit_at}
 use Rattle.std.proofs.lemmas.Bool.{cases_lt, eqb-true, eqb-false}
 use Rattle.std.proofs.lemmas.List.{get_or-map, get_or_past, length-map}
 use Rattle.std.proofs.lemmas.Nat.{or_lt}
 use Rattle.std.proofs.lemmas.Nat.Bits.{bit_at_or, bit_at-trailing_zeros}
-use Rattle.std.proofs.lemmas.Simd.{length-chunk, get_or-chunk, length-zip2, get_or-zip2, bit_mask_l, mask_l-lt, mask_l-mod, tops_compared}
+use Rattle.std.proofs.lemmas.Simd.{length-chunk, get_or-chunk, length-zip2, get_or-zip2, bit_mask_l, mask_l-lt, mask_l-mod, tops_compared, bitmask_splat}
 use lib.Count.{count_trailing_zeros}
 use lib.Lanes.{chunk, mask_l, top, zip2}
 use Rattle.h5_group.specs.Order.Common.{HaveCommon}
@@ -31,7 +31,7 @@ module _ (segment : List ℕ) (at other : ℕ) (low : at + 16 ≤ length segment
   abbrev zeros : List Bool
   zeros = map (λ x. eqb x 0) (chunk at 16 segment)
 
-  abbrev pub apart_in : ℕ
+  abbrev apart_in : ℕ
   apart_in = bit_or (mask_l differ) (mask_l zeros)
 
   long : length (chunk at 16 segment) ≡ 16
@@ -46,10 +46,18 @@ module _ (segment : List ℕ) (at other : ℕ) (low : at + 16 ≤ length segment
   zeros_long : length zeros ≡ 16
   zeros_long = length-map (chunk at 16 segment) (λ x. eqb x 0) ∙ long
 
-  -- the mask of the comparison of both
-  pub differ_mask : mask_l (map (top 7) (zip2 (λ a b. cond (not (eqb a b)) 255 0) (chunk at 16 segment) (chunk other 16 segment))) % 2 ^ 64 ≡ mask_l differ
-  differ_mask = ap (λ ms. mask_l ms % 2 ^ 64) (tops_compared w8 (λ a b. not (eqb a b)) (chunk at 16 segment) (chunk other 16 segment))
-      ∙ mask_l-mod differ 64 (omega (arith, differ_long))
+  -- the same mask, as the comparisons of vectors give it
+  abbrev pub compared : ℕ
+  compared = bit_or (mask_l (map (top 7) (zip2 (λ a b. cond (not (eqb a b)) 255 0) (chunk at 16 segment) (chunk other 16 segment))) % 2 ^ 64)
+      (mask_l (map (top 7) (zip2 (λ a b. cond (eqb a b) 255 0) (chunk at 16 segment) (replicate 16 0))) % 2 ^ 64)
+
+  compared_is : compared ≡ apart_in
+  compared_is =
+      let first : mask_l (map (top 7) (zip2 (λ a b. cond (not (eqb a b)) 255 0) (chunk at 16 segment) (chunk other 16 segment))) % 2 ^ 64 ≡ mask_l differ
+      = ap (λ ms. mask_l ms % 2 ^ 64) (tops_compared w8 (λ a b. not (eqb a b)) (chunk at 16 segment) (chunk other 16 segment))
+      ∙ mask_l-mod differ 64 (omega (arith, differ_long)) in
+      let second = bitmask_splat w8 eqb (chunk at 16 segment) 16 0 long (omega arith) in
+      λ i. bit_or (first i) (second i)
 
   lane : (k : ℕ) → k < 16 → bit_at apart_in k
       ≡ max (cond (not (eqb (get_or segment (at + k) 0) (get_or segment (other + k) 0))) 1 0) (cond (eqb (get_or segment (at + k) 0) 0) 1 0)
@@ -75,32 +83,32 @@ module _ (segment : List ℕ) (at other : ℕ) (low : at + 16 ≤ length segment
       (eqb-true _ _ both.0, eqb-false _ _ both.1)
 
   -- no bit is set
-  pub all_common : apart_in ≡ 0 → HaveCommon segment at other 16
-  all_common none k below = common_lane k below (ap (λ m. bit_at m k) none ∙ ap (λ n. n % 2) (zero-div (2 ^ k)))
+  pub all_common : compared ≡ 0 → HaveCommon segment at other 16
+  all_common none k below = common_lane k below (ap (λ m. bit_at m k) (sym compared_is ∙ none) ∙ ap (λ n. n % 2) (zero-div (2 ^ k)))
 
-  module _ (mask : ℕ) (is : mask ≡ apart_in) (some : mask ≢ 0) where
+  module _ (some : compared ≢ 0) where
     -- where the lowest bit is set
     abbrev pub lowest : ℕ
-    lowest = count_trailing_zeros 64 mask
+    lowest = count_trailing_zeros 64 compared
 
-    small : mask < 2 ^ 64
+    small : compared < 2 ^ 64
     small =
         let first : mask_l differ < 2 ^ 16 = omega (arith, mask_l-lt differ, ap (λ n. 2 ^ n) differ_long) in
         let second : mask_l zeros < 2 ^ 16 = omega (arith, mask_l-lt zeros, ap (λ n. 2 ^ n) zeros_long) in
-        omega (arith, is, or_lt 16 (mask_l differ) (mask_l zeros) first second)
+        omega (arith, compared_is, or_lt 16 (mask_l differ) (mask_l zeros) first second)
 
-    facts : (lowest < 64) × (bit_at mask lowest ≡ 1) × ((i : ℕ) → i < lowest → bit_at mask i ≡ 0)
-    facts = bit_at-trailing_zeros w64 mask (omega arith) small
+    facts : (lowest < 64) × (bit_at compared lowest ≡ 1) × ((i : ℕ) → i < lowest → bit_at compared i ≡ 0)
+    facts = bit_at-trailing_zeros w64 compared (omega arith) small
 
     pub lowest_few : lowest < 16
-    lowest_few = elim (cases_lt lowest 16) [ inl below ↦ below | inr beyond ↦ absurd (omega (arith, ap (λ m. bit_at m lowest) is, past lowest beyond, facts.1)) ]
+    lowest_few = elim (cases_lt lowest 16) [ inl below ↦ below | inr beyond ↦ absurd (omega (arith, ap (λ m. bit_at m lowest) compared_is, past lowest beyond, facts.1)) ]
 
     pub lowest_common : HaveCommon segment at other lowest
-    lowest_common k below = common_lane k (omega (arith, lowest_few)) (ap (λ m. bit_at m k) (sym is) ∙ facts.2 k below)
+    lowest_common k below = common_lane k (omega (arith, lowest_few)) (ap (λ m. bit_at m k) (sym compared_is) ∙ facts.2 k below)
 
     pub lowest_apart : (get_or segment (at + lowest) 0 ≢ get_or segment (other + lowest) 0) ⊎ (get_or segment (at + lowest) 0 ≡ 0)
     lowest_apart =
-        let bit = sym (lane lowest lowest_few) ∙ ap (λ m. bit_at m lowest) (sym is) ∙ facts.1 in
+        let bit = sym (lane lowest lowest_few) ∙ ap (λ m. bit_at m lowest) (sym compared_is) ∙ facts.1 in
         elim (is_set (eqb (get_or segment (at + lowest) 0) (get_or segment (other + lowest) 0)) (eqb (get_or segment (at + lowest) 0) 0) bit) [
           | inl differs ↦ inl (eqb-false _ _ differs)
           | inr none ↦ inr (eqb-true _ _ none)
