@@ -1,5 +1,5 @@
 -- A write of one run into storage that is missing: what is asked of making it, and that the cells stand there then.
-use Rattle.std.proofs.Common.{◌≡◌, ℕ, ℤ, ◌+◌, ◌*◌, ◌^◌, ◌<◌, ◌≤◌, List, [], ◌∷◌, Some, sym, ap, ◌∙◌, subst}
+use Rattle.std.proofs.Common.{◌≡◌, ℕ, ℤ, ◌+◌, ◌*◌, ◌^◌, ◌<◌, ◌≤◌, List, [], ◌∷◌, Some, length, sym, ap, arith, ◌∙◌, subst}
 use Rattle.std.proofs.lemmas.Option.{same_Some}
 use Rattle.std.specs.List.{Contains}
 use Rattle.h5_layout.specs.Described.{Described}
@@ -29,6 +29,7 @@ use Rattle.h5_edit.specs.Stored.{AreSelectedReady, HasStorage, IsStoring}
 use Rattle.h5_edit.specs.WriteTarget.{IsTarget}
 use Rattle.h5_edit.specs.declared.target.MissingRun.{MissingRun}
 use Rattle.h5_edit.specs.declared.target.TargetCells.TheVariants as target
+use Rattle.h5_edit.proofs.AttributeFacts.{short_image}
 use Rattle.h5_edit.proofs.ArraysThere.{array_there}
 use Rattle.h5_edit.proofs.ChangedTwice.{dataset_changed}
 use Rattle.h5_edit.proofs.FoundStanding.{places_are}
@@ -53,12 +54,16 @@ module _ {f : FileState} {path : List ℕ} {hyper : Hyper} {values : List ℤ} {
   pub run_storing : IsStoring f path hyper values number (Some m.missing)
   run_storing = record { sound = is.sound; write = is.write; found = run_missing }
 
+  -- and so few bytes of the chunk or the block stand before the run
+  pub inner_small : m.inner * m.fixed.size ≤ 2 ^ 43
+  inner_small = subst (λ (t : Fixed). m.inner * t.size ≤ 2 ^ 43) (sym is.found.type_is) is.found.missing.small
+
   -- ---- once the storage is made
 
   module _ (now : FileState) (allowed : IsAccepted f (Write path hyper values)) (growth : IsGrowth f (Write path hyper values) (storage_bytes f.image a m.missing))
       (changed : IsChangedInPlace f now (with_object f.tree number (with_dataset stored_all)) f.next (number ∷ []) (storage_bytes f.image a m.missing))
       (stored : (place : ℕ) → Contains (selection_of a.sizes (axes_of hyper)) place → IsCellStored now number place)
-      (sound_now : IsSound now) (at : ℕ) (placed : (b : Described) → IsArrayThere now number b → IsMadeAt now.image b m.missing at) where
+      (sound_now : IsSound now) (at : ℕ) (placed : (b : Described) → IsArrayThere now number b → IsMadeAt now.image b m.missing at × (at ≤ length now.image)) where
     pub run_has : HasStorage f path hyper values number now
     unfolding run_storing
     run_has = has_made m.missing run_storing now allowed growth changed stored
@@ -90,7 +95,11 @@ module _ {f : FileState} {path : List ℕ} {hyper : Hyper} {values : List ℤ} {
     sizes_are = ap (λ (d : Dataset). d.sizes) told
 
     stands : IsStandingAt now.image b run.place run.length (at + m.inner * a.fixed.size)
-    stands = is.found.missing.made now.image b at fixed_is sizes_are (ap (λ (d : Dataset). d.storage) told) (placed b there.1)
+    stands = is.found.missing.made now.image b at fixed_is sizes_are (ap (λ (d : Dataset). d.storage) told) (placed b there.1).0
+
+    -- the chunk or the block lies in the image
+    pub run_low : at ≤ 2 ^ 31
+    run_low = let inside = (placed b there.1).1 in let short = short_image now sound_now in omega (arith, inside, short)
 
     pub run_standing : AreStandingAt now number hyper (record { fixed = m.fixed; place = m.place; at = at + m.inner * m.fixed.size })
     run_standing = record {

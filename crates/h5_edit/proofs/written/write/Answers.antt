@@ -10,9 +10,11 @@ use Rattle.h5_edit.proofs.written.write.Goals as goal
 
 pub returns-in_err-number : goal.returns-in_err-number
 returns-in_err-number c =
-    passed_on _ _ c.from_residual.result _ c.from_residual.ensures.1
-    (by_rule c.args.opened.now (Write c.args.path.now c.args.hyper.now c.args.values.now) _
-    (write_refused _ _ c.args.path.now c.args.hyper.now c.args.values.now _ c.in_err-number.ensures), refl)
+    passed_on _ _ c.from_residual.result _ c.from_residual.ensures.1 (
+      by_rule c.args.opened.now (Write c.args.path.now c.args.hyper.now c.args.values.now) _
+          (write_refused _ _ c.args.path.now c.args.hyper.now c.args.values.now _ c.in_err-number.ensures),
+      refl,
+    )
 
 -- ---- cells that stand
 

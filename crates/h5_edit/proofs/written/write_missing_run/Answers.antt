@@ -1,4 +1,4 @@
-use Rattle.std.proofs.Common.{ℕ, ◌+◌, ◌*◌, List, Some, refl, subst, sym}
+use Rattle.std.proofs.Common.{ℕ, ◌+◌, ◌*◌, ◌^◌, ◌≤◌, List, Some, refl, subst, sym, arith}
 use Rattle.h5_layout.specs.Described.{Described}
 use Rattle.h5_layout.specs.Lacking.{IsFound}
 use Rattle.h5_layout.specs.Storage.{storage_bytes}
@@ -14,7 +14,7 @@ use Rattle.h5_edit.specs.WriteTarget.{IsTarget}
 use Rattle.h5_edit.specs.declared.target.MissingRun.{MissingRun}
 use Rattle.h5_edit.specs.declared.target.TargetCells.TheVariants as target
 use Rattle.h5_model.specs.Views.Selection.{axes_of}
-use Rattle.h5_edit.proofs.MissingRuns.{run_has, run_missing, run_ready, run_standing}
+use Rattle.h5_edit.proofs.MissingRuns.{inner_small, run_has, run_low, run_missing, run_ready, run_standing}
 use Rattle.h5_edit.proofs.StandingRuns.{run_asked, selected_written, some_asked, standing_asked}
 use Rattle.h5_edit.proofs.StorageGiven.{made_accepted, made_grows, storage_refused}
 use Rattle.h5_edit.proofs.WriteSteps.{selected_made}
@@ -67,16 +67,31 @@ module _ (c : After-size) {path : List ℕ} {hyper : Hyper} (is : IsTarget c.arg
 
   has : HasStorage c.args.opened.now path hyper c.args.values.now c.args.number mid
   has = run_has m is mid allowed growth (c.in-Ok.ensures.changed a is.write.there) (c.in-Ok.ensures.stored a (axes_of hyper) is.write.there found.1)
-      c.make_storage.ensures.sound c.in-Ok.at (c.in-Ok.ensures.placed a (axes_of hyper) is.write.there found.1)
+      c.make_storage.ensures.sound c.in-Ok.at (c.in-Ok.ensures.placed a (axes_of hyper) is.write.there found)
 
   ready : (d : Dataset) × AreSelectedReady mid c.args.number hyper c.args.values.now d
   ready = run_ready m is mid allowed growth (c.in-Ok.ensures.changed a is.write.there) (c.in-Ok.ensures.stored a (axes_of hyper) is.write.there found.1)
-      c.make_storage.ensures.sound c.in-Ok.at (c.in-Ok.ensures.placed a (axes_of hyper) is.write.there found.1)
+      c.make_storage.ensures.sound c.in-Ok.at (c.in-Ok.ensures.placed a (axes_of hyper) is.write.there found)
 
   stands : AreStandingAt mid c.args.number hyper (record { fixed = m.fixed; place = m.place; at = c.in-Ok.at + m.inner * c.size.result })
   stands = subst (λ n. AreStandingAt mid c.args.number hyper (record { fixed = m.fixed; place = m.place; at = c.in-Ok.at + m.inner * n })) (sym c.size.ensures.size)
       (run_standing m is mid allowed growth (c.in-Ok.ensures.changed a is.write.there) (c.in-Ok.ensures.stored a (axes_of hyper) is.write.there found.1)
-      c.make_storage.ensures.sound c.in-Ok.at (c.in-Ok.ensures.placed a (axes_of hyper) is.write.there found.1))
+      c.make_storage.ensures.sound c.in-Ok.at (c.in-Ok.ensures.placed a (axes_of hyper) is.write.there found))
+
+  low : c.in-Ok.at ≤ 2 ^ 31
+  low = run_low m is mid allowed growth (c.in-Ok.ensures.changed a is.write.there) (c.in-Ok.ensures.stored a (axes_of hyper) is.write.there found.1)
+      c.make_storage.ensures.sound c.in-Ok.at (c.in-Ok.ensures.placed a (axes_of hyper) is.write.there found)
+
+pub overflow_mul-result : goal.overflow_mul-result
+overflow_mul-result c =
+    let small = inner_small c.args.run.now c.requires.2 in
+    omega (arith, small, c.size.ensures.size)
+
+pub overflow_add-result : goal.overflow_add-result
+overflow_add-result c =
+    let d = (goal.at.overflow_add-result c).After-size in
+    let small = inner_small c.args.run.now c.requires.2 in
+    omega (arith, small, c.size.ensures.size, low d c.requires.2)
 
 pub write_standing-requires-clause-run : goal.write_standing-requires-clause-run
 write_standing-requires-clause-run c =
