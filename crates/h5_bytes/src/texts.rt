@@ -4,10 +4,8 @@ ghost use Rattle.std.specs.Prelude.{◌≡◌, ◌≢◌, ◌↔◌, ℕ, ◌+�
 ghost use Rattle.h5_bytes.specs.Bytes.{part};
 ghost use Rattle.h5_bytes.specs.Texts.{text_at, until_zero};
 
+use crate::lanes::{LANES, has_lanes};
 use std::simd::prelude::*;
-
-/// How many bytes of a text are looked at together.
-const LANES: usize = 16;
 
 /// The text at an offset: the bytes before the first zero, none where the offset passes the end. Takes no memory.
 #[tactic(auto, unfolding(crate::specs::Texts::text_at))]
@@ -27,7 +25,7 @@ pub fn before_zero(bytes: &[u8]) -> &[u8]
     let mut from = 0;
     // Names are short, and each of a group's is looked at several times while a file is opened: one comparison of
     // sixteen bytes takes no more instructions than three comparisons of one.
-    while bytes.len() - from >= LANES {
+    while has_lanes(bytes, from) {
         if let Some(end) = zero_among(bytes, from) {
             return &bytes[..end];
         }

@@ -1,28 +1,25 @@
 //! The order of names by their bytes. A name is the text at an offset of a segment.
 
-ghost use Rattle.std.specs.Prelude.{◌≡◌, ◌≢◌, ◌⊎◌, ◌↔◌, ℕ, ◌+◌, ◌<◌, ◌≤◌, IfNone, IfSome, IsTrue, length, slice_index};
+ghost use Rattle.std.specs.Prelude.{◌≡◌, ◌≢◌, ◌⊎◌, ℕ, ◌+◌, ◌<◌, ◌≤◌, IfNone, IfSome, length, slice_index};
 ghost use Rattle.std.specs.Cmp.Lexicographic.{slice_cmp};
 ghost use Rattle.std.specs.Ordering.{is_le, is_lt, nat_cmp};
 ghost use Rattle.h5_bytes.specs.Texts.{text_at};
 ghost use Rattle.h5_group.specs.Order.Common.{HaveCommon};
 
-use h5_bytes::text_from;
+use h5_bytes::{LANES, has_lanes, text_from};
 use std::simd::prelude::*;
-
-/// How many bytes of two names are compared together.
-const LANES: u64 = 16;
 
 /// Whether the name at an offset is before the one at another offset.
 pub(crate) fn is_before(segment: &[u8], name: u64, other: u64) -> bool
     ensures { result
         ≡ is_lt (slice_cmp nat_cmp (text_at segment.now name) (text_at segment.now other)) }
 {
-    let mut at = name;
-    let mut at_other = other;
+    let mut at = name as usize;
+    let mut at_other = other as usize;
     // The first byte that differs tells, or the zero of the shorter name: nothing has to look for their ends before.
     while has_lanes(segment, at) && has_lanes(segment, at_other) {
-        if let Some(k) = first_apart(segment, at as usize, at_other as usize) {
-            return segment[at as usize + k] < segment[at_other as usize + k];
+        if let Some(k) = first_apart(segment, at, at_other) {
+            return segment[at + k] < segment[at_other + k];
         }
         at += LANES;
         at_other += LANES;
@@ -39,14 +36,6 @@ pub(crate) fn is_not_after(segment: &[u8], name: u64, other: u64) -> bool
 {
     // The key behind a symbol node mostly stands for its last name, by the same offset.
     name == other || !is_before(segment, other, name)
-}
-
-/// Whether sixteen bytes from a place on lie in the segment.
-fn has_lanes(segment: &[u8], at: u64) -> bool
-    ensures { IsTrue result ↔ (at + 16 ≤ length segment.now) }
-{
-    let len = segment.len() as u64;
-    len >= LANES && at <= len - LANES
 }
 
 /// How many bytes from one place and from another are the same and no zeros, before some differ or both are zero;

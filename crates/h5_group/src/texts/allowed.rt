@@ -5,11 +5,9 @@ ghost use Rattle.std.specs.Prelude.{◌≡◌, ◌≢◌, ℕ, ◌+◌, ◌<◌,
 ghost use Rattle.h5_bytes.specs.Texts.{text_at};
 ghost use Rattle.h5_model.specs.Tree.Paths.{is_name};
 
+use h5_bytes::{LANES, has_lanes};
 use h5_model::is_link_name;
 use std::simd::prelude::*;
-
-/// How many bytes are looked at together.
-const LANES: usize = 16;
 
 /// Whether a link may have this name, the text at an offset of the segment.
 pub(crate) fn is_allowed(segment: &[u8], offset: u64, name: &[u8]) -> bool
@@ -28,7 +26,7 @@ fn lacks_slash(bytes: &[u8], len: usize) -> bool
 {
     let mut at = 0;
     while at < len {
-        if bytes.len() - at < LANES || has_slash(bytes, at) {
+        if !has_lanes(bytes, at) || has_slash(bytes, at) {
             return false;
         }
         at += LANES;
