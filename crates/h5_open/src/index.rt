@@ -31,11 +31,11 @@ pub(crate) fn known_number(index: &Index, header: u64) -> Option<u32>
         (λ n. (o : OpenedObject) × (slice_get index.now.objects.items n ≡ Some (Some o))
         × (o.messages.header ≡ header)) }
 {
-    number_at(&index.numbers, header)
+    number_for(&index.numbers, header)
 }
 
 /// The number at this header, if it has one.
-fn number_at(numbers: &BTreeMap<u64, u32>, header: u64) -> Option<u32>
+fn number_for(numbers: &BTreeMap<u64, u32>, header: u64) -> Option<u32>
     ensures { result ≡ get nat_cmp numbers.now header }
 {
     // Objects mostly come in the order of their headers, so that few are sought among those that were read.
