@@ -227,7 +227,7 @@ impl<'a, 'g> GridRef<'a, 'g> {
         ensures at { result.at ≡ chunk_of self.now place }
         ensures inside { IfSome result.at (λ at. at + self.now.shape.bytes ≤ length self.now.image) }
     {
-        let row = locate(self.sizes, self.chunk, place, corner);
+        let row = row_in_chunk(self.sizes, self.chunk, place, corner);
         ChunkRow {
             at: self.address_of(cursor, corner),
             place: row.place,
@@ -308,7 +308,7 @@ impl<'a, 'g> GridRef<'a, 'g> {
             self.go_on(row, place);
             return;
         }
-        let run = locate(
+        let run = row_in_chunk(
             self.sizes,
             self.chunk,
             place,
@@ -448,7 +448,7 @@ pub(crate) fn bytes_of(chunk: &[u64], size: u64) -> u64
 
 /// Writes the first index of the chunk that has the cell at a place. Returns the cell's place in the chunk, and how many cells
 /// from it on stay in its row of the chunk and of the array.
-pub(crate) fn locate(sizes: &[u64], chunk: &[u64], place: u64, corner: &mut [u64]) -> CellRun
+pub(crate) fn row_in_chunk(sizes: &[u64], chunk: &[u64], place: u64, corner: &mut [u64]) -> CellRun
     requires rank { length chunk.now ≡ length sizes.now }
     requires room { length corner.old ≡ length sizes.now }
     requires sizes { AreChunkSizes chunk.now }

@@ -239,7 +239,8 @@ fn make_chunks(
         + storage_bytes image.old.bytes (described_in image.old.bytes messages.now)
         (missing.Chunks chunks.now new.now)) }
     ensures deep { result ≡ Err InsertFault.TreeTooDeep → (n : ℕ)
-        × IsDeepFor image.old.bytes (described_in image.old.bytes messages.now) (missing.Chunks chunks.now new.now) n }
+        × IsDeepFor image.old.bytes (described_in image.old.bytes messages.now)
+        (missing.Chunks chunks.now new.now) n }
     ensures deep_first { IsDeepFor image.old.bytes (described_in image.old.bytes messages.now)
         (missing.Chunks chunks.now new.now) 0 → result ≡ Err InsertFault.TreeTooDeep }
     ensures full { (result ≡ Err (InsertFault.Space SpaceFault.ImageFull))

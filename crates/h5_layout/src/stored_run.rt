@@ -11,7 +11,7 @@ ghost use Rattle.h5_layout.specs.declared.stored_run.RunStorage.TheVariants as s
 
 use crate::array::ArrayRef;
 use crate::chunked::ChunkedArray;
-use crate::grid::locate;
+use crate::grid::row_in_chunk;
 use crate::lacking::Missing;
 use crate::new_chunks::stored_at;
 use h5_chunks::{ChunkList, ChunkShape};
@@ -100,7 +100,7 @@ fn storage_in_chunks(
     let chunks = ChunkedArray::of(array);
     let mut room = [0; MAX_RANK];
     let corner = &mut room[..chunks.sizes().len()];
-    let row = locate(array.dims().sizes(), chunks.sizes(), run.place, corner);
+    let row = row_in_chunk(array.dims().sizes(), chunks.sizes(), run.place, corner);
     if row.length < run.length {
         return Ok(RunStorage::Parted);
     }

@@ -17,10 +17,10 @@ use Rattle.h5_layout.specs.declared.lacking.Missing.TheVariants as missing
 use Rattle.h5_layout.specs.declared.stored_run.RunStorage.TheVariants as storage
 use Rattle.h5_layout.proofs.RunStorageLaws.{chunk_missing, inner_low, more_than_row, row_absent, row_stands, standing_first, told_below}
 use Rattle.h5_layout.proofs.stored_run.storage_in_chunks.Goals as goal
-use Rattle.h5_layout.proofs.stored_run.storage_in_chunks.Goals.{After-locate-row, After-stored_at}
+use Rattle.h5_layout.proofs.stored_run.storage_in_chunks.Goals.{After-row_in_chunk-row, After-stored_at}
 
 -- the run in its chunk
-module _ (c : After-locate-row) where
+module _ (c : After-row_in_chunk-row) where
   abbrev a : Described
   a = c.args.array.now
 
@@ -28,10 +28,10 @@ module _ (c : After-locate-row) where
   k = c.of-chunks.result
 
   abbrev corner : List ℕ
-  corner = c.locate-row.new.corner
+  corner = c.row_in_chunk-row.new.corner
 
   abbrev inner : ℕ
-  inner = c.locate-row.result.place
+  inner = c.row_in_chunk-row.result.place
 
   of : IsInChunksOf a k
   of = c.of-chunks.ensures.chunks
@@ -43,14 +43,14 @@ module _ (c : After-locate-row) where
   chunk = c.sizes-3.ensures.sizes
 
   corner_is : corner ≡ corner_of k.chunk (index_of a.sizes c.args.run.place)
-  corner_is = c.locate-row.ensures.corner ∙ (λ i. corner_of (chunk i) (index_of (sizes i) c.args.run.place))
+  corner_is = c.row_in_chunk-row.ensures.corner ∙ (λ i. corner_of (chunk i) (index_of (sizes i) c.args.run.place))
 
   inner_is : inner ≡ place_of k.chunk (inner_of k.chunk (index_of a.sizes c.args.run.place))
-  inner_is = c.locate-row.ensures.inner ∙ (λ i. place_of (chunk i) (inner_of (chunk i) (index_of (sizes i) c.args.run.place)))
+  inner_is = c.row_in_chunk-row.ensures.inner ∙ (λ i. place_of (chunk i) (inner_of (chunk i) (index_of (sizes i) c.args.run.place)))
 
-  beside : AreBeside a.sizes k.chunk c.args.run.place c.locate-row.result.length
-  beside = subst (λ (ns : List ℕ). AreBeside ns k.chunk c.args.run.place c.locate-row.result.length) sizes
-      (subst (λ (ns : List ℕ). AreBeside c.sizes-2.result.now ns c.args.run.place c.locate-row.result.length) chunk c.locate-row.ensures.beside)
+  beside : AreBeside a.sizes k.chunk c.args.run.place c.row_in_chunk-row.result.length
+  beside = subst (λ (ns : List ℕ). AreBeside ns k.chunk c.args.run.place c.row_in_chunk-row.result.length) sizes
+      (subst (λ (ns : List ℕ). AreBeside c.sizes-2.result.now ns c.args.run.place c.row_in_chunk-row.result.length) chunk c.row_in_chunk-row.ensures.beside)
 
   -- the bytes before it in the chunk
   low : (n : ℕ) → n ≡ k.fixed.size → inner * n ≤ cells k.chunk * k.fixed.size
@@ -60,13 +60,13 @@ module _ (c : After-locate-row) where
 
 pub overflow_mul-result : goal.overflow_mul-result
 overflow_mul-result c =
-    let d = (goal.at.overflow_mul-result c).After-locate-row in
+    let d = (goal.at.overflow_mul-result c).After-row_in_chunk-row in
     let small = c.of-chunks.ensures.sound.small in
     omega (arith, small, low d c.size.result (c.size.ensures.size ∙ ap (λ (t : Fixed). t.size) c.fixed.ensures.fixed))
 
 pub overflow_add-result : goal.overflow_add-result
 overflow_add-result c =
-    let d = (goal.at.overflow_add-result c).After-locate-row in
+    let d = (goal.at.overflow_add-result c).After-row_in_chunk-row in
     let inside = c.in-Some.ensures.inside in
     let long = ap length c.bytes-bytes.ensures in
     let bytes = ap (λ (s : Shape). s.bytes) c.shape-shape.ensures in
@@ -77,29 +77,29 @@ module _ (c : After-stored_at) where
   abbrev stored : Chunks
   stored = stored_chunks c.args.image.now.bytes c.args.array.now.fixed c.args.array.now.layout
 
-  found : (r : Option ℕ) → c.stored_at.result ≡ r → get stored c.locate-row.new.corner ≡ r
+  found : (r : Option ℕ) → c.stored_at.result ≡ r → get stored c.row_in_chunk-row.new.corner ≡ r
   found r is =
       let told = told_below c.args.image.now.bytes c.args.array.now c.of-chunks.result c.of-chunks.ensures.chunks c.shape-shape.result c.shape-shape.ensures c.root.result c.root.ensures in
-      ap (λ (cs : Chunks). get cs c.locate-row.new.corner) (sym told) ∙ sym c.stored_at.ensures.at ∙ is
+      ap (λ (cs : Chunks). get cs c.row_in_chunk-row.new.corner) (sym told) ∙ sym c.stored_at.ensures.at ∙ is
 
 pub returns-then-row-run-clause-parted : goal.returns-then-row-run-clause-parted
 returns-then-row-run-clause-parted c same =
-    let d = (goal.at.returns-then-row-run-clause-parted c).After-locate-row in
-    let row : 0 < length (a d).sizes → c.locate-row.result.length ≡ left_in_row (a d).sizes (k d).chunk c.args.run.place
-    = λ some. c.locate-row.ensures.all (subst (λ (ns : List ℕ). 0 < length ns) (sym (sizes d)) some) ∙ (λ i. left_in_row (sizes d i) (chunk d i) c.args.run.place) in
+    let d = (goal.at.returns-then-row-run-clause-parted c).After-row_in_chunk-row in
+    let row : 0 < length (a d).sizes → c.row_in_chunk-row.result.length ≡ left_in_row (a d).sizes (k d).chunk c.args.run.place
+    = λ some. c.row_in_chunk-row.ensures.all (subst (λ (ns : List ℕ). 0 < length ns) (sym (sizes d)) some) ∙ (λ i. left_in_row (sizes d i) (chunk d i) c.args.run.place) in
     subst (IsParted (a d) c.args.run) (sym (of d).layout) (more_than_row (a d).sizes (k d).chunk c.args.run.place _ c.args.run.length row c.if-row-run.true)
 
 -- the cells of the run stand in it
-module _ (d : After-locate-row) (whole : d.args.run.length ≤ d.locate-row.result.length) where
+module _ (d : After-row_in_chunk-row) (whole : d.args.run.length ≤ d.row_in_chunk-row.result.length) where
   stand : (at : ℕ) → get (stored_chunks d.args.image.now.bytes (a d).fixed (a d).layout) (corner d) ≡ Some at
       → IsStandingAt d.args.image.now.bytes (a d) d.args.run.place d.args.run.length (at + inner d * (a d).fixed.size)
   stand =
-      row_stands (a d) d.args.run d.requires.below d.requires.some (k d).chunk (corner d) (corner_is d) (inner d) (inner_is d) d.locate-row.result.length whole (beside d)
+      row_stands (a d) d.args.run d.requires.below d.requires.some (k d).chunk (corner d) (corner_is d) (inner d) (inner_is d) d.row_in_chunk-row.result.length whole (beside d)
       d.args.image.now.bytes (a d) refl refl (k d).root (of d).layout
 
 pub returns-in-Some-clause-storage : goal.returns-in-Some-clause-storage
 returns-in-Some-clause-storage c =
-    let d = (goal.at.returns-in-Some-clause-storage c).After-locate-row in
+    let d = (goal.at.returns-in-Some-clause-storage c).After-row_in_chunk-row in
     let e = (goal.at.returns-in-Some-clause-storage c).After-stored_at in
     let size = c.size.ensures.size ∙ ap (λ (t : Fixed). t.size) (c.fixed.ensures.fixed ∙ (of d).fixed) in
     subst (λ (n : ℕ). IsStandingAt c.args.image.now.bytes (a d) c.args.run.place c.args.run.length (c.in-Some.at + inner d * n)) (sym size)
@@ -112,24 +112,24 @@ returns-in-Some-clause-one c at one there =
 
 pub returns-clause-storage : goal.returns-clause-storage
 returns-clause-storage c =
-    let d = (goal.at.returns-clause-storage c).After-locate-row in
+    let d = (goal.at.returns-clause-storage c).After-row_in_chunk-row in
     let e = (goal.at.returns-clause-storage c).After-stored_at in
     let shape = c.shape-shape.ensures ∙ ap (λ (t : Fixed). chunk_shape t (k d).chunk) (of d).fixed in
     let alone = c.in_ok-new.ensures ∙ ap (λ (s : Shape). record { rank = length s.sizes; bytes = s.bytes; offsets = corner d ∷ [] }) shape in
-    chunk_missing (a d) c.args.run c.requires.below c.requires.some (k d).chunk (corner d) (corner_is d) (inner d) (inner_is d) c.locate-row.result.length (omega arith) (beside d)
+    chunk_missing (a d) c.args.run c.requires.below c.requires.some (k d).chunk (corner d) (corner_is d) (inner d) (inner_is d) c.row_in_chunk-row.result.length (omega arith) (beside d)
     c.args.image.now.bytes (k d).root (of d).layout (found e None c.in_default.is) (k d) (of d) _ (ap (missing.Chunks (k d)) alone)
     (let small = c.of-chunks.ensures.sound.small in omega (arith, small, low d (a d).fixed.size (ap (λ (t : Fixed). t.size) (sym (of d).fixed))))
 
 pub returns-clause-one : goal.returns-clause-one
 returns-clause-one c at one there =
-    let d = (goal.at.returns-clause-one c).After-locate-row in
+    let d = (goal.at.returns-clause-one c).After-row_in_chunk-row in
     let e = (goal.at.returns-clause-one c).After-stored_at in
-    absurd (row_absent (a d) c.args.run c.requires.below c.requires.some (k d).chunk (corner d) (corner_is d) (inner d) (inner_is d) c.locate-row.result.length (omega arith) (beside d)
+    absurd (row_absent (a d) c.args.run c.requires.below c.requires.some (k d).chunk (corner d) (corner_is d) (inner d) (inner_is d) c.row_in_chunk-row.result.length (omega arith) (beside d)
     c.args.image.now.bytes (k d).root (of d).layout (found e None c.in_default.is) at there)
 
 pub returns-in_err-new-clause-one : goal.returns-in_err-new-clause-one
 returns-in_err-new-clause-one c at one there =
-    let d = (goal.at.returns-in_err-new-clause-one c).After-locate-row in
+    let d = (goal.at.returns-in_err-new-clause-one c).After-row_in_chunk-row in
     let e = (goal.at.returns-in_err-new-clause-one c).After-stored_at in
-    absurd (row_absent (a d) c.args.run c.requires.below c.requires.some (k d).chunk (corner d) (corner_is d) (inner d) (inner_is d) c.locate-row.result.length (omega arith) (beside d)
+    absurd (row_absent (a d) c.args.run c.requires.below c.requires.some (k d).chunk (corner d) (corner_is d) (inner d) (inner_is d) c.row_in_chunk-row.result.length (omega arith) (beside d)
     c.args.image.now.bytes (k d).root (of d).layout (found e None c.in_default.is) at there)

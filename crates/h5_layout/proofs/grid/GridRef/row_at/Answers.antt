@@ -8,5 +8,5 @@ pub returns-clause-room : goal.returns-clause-room
 returns-clause-room c =
     let f = c.self.inside in
     let g : Grid = record { image = f.image.now.bytes; sizes = f.sizes.now; shape = record { sizes = f.chunk.now; bytes = f.chunk_bytes }; root = f.root } in
-    subst (λ (g : Grid). c.locate-row.result.place + c.locate-row.result.length ≤ cells g.shape.sizes) c.self.view_is
-    (row_room g c.args.place c.locate-row.result.length c.locate-row.result.place c.self.invariant c.locate-row.ensures.beside c.locate-row.ensures.some c.locate-row.ensures.inner)
+    subst (λ (g : Grid). c.row_in_chunk-row.result.place + c.row_in_chunk-row.result.length ≤ cells g.shape.sizes) c.self.view_is
+    (row_room g c.args.place c.row_in_chunk-row.result.length c.row_in_chunk-row.result.place c.self.invariant c.row_in_chunk-row.ensures.beside c.row_in_chunk-row.ensures.some c.row_in_chunk-row.ensures.inner)

@@ -6,8 +6,8 @@ use Rattle.h5_model.specs.Tree.Places.{cells, place_of}
 use Rattle.h5_layout.specs.ChunkCells.{AreBeside, left_in_row}
 use Rattle.h5_layout.proofs.BesideLaws.{beside_one, by_one, left_beside, some_left}
 use Rattle.h5_layout.proofs.LocateLaws.{all_from, corner_from, inner_from, inner_small, next_corner, next_inner, next_rest, next_stride, some_cells, some_size, stride_small}
-use Rattle.h5_layout.proofs.grid.locate.Goals as goal
-use Rattle.h5_layout.proofs.grid.locate.Goals.{then-k-sizes, else-k-sizes}
+use Rattle.h5_layout.proofs.grid.row_in_chunk.Goals as goal
+use Rattle.h5_layout.proofs.grid.row_in_chunk.Goals.{then-k-sizes, else-k-sizes}
 
 pub nonzero_rem-index : goal.nonzero_rem-index
 nonzero_rem-index c =

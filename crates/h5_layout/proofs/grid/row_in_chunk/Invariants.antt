@@ -2,7 +2,7 @@ use Rattle.std.proofs.Common.{◌≡◌, ◌/◌, ◌<◌, ◌≤◌, length, dr
 use Rattle.h5_model.specs.Tree.Places.{cells}
 use Rattle.h5_layout.specs.ChunkCells.{left_in_row}
 use Rattle.h5_layout.proofs.LocateLaws.{corner_from, inner_from}
-use Rattle.h5_layout.proofs.grid.locate.Given as goal
+use Rattle.h5_layout.proofs.grid.row_in_chunk.Given as goal
 
 -- what the dimensions from the k-th on say
 abbrev pub invariant-loop-k : goal.invariant-loop-k
