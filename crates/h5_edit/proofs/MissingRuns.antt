@@ -1,15 +1,14 @@
 -- A write of one run into storage that is missing: what is asked of making it, and that the cells stand there then.
-use Rattle.std.proofs.Common.{◌≡◌, ℕ, ℤ, ◌+◌, ◌*◌, ◌^◌, ◌<◌, ◌≤◌, List, [], ◌∷◌, Some, length, sym, ap, arith, ◌∙◌, subst}
+use Rattle.std.proofs.Common.{◌≡◌, ℕ, ℤ, ◌+◌, ◌*◌, ◌^◌, ◌≤◌, List, [], ◌∷◌, Some, length, sym, ap, arith, ◌∙◌, subst}
 use Rattle.std.proofs.lemmas.Option.{same_Some}
 use Rattle.std.specs.List.{Contains}
 use Rattle.h5_layout.specs.Described.{Described}
-use Rattle.h5_layout.specs.Lacking.{IsFound, stored_all, stored_storage}
+use Rattle.h5_layout.specs.Lacking.{IsFound, stored_all}
 use Rattle.h5_layout.specs.RunStorage.{IsMadeAt}
 use Rattle.h5_layout.specs.Standing.{IsStandingAt}
 use Rattle.h5_layout.specs.Storage.{storage_bytes}
 use Rattle.h5_model.specs.Edits.Applied.{with_dataset}
 use Rattle.h5_model.specs.Format.Fixed.{Fixed}
-use Rattle.h5_model.specs.Format.Reads.{storage_of}
 use Rattle.h5_model.specs.Tree.Objects.{Dataset, Tree, dataset_of, with_object}
 use Rattle.h5_model.specs.Views.Selection.{axes_of, selection_of}
 use Rattle.h5_model.specs.declared.edits.Edit.TheVariants.{Write}
@@ -18,7 +17,6 @@ use Rattle.h5_query.specs.ChangedInPlace.{IsChangedInPlace}
 use Rattle.h5_query.specs.Data.{dataset_told}
 use Rattle.h5_query.specs.Opened.Sound.{IsSound}
 use Rattle.h5_query.specs.Opened.State.{FileState}
-use Rattle.h5_query.specs.StandingCellsType.{StandingCells}
 use Rattle.h5_query.specs.Written.{IsArrayThere, IsCellStored}
 use Rattle.h5_shape.specs.OneRun.{IsOneRun}
 use Rattle.h5_shape.specs.declared.runs.CellRun.{CellRun}
@@ -33,7 +31,6 @@ use Rattle.h5_edit.proofs.AttributeFacts.{short_image}
 use Rattle.h5_edit.proofs.ArraysThere.{array_there}
 use Rattle.h5_edit.proofs.ChangedTwice.{dataset_changed}
 use Rattle.h5_edit.proofs.FoundStanding.{places_are}
-use Rattle.h5_edit.proofs.StorageGiven.{written_array}
 use Rattle.h5_edit.proofs.WriteSteps.{has_made, selected_ready}
 use Rattle.h5_edit.proofs.WrittenTrees.{told_is}
 

@@ -5,7 +5,7 @@ use Rattle.std.proofs.lemmas.Option.{same_Some}
 use Rattle.std.specs.Prelude.{is_some}
 use Rattle.std.specs.FinMap.{get}
 use Rattle.std.specs.List.{Contains, list_any, range_with_len}
-use Rattle.std.specs.Option.{IfSome, option_map}
+use Rattle.std.specs.Option.{option_map}
 use Rattle.h5_laws.proofs.Lists.{contains_in, in_range}
 use Rattle.h5_layout.specs.Described.{Described}
 use Rattle.h5_layout.specs.Standing.{IsStandingAt, address_of, is_stored_cell, is_stored_in}

@@ -37,7 +37,7 @@ use Rattle.h5_query.specs.Data.{dataset_told, stored_chunks}
 use Rattle.h5_shape.proofs.Members as shape
 use Rattle.h5_shape.proofs.RisingBoxes as boxes
 use Rattle.h5_layout.specs.Storage.{IsDeepFor, IsDeepIn, IsFullInNewTree, IsFullInTurn, chunks_room_in, storage_bytes}
-use Rattle.h5_layout.specs.Lacking.{IsFound, IsMissing, IsMissingIn}
+use Rattle.h5_layout.specs.Lacking.{IsMissing, IsMissingIn}
 use Rattle.h5_layout.specs.Lacking.{lacks_cells}
 use Rattle.h5_layout.specs.declared.lacking.Missing.{Missing}
 use Rattle.h5_layout.specs.declared.lacking.Missing.TheVariants as missing

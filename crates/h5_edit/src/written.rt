@@ -1,15 +1,13 @@
 //! Cells written (File Format Specification 3.0, sections III.A.1 and IV.A.2.i).
 
-ghost use Rattle.std.specs.Prelude.{◌≡◌, ℕ, ℤ, List, None, Some, IfOk, MatchResult};
+ghost use Rattle.std.specs.Prelude.{◌≡◌, ℕ, ℤ, List, None, Some, MatchResult};
 ghost use Rattle.h5_model.specs.Edits.Refusal.{first_holding};
 ghost use Rattle.h5_model.specs.Tree.Objects.{Dataset, dataset_of};
 ghost use Rattle.h5_model.specs.declared.edits.Edit.TheVariants.{Write};
 ghost use Rattle.h5_model.specs.declared.hyperslab.Hyper.{Hyper as TheHyper};
-ghost use Rattle.h5_query.specs.Kept.{IsArrayAt};
 ghost use Rattle.h5_query.specs.Selected.{hyper_rules};
 ghost use Rattle.h5_edit.specs.Carried.{IsRefused};
 ghost use Rattle.h5_edit.specs.Edited.{IsEdited};
-ghost use Rattle.h5_edit.specs.Refusals.Allowed.{IsWriteAt};
 ghost use Rattle.h5_edit.specs.Stored.{AreSelectedReady, AreSelectedRuns, AreSelectedWritten, HasStorage, IsStoring, IsWriteMade};
 ghost use Rattle.h5_edit.specs.WriteTarget.{IsTarget};
 ghost use Rattle.h5_edit.specs.declared.target.TargetCells.TheVariants as target;

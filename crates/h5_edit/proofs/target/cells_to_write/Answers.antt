@@ -1,7 +1,7 @@
-use Rattle.std.proofs.Common.{◌≡◌, ◌++◌, ◌∙◌, ℕ, List, None, ap}
+use Rattle.std.proofs.Common.{◌∙◌, ap}
 use Rattle.std.specs.Prelude.{option_and_then}
 use Rattle.std.proofs.lemmas.Result.{err_from_is_err_and}
-use Rattle.h5_model.specs.Tree.Objects.{Dataset, dataset_of}
+use Rattle.h5_model.specs.Tree.Objects.{dataset_of}
 use Rattle.h5_model.specs.declared.edits.Edit.TheVariants.{Write}
 use Rattle.h5_edit.proofs.Refusals.{by_rule, short_of_memory}
 use Rattle.h5_edit.proofs.RuleLaws.Exits.{passed_on}

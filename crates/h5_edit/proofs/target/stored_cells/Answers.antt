@@ -1,7 +1,5 @@
-use Rattle.std.proofs.Common.{ℤ, List, Option, subst}
+use Rattle.std.proofs.Common.{Option, subst}
 use Rattle.std.specs.Option.{IfSome}
-use Rattle.h5_layout.specs.Described.{Described}
-use Rattle.h5_model.specs.declared.hyperslab.Hyper.{Hyper}
 use Rattle.h5_shape.specs.declared.runs.CellRun.{CellRun}
 use Rattle.h5_edit.specs.Refusals.Allowed.{AreValuesOfRun}
 use Rattle.h5_edit.proofs.FoundStanding.{run_inside, run_some}

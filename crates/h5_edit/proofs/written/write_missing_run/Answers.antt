@@ -1,4 +1,4 @@
-use Rattle.std.proofs.Common.{ℕ, ◌+◌, ◌*◌, ◌^◌, ◌≤◌, List, Some, refl, subst, sym, arith}
+use Rattle.std.proofs.Common.{ℕ, ◌+◌, ◌*◌, ◌^◌, ◌≤◌, List, Some, subst, sym, arith}
 use Rattle.h5_layout.specs.Described.{Described}
 use Rattle.h5_layout.specs.Lacking.{IsFound}
 use Rattle.h5_layout.specs.Storage.{storage_bytes}
@@ -63,7 +63,7 @@ module _ (c : After-size) {path : List ℕ} {hyper : Hyper} (is : IsTarget c.arg
       (says.full a is.write.there) c.in-Ok.at c.in-Ok.is
 
   abbrev mid : FileState
-  mid = c.make_storage.new.opened
+  mid = c.make_storage.new.self
 
   has : HasStorage c.args.opened.now path hyper c.args.values.now c.args.number mid
   has = run_has m is mid allowed growth (c.in-Ok.ensures.changed a is.write.there) (c.in-Ok.ensures.stored a (axes_of hyper) is.write.there found.1)
@@ -82,16 +82,16 @@ module _ (c : After-size) {path : List ℕ} {hyper : Hyper} (is : IsTarget c.arg
   low = run_low m is mid allowed growth (c.in-Ok.ensures.changed a is.write.there) (c.in-Ok.ensures.stored a (axes_of hyper) is.write.there found.1)
       c.make_storage.ensures.sound c.in-Ok.at (c.in-Ok.ensures.placed a (axes_of hyper) is.write.there found)
 
-pub overflow_mul-result : goal.overflow_mul-result
-overflow_mul-result c =
-    let small = inner_small c.args.run.now c.requires.2 in
-    omega (arith, small, c.size.ensures.size)
+pub overflow_mul-cells : goal.overflow_mul-cells
+overflow_mul-cells c =
+    let small = subst (λ n. c.args.run.now.inner * n ≤ 2 ^ 43) (sym c.size.ensures.size) (inner_small c.args.run.now c.requires.2) in
+    omega (arith, small)
 
-pub overflow_add-result : goal.overflow_add-result
-overflow_add-result c =
-    let d = (goal.at.overflow_add-result c).After-size in
-    let small = inner_small c.args.run.now c.requires.2 in
-    omega (arith, small, c.size.ensures.size, low d c.requires.2)
+pub overflow_add-cells : goal.overflow_add-cells
+overflow_add-cells c =
+    let d = (goal.at.overflow_add-cells c).After-size in
+    let small = subst (λ n. c.args.run.now.inner * n ≤ 2 ^ 43) (sym c.size.ensures.size) (inner_small c.args.run.now c.requires.2) in
+    omega (arith, small, low d c.requires.2)
 
 pub write_standing-requires-clause-run : goal.write_standing-requires-clause-run
 write_standing-requires-clause-run c =
