@@ -14,3 +14,7 @@ pub mod OptionSteps
 pub mod PairSteps
 pub mod AroundLaws
 pub mod RangeLaws
+pub mod AddressLaws
+pub mod RunLaws
+pub mod RunEdits
+pub mod MapEdits

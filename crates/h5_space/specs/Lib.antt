@@ -6,3 +6,4 @@ pub mod Moves
 pub mod Claimed
 pub mod Walk
 pub mod Indexed
+pub mod Addresses

@@ -4,10 +4,10 @@ ghost use Rattle.h5_bytes.specs.Blocks.{block, holds, cover, Separate};
 ghost use Rattle.h5_space.specs.Claimed.{Shares};
 ghost use Rattle.h5_space.specs.Indexed.{IsLastBefore};
 
+use crate::addresses::AddressMap;
 use crate::image::Image;
 use h5_bytes::Block;
 use std::alloc::Global;
-use std::collections::BTreeMap;
 use std::marker::Model;
 
 /// Why a block cannot be claimed.
@@ -31,7 +31,7 @@ pub struct Claims {
     // In the order in which they were begun.
     held: Vec<Block>,
     // From the place of a block to its index. A block that grows keeps both, so nothing is written here for it.
-    places: BTreeMap<u64, usize>,
+    places: AddressMap<usize>,
 }
 
 impl Model for Claims {
@@ -54,7 +54,7 @@ impl Claims {
         Claims {
             end,
             held: Vec::new(alloc),
-            places: BTreeMap::new(alloc),
+            places: AddressMap::new(alloc),
         }
     }
 
@@ -126,7 +126,7 @@ impl Claims {
     {
         // In ascending order, so that no block moves those that were given before it.
         for index in self.places.values() {
-            let block = self.held[*index];
+            let block = self.held[index];
             image.give(block.at, block.len);
         }
     }
@@ -137,13 +137,7 @@ impl Claims {
         ensures found { IfSome result (IsLastBefore self.now.held place) }
         ensures none { IfNone result (All (λ b. place ≤ b.at) self.now.held) }
     {
-        // Blocks mostly come in ascending order, and the last of all is found without a search.
-        if let Some((&last, &index)) = self.places.last_key_value()
-            && last < place
-        {
-            return Some(index);
-        }
-        let (_, &index) = self.places.range(..place).next_back()?;
+        let (_, index) = self.places.last_before(place)?;
         Some(index)
     }
 

@@ -4,12 +4,14 @@
 //! Places and lengths are in bytes.
 #![tactic(auto)]
 
+mod addresses;
 mod claims;
 mod faults;
 mod free_list;
 mod image;
 mod superblock;
 
+pub use addresses::AddressMap;
 pub use claims::{ClaimFault, Claims};
 pub use faults::{claim, fault};
 pub use image::{Image, SpaceFault};

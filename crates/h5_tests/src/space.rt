@@ -1,7 +1,7 @@
 //! That calls succeed where there is memory: no clause can say it.
 
 use h5_bytes::Block;
-use h5_space::Image;
+use h5_space::{AddressMap, Image};
 use std::test::Fail;
 
 #[test]
@@ -73,5 +73,30 @@ fn lends_two_parts_that_share_no_byte(rt: HostRuntime) -> Result<(), Fail> {
         }
         assert!(rt; image.bytes() == after.as_slice(), "row {k}");
     }
+    Ok(())
+}
+
+// Enough for many runs of entries, in an order that looks like chance: both numbers are primes.
+const ADDRESSES: u64 = 1009;
+
+const STEP: u64 = 7919;
+
+#[test]
+fn keeps_values_in_whatever_order_their_addresses_come(rt: HostRuntime) -> Result<(), Fail> {
+    let mut numbers = AddressMap::new(rt.alloc());
+    for k in 0..ADDRESSES {
+        numbers.insert(k * STEP % ADDRESSES, k)?;
+    }
+    for k in 0..ADDRESSES {
+        let address = k * STEP % ADDRESSES;
+        assert!(rt;
+            numbers.get(address) == Some(k)
+                && numbers.last_before(address + 1) == Some((address, k))
+        );
+    }
+    assert!(rt; numbers.get(ADDRESSES).is_none() && numbers.last_before(0).is_none());
+    assert!(rt;
+        numbers.remove(STEP % ADDRESSES) == Some(1) && numbers.get(STEP % ADDRESSES).is_none()
+    );
     Ok(())
 }

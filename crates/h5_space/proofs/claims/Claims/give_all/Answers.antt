@@ -13,7 +13,7 @@ held_is : (c : After-into_iter-index-iterator) → c.self.inside.held.items ≡ 
 held_is c = ap (λ (s : Claimed). s.held) c.self.view_is
 
 indices_are : (c : After-into_iter-index-iterator) → c.into_iter-index-iterator.result ≡ values c.self.inside.places
-indices_are c = c.into_iter-index-iterator.ensures.into_iter_gives ∙ c.values-index-items.ensures.rest
+indices_are c = c.into_iter-index-iterator.ensures.into_iter_gives ∙ c.values-index-items.ensures.gives
 
 pub loop-index-init : goal.loop-index-init
 loop-index-init c =
@@ -39,7 +39,7 @@ pub give-requires-clause-inside : goal.give-requires-clause-inside
 give-requires-clause-inside c =
     let before : After-into_iter-index-iterator = (goal.at.give-requires-clause-inside c).After-into_iter-index-iterator in
     let blocks = c.self.inside.held.items in
-    let index = c.in-Some.index.now in
+    let index = c.in-Some.index in
     let b = c.index-block.result.now in
     let listed : index < length c.args.self.now.held = (subst (λ (is : List ℕ). AllByRecursion (λ i. i < length c.args.self.now.held) is) c.in-Some.ensures.steps c.loop-index.invariant.within).0 in
     let within : index < length blocks = subst (λ (bs : List Block). index < length bs) (sym (held_is before)) listed in
