@@ -1,5 +1,6 @@
 pub mod Heads
 pub mod Laid
+pub mod KeptBlocks
 pub mod Listed
 pub mod Standing
 pub mod Room

@@ -3,6 +3,7 @@
 ghost use Rattle.std.specs.Prelude.{◌≡◌, ◌+◌, ◌≤◌, ◌⊎◌, length, OnOk, IfErr};
 ghost use Rattle.h5_header.specs.Progress.{ReadTo, StopsIn};
 
+use crate::blocks::Blocks;
 use crate::message::{Message, read_message};
 use h5_bytes::Block;
 use h5_model::Cause;
@@ -13,7 +14,7 @@ pub(crate) fn read_block(
     image: &[u8],
     block: Block,
     list: &mut Vec<Message>,
-    blocks: &mut Vec<Block>,
+    blocks: &mut Blocks,
 ) -> Result<(), Cause>
     requires { block.at + block.len ≤ length image.now }
     ensures read { OnOk result

@@ -11,6 +11,7 @@ ghost use Rattle.h5_header.specs.Standing.{kept_at, kept_with_nil};
 ghost use Rattle.h5_header.specs.Progress.{ReadThrough, Stops};
 
 use crate::block::read_block;
+use crate::blocks::Blocks;
 use crate::claims::{PREFIX, claim_prefix};
 use crate::message::{HEAD, Message};
 use h5_bytes::{Block, u16_at, u32_at};
@@ -28,7 +29,7 @@ use std::marker::Model;
 pub struct Messages {
     header: u64,
     list: Vec<Message>,
-    blocks: Vec<Block>,
+    blocks: Blocks,
     room: usize,
 }
 
@@ -46,7 +47,7 @@ impl Model for Messages {
 
 impl Messages {
     /// What is kept of a header with these messages in these blocks, with room for no message more. Takes no memory.
-    pub(crate) fn of(header: u64, list: Vec<Message>, blocks: Vec<Block>) -> Messages
+    pub(crate) fn of(header: u64, list: Vec<Message>, blocks: Blocks) -> Messages
         ensures { result ≡ record { header = header; list = list.items; blocks = blocks.items; room = 0 } }
     {
         Messages {
@@ -76,7 +77,7 @@ impl Messages {
     pub fn blocks(&self) -> &[Block]
         ensures { result.now ≡ self.now.blocks }
     {
-        &self.blocks
+        self.blocks.as_slice()
     }
 
     /// The body of message `k`. Takes no memory.
@@ -116,7 +117,7 @@ impl Messages {
     {
         if self.room == 0 {
             self.list.reserve(2)?;
-            self.blocks.reserve(1)?;
+            self.blocks.reserve()?;
             self.room = 1;
         }
         Ok(())
@@ -184,7 +185,7 @@ impl Messages {
         };
         let _ = self.list.insert(at, first);
         let _ = self.list.insert(at + 1, second);
-        let _ = self.blocks.insert(named, block);
+        self.blocks.insert_reserved(named, block);
         self.room -= 1;
     }
 
@@ -219,10 +220,7 @@ pub(crate) fn read_header(
     let Ok(mut list) = list_for(alloc, image, first) else {
         return Err(fault(Cause::NoMemory, header));
     };
-    let mut blocks = Vec::new(alloc);
-    if blocks.push(first).is_err() {
-        return Err(fault(Cause::NoMemory, header));
-    }
+    let mut blocks = Blocks::one(alloc, first);
     let behind = Block {
         at: header + PREFIX,
         len: first.len - PREFIX,
@@ -231,8 +229,8 @@ pub(crate) fn read_header(
         return Err(fault(cause, header));
     }
     let mut next = 1;
-    while next < blocks.len() {
-        let block = blocks[next];
+    while next < blocks.as_slice().len() {
+        let block = blocks.as_slice()[next];
         claim(claims, block)?;
         if let Err(cause) = read_block(image, block, &mut list, &mut blocks) {
             return Err(fault(cause, header));

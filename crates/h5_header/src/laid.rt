@@ -7,6 +7,7 @@ ghost use Rattle.h5_model.specs.Format.Messages.{Message as Said};
 ghost use Rattle.h5_header.specs.Laid.{IsHeaderBytes};
 ghost use Rattle.h5_header.specs.Listed.{messages_in, IsWithin};
 
+use crate::blocks::Blocks;
 use crate::claims::PREFIX;
 use crate::header::Messages;
 use crate::message::{HEAD, Message};
@@ -42,11 +43,10 @@ impl Messages {
             })?;
             at += HEAD as usize + size as usize;
         }
-        let mut blocks = Vec::new(alloc);
-        blocks.push(Block {
+        let first = Block {
             at: header,
             len: bytes.len() as u64,
-        })?;
-        Ok(Messages::of(header, list, blocks))
+        };
+        Ok(Messages::of(header, list, Blocks::one(alloc, first)))
     }
 }

@@ -7,6 +7,7 @@
 mod add;
 mod block;
 mod block_put;
+mod blocks;
 mod claims;
 mod edits;
 mod find;

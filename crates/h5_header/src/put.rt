@@ -99,6 +99,7 @@ impl Messages {
             × (image.new.room_blocks ≡ image.old.room_blocks) }
         ensures room { self.new.room + 1 ≡ self.old.room }
     {
+        // The image is not longer than memory.
         let _bytes = image.bytes();
         let nil = self.list()[k];
         write_in_nil(

@@ -1,16 +1,13 @@
 -- What a dataspace's body says of each dimension.
-use Rattle.std.proofs.Common.{◌≡◌, ◌≢◌, ℕ, zero, suc, ◌+◌, ◌-◌, ◌*◌, ◌<◌, ◌≤◌, List, length, map, get_or, drop, slice_index, slice_get, Option, Some, None, refl, sym, ap, ◌∙◌, arith, true, false, eq-eqb}
+use Rattle.std.proofs.Common.{◌≡◌, ◌≢◌, ℕ, zero, suc, ◌+◌, ◌-◌, ◌*◌, ◌<◌, ◌≤◌, List, length, map, get_or, slice_index, slice_get, Option, Some, None, refl, sym, ap, ◌∙◌, arith, true, false, eq-eqb}
 use Rattle.std.proofs.lemmas.Bool.Decides.{nat_tests}
-use Rattle.std.proofs.lemmas.List.{get_or-take, get_or-drop}
-use Rattle.std.proofs.lemmas.List.FromFn.{length-map-range_with_len, get_or-map-range_with_len, fill_by_all}
+use Rattle.std.proofs.lemmas.List.FromFn.{length-map-range_with_len, get_or-map-range_with_len}
 use Rattle.std.proofs.lemmas.Option.{slice_get-get_or}
 use Rattle.std.specs.Prelude.{◌==◌}
-use Rattle.std.specs.List.{range_with_len, slice_range}
-use Rattle.byteorder.specs.Endian.{IsRead, little_number}
+use Rattle.std.specs.List.{range_with_len}
 use Rattle.h5_bytes.specs.Bytes.{number_at, byte_at, undefined}
 use Rattle.h5_model.specs.Tree.Places.{cells}
 use Rattle.h5_model.specs.Format.Extent.{Extent, extent_in, is_dataspace, rank_in, size_in, maximum_in}
-use Rattle.h5_model.proofs.ValueLaws.{little_moved}
 
 -- the sizes are there, and the maxima where the flag is set
 pub record HasRoom (body : List ℕ) : Type 0 where
@@ -53,15 +50,6 @@ maximum_at body e k is low =
     let here : get_or e.maxima k (maximum_in body k) ≡ maximum_in body k
     = ap (λ (x : Extent). get_or x.maxima k (maximum_in body k)) (sym is) ∙ get_or-map-range_with_len (maximum_in body) 0 (rank_in body) k k (maximum_in body k) (omega arith) (omega arith) in
     slice_get-get_or e.maxima k (maximum_in body k) (omega arith) ∙ ap (λ (x : Option ℕ). Some x) here
-
--- the sizes read all at once
-pub sizes_read : (body dst : List ℕ) (n : ℕ) → length dst ≡ n → IsRead little_number 8 (slice_range body 8 (8 + 8 * n)) dst → dst ≡ map (size_in body) (range_with_len 0 n)
-unfolding number_at
-sizes_read body dst n long read = fill_by_all (size_in body) dst n 0 long (λ k low.
-    read k (omega arith) ∙ little_moved 8 body (drop (8 * k) (slice_range body 8 (8 + 8 * n))) (8 + 8 * k) 0 (λ j small.
-    let left : 0 + j ≡ j = omega arith in
-    let over : 8 + (8 * k + j) ≡ 8 + 8 * k + j = omega arith in
-    rw left (get_or-drop (8 * k) (slice_range body 8 (8 + 8 * n)) j 0 ∙ get_or-take (8 + 8 * n - 8) (drop 8 body) (8 * k + j) 0 (omega arith) ∙ get_or-drop 8 body (8 * k + j) 0 ∙ ap (λ (i : ℕ). get_or body i 0) over)))
 
 pub cells_step : (f : ℕ → ℕ) (k n : ℕ) → n ≢ 0 → cells (map f (range_with_len k n)) ≡ f k * cells (map f (range_with_len (k + 1) (n - 1)))
 cells_step f k zero some = absurd (some refl)

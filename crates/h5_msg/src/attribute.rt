@@ -75,6 +75,7 @@ impl<'a> AttributeBody<'a> {
         ensures cells { result ≡ cells_of self.now.1.sizes }
         ensures values { result ≡ length self.now.1.values }
     {
+        // Its type is sound.
         let _size = self.fixed.size();
         self.extent.cells()
     }

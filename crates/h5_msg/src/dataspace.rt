@@ -83,10 +83,11 @@ impl<'a> Dataspace<'a> {
     pub fn dims(&self) -> Dims
         ensures { result ≡ self.now.sizes }
     {
-        let rank = usize::from(self.body[1]);
-        let mut sizes = [0; MAX_RANK];
-        read_sizes(self.body, rank, &mut sizes[..rank]);
-        Dims::new(&sizes[..rank]).unwrap()
+        let mut dims = Dims::scalar();
+        for k in 0..self.rank() {
+            dims.push(self.size(k));
+        }
+        dims
     }
 
     /// How many cells there are, or `u64::MAX` where there are more.
@@ -95,15 +96,6 @@ impl<'a> Dataspace<'a> {
     {
         cells_from(self.body, 0, usize::from(self.body[1]))
     }
-}
-
-/// Reads so many sizes.
-fn read_sizes(body: &[u8], rank: usize, sizes: &mut [u64])
-    requires there { 8 + 8 * rank ≤ length body.now }
-    requires room { length sizes.old ≡ rank }
-    ensures { sizes.new ≡ map (size_in body.now) (range_with_len 0 rank) }
-{
-    LittleEndian::read_u64_into(&body[SIZES..SIZES + 8 * rank], sizes);
 }
 
 /// The product of so many sizes from dimension `k` on, or `u64::MAX` where it is larger.

@@ -1,5 +1,5 @@
 //! The sizes of an array, and the row-major places of its cells (File Format Specification 3.0, section IV.A.2.b).
-ghost use Rattle.std.specs.Prelude.{◌≡◌, ◌-◌, ◌^◌, ◌<◌, ◌≤◌, ◌↔◌, IsTrue, IsSome, IfSome, length, min, nat_le};
+ghost use Rattle.std.specs.Prelude.{◌≡◌, ◌-◌, ◌^◌, ◌<◌, ◌≤◌, ◌↔◌, [], ◌∷◌, ◌++◌, IsTrue, IsSome, IfSome, length, min, nat_le};
 ghost use Rattle.h5_model.specs.Tree.Places.{cells as cells_of, extent_cells, place_of, IsInside, is_inside as inside};
 
 use std::marker::Model;
@@ -41,6 +41,27 @@ impl Dims {
         let mut room = [0; MAX_RANK];
         room[..rank].copy_from_slice(sizes);
         Some(Dims { sizes: room, rank })
+    }
+
+    /// No sizes, those of a scalar. It takes no memory.
+    pub fn scalar() -> Dims
+        ensures { result ≡ [] }
+    {
+        Dims {
+            sizes: [0; MAX_RANK],
+            rank: 0,
+        }
+    }
+
+    /// Puts a size behind the others: that of the dimension that runs fastest then. It takes no memory.
+    ///
+    /// That there are fewer than 32 is the caller's condition.
+    pub fn push(&mut self, size: u64)
+        requires few { length self.old < 32 }
+        ensures { self.new ≡ self.old ++ size ∷ [] }
+    {
+        self.sizes[self.rank] = size;
+        self.rank += 1;
     }
 
     /// The sizes, in cells, with the dimension that runs slowest first.
