@@ -11,8 +11,9 @@ use Rattle.h5_model.specs.Format.Nodes.{Kind, node_at, reading_of}
 use Rattle.h5_laws.specs.ExactKeys.{IsExact}
 use Rattle.h5_laws.specs.ExactWays.{IsExactFor}
 use Rattle.h5_laws.specs.KeyTrees.{KeyTree, items_in}
+use Rattle.h5_laws.specs.NameLadders.{key_sides}
 use Rattle.h5_laws.proofs.ExactKeysLast.{none_left, none_right}
-use Rattle.h5_laws.proofs.ExactKeysNames.{key_let_in, key_sides}
+use Rattle.h5_laws.proofs.ExactKeysNames.{key_let_in}
 use Rattle.h5_laws.proofs.ExactKeysWays.{LetsIn, eased_exact}
 use Rattle.h5_space.specs.Space.{Space}
 use Rattle.h5_btree.specs.Climb.{IsNoNode, IsWay}

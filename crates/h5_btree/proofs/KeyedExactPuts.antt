@@ -11,9 +11,10 @@ use Rattle.h5_laws.specs.ExactKeys.{IsExact}
 use Rattle.h5_laws.specs.ExactWays.{IsExactFor}
 use Rattle.h5_laws.specs.KeyEdits.{Grown, One, Two, Inserts, IsPut, IsRaised}
 use Rattle.h5_laws.specs.KeyTrees.{KeyTree, IsSorted}
+use Rattle.h5_laws.specs.NameLadders.{key_sides}
 use Rattle.h5_laws.proofs.ExactKeysLast.{some_there}
 use Rattle.h5_laws.proofs.ExactKeysMore.{IsCutExact, IsExactGrown, inserts_exact, raised_exact}
-use Rattle.h5_laws.proofs.ExactKeysNames.{key_let_in, key_order, key_own, key_parts, key_sides, key_through}
+use Rattle.h5_laws.proofs.ExactKeysNames.{key_let_in, key_order, key_own, key_parts, key_through}
 use Rattle.h5_laws.proofs.KeyDepth.{EachGrown, IsBushy, bushy_grown}
 use Rattle.h5_laws.proofs.KeyInserts.{IsGrown}
 use Rattle.h5_space.specs.Space.{Space}

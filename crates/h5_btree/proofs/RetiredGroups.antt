@@ -11,8 +11,8 @@ use Rattle.h5_model.proofs.TextOrder.{before_le, not_after_itself}
 use Rattle.h5_laws.specs.KeyEdits.{AreAlike, Retires}
 use Rattle.h5_laws.specs.KeyTrees.{KeyTree, items_in, IsSorted}
 use Rattle.h5_laws.specs.Ladders.{LieBetween, IsLadder}
-use Rattle.h5_laws.specs.NameLadders.{key_text, name_sides}
-use Rattle.h5_laws.proofs.ExactKeysNames.{key_order, key_sides, key_through}
+use Rattle.h5_laws.specs.NameLadders.{key_sides, key_text, name_sides}
+use Rattle.h5_laws.proofs.ExactKeysNames.{key_order, key_through}
 use Rattle.h5_laws.proofs.KeyRemoves.{AreRising, retires_sorted}
 use Rattle.h5_space.specs.Space.{Space}
 use Rattle.h5_btree.specs.Keyed.{at_children, keys_from, IsInOrder, items_of_tree}

@@ -14,8 +14,7 @@ use Rattle.h5_model.specs.Format.Links.{Symbols, names_in, offset_in}
 use Rattle.h5_model.specs.Format.Symbols.{Entry, Target, symbols_at, symbols_of, texts_of}
 use Rattle.h5_model.proofs.NumberLaws.{reads_back}
 use Rattle.h5_model.proofs.RowLaws.{only_here}
-use Rattle.h5_laws.specs.NameLadders.{key_text}
-use Rattle.h5_laws.proofs.ExactKeysNames.{key_sides}
+use Rattle.h5_laws.specs.NameLadders.{key_sides, key_text}
 use Rattle.h5_laws.proofs.Lists.{In, all_in, in_all, in_flat, in_left, in_map}
 use Rattle.h5_space.specs.Space.{Space}
 use Rattle.h5_btree.specs.Keyed.{IsInOrder}

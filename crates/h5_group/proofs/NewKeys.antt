@@ -15,14 +15,14 @@ use Rattle.h5_model.specs.Format.Symbols.{Entry, Target, symbols_at, symbols_of,
 use Rattle.h5_model.specs.Tree.Paths.{is_name}
 use Rattle.h5_laws.specs.ExactWays.{IsExactFor}
 use Rattle.h5_laws.specs.KeyEdits.{IsPut}
-use Rattle.h5_laws.specs.NameLadders.{key_text}
+use Rattle.h5_laws.specs.NameLadders.{key_sides, key_text}
 use Rattle.h5_laws.proofs.Lists.{In, in_left, in_right}
 use Rattle.h5_space.specs.Space.{Space}
 use Rattle.h5_btree.specs.Keyed.{keys_from}
 use Rattle.h5_btree.specs.Retired.{lowest_key}
 use Rattle.h5_btree.proofs.KeyedExactPuts.{AreExactFor}
 use Rattle.h5_group.specs.Edited.{IsGroupIn, offsets_of}
-use Rattle.h5_group.specs.Exact.{AreSymbolsFilled, HasKeysFor, key_sides}
+use Rattle.h5_group.specs.Exact.{AreSymbolsFilled, HasKeysFor}
 use Rattle.h5_group.specs.Nodes.Trees.{kind_in}
 use Rattle.h5_group.specs.Retired.{entry_keys, name_keys}
 use Rattle.h5_group.specs.Told.{symbol_nodes_told}
@@ -82,7 +82,7 @@ module _ (s : Space) (table : SymbolTable) (links : List (List ℕ × Target)) (
         → AreExactFor (key_text segment) (lowest_empty s table links spare blocks group) (word e.name) new_above (node_at s.bytes (kind_in s.bytes)) (entry_keys leaf s.bytes)
         (group.linked).level table.tree
     exact_for has =
-        subst (λ (l : ℕ). IsExactFor (key_sides segment) (word e.name) (λ (key : List ℕ). key) lowest_key (λ (keys : List (List ℕ)). keys) (suc l) None
+        subst (λ (l : ℕ). IsExactFor (key_sides (key_text segment)) (word e.name) (λ (key : List ℕ). key) lowest_key (λ (keys : List (List ℕ)). keys) (suc l) None
         (keys_from (node_at s.bytes (kind_in s.bytes)) (λ key at. entry_keys leaf s.bytes at) l table.tree)) (level_there s table links spare blocks group) has.exact
 
     -- it comes in among others as its name does

@@ -22,8 +22,8 @@ use Rattle.h5_model.proofs.RowLaws.{at_listed}
 use Rattle.h5_laws.specs.ExactWays.{IsExactFor}
 use Rattle.h5_laws.specs.KeyEdits.{IsPut, Two}
 use Rattle.h5_laws.specs.KeyTrees.{KeyTree, IsSorted}
-use Rattle.h5_laws.specs.NameLadders.{key_text}
-use Rattle.h5_laws.proofs.ExactKeysNames.{key_let_in, key_sides}
+use Rattle.h5_laws.specs.NameLadders.{key_sides, key_text}
+use Rattle.h5_laws.proofs.ExactKeysNames.{key_let_in}
 use Rattle.h5_laws.proofs.KeyInserts.{all_both}
 use Rattle.h5_laws.proofs.Lists.{In, in_left, in_right}
 use Rattle.h5_space.specs.Space.{Space}

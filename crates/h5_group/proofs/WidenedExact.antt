@@ -16,7 +16,7 @@ use Rattle.h5_model.specs.Tree.Paths.{is_name}
 use Rattle.h5_model.proofs.OneTree.{level_is}
 use Rattle.h5_laws.specs.ExactWays.{IsExactFor}
 use Rattle.h5_laws.specs.KeyTrees.{KeyTree}
-use Rattle.h5_laws.specs.NameLadders.{key_text}
+use Rattle.h5_laws.specs.NameLadders.{key_sides, key_text}
 use Rattle.h5_laws.proofs.Lists.{In, in_all, in_right}
 use Rattle.h5_space.specs.Space.{Space}
 use Rattle.h5_btree.specs.Exact.{AreKeysExact}
@@ -31,7 +31,7 @@ use Rattle.h5_btree.proofs.KeyedFills.{kept_trees}
 use Rattle.h5_btree.proofs.KeyedOwn.{keys_count}
 use Rattle.h5_btree.proofs.WaysDown.{IsChosen}
 use Rattle.h5_group.specs.Edited.{IsGroupIn, heap_text}
-use Rattle.h5_group.specs.Exact.{HasExactKeys, HasKeysFor, key_sides}
+use Rattle.h5_group.specs.Exact.{HasExactKeys, HasKeysFor}
 use Rattle.h5_group.specs.Nodes.Trees.{kind_in}
 use Rattle.h5_group.specs.Retired.{entry_keys, name_keys}
 use Rattle.h5_group.specs.Ways.{IsWayOf, behind_of}
@@ -130,7 +130,7 @@ module _ (s t : Space) (table : SymbolTable) (name : List ℕ) (way : List Step)
   same = entries_kept s t table links spare blocks group (moved s t table name way w low high named wide tree others links spare blocks group offset spared low_is high_is text)
 
   abbrev Lets : List ℕ → List ℕ → (l : ℕ) → KeyTree (List ℕ) (List (List ℕ)) (suc l) → Type 0
-  Lets seg x l = IsExactFor (key_sides seg) x (λ (key : List ℕ). key) lowest_key (λ (keys : List (List ℕ)). keys) (suc l) None
+  Lets seg x l = IsExactFor (key_sides (key_text seg)) x (λ (key : List ℕ). key) lowest_key (λ (keys : List (List ℕ)). keys) (suc l) None
 
   lets_in : HasExactKeys s.bytes table → Lets segment (word offset) level (keys_from W (λ key at. entry_keys leaf t.bytes at) level table.tree)
   lets_in has =

@@ -5,13 +5,11 @@ use Rattle.std.specs.List.{AllByRecursion}
 use Rattle.h5_bytes.specs.Numbers.{word}
 use Rattle.h5_model.specs.Format.Addresses.{SymbolTable}
 use Rattle.h5_model.specs.Format.Heap.{segment_of}
-use Rattle.h5_model.specs.Format.Links.{Before, NotAfter}
 use Rattle.h5_model.specs.Format.Nodes.{node_at}
 use Rattle.h5_model.specs.Format.Reached.{level_at}
 use Rattle.h5_model.specs.Format.Superblock.{leaf_k}
 use Rattle.h5_laws.specs.ExactWays.{IsExactFor}
-use Rattle.h5_laws.specs.Ladders.{Sides}
-use Rattle.h5_laws.specs.NameLadders.{key_text}
+use Rattle.h5_laws.specs.NameLadders.{key_sides, key_text}
 use Rattle.h5_btree.specs.Exact.{AreKeysExact}
 use Rattle.h5_btree.specs.Keyed.{keys_from}
 use Rattle.h5_btree.specs.Looked.{AreHitsLooked}
@@ -56,17 +54,9 @@ abbrev pub AreKeysLooked : ℕ → Option (List Step) → List ℕ → SymbolTab
 AreKeysLooked offset steps image table =
     AreHitsLooked (is_of offset) (node_at image (kind_in image)) steps (suc (level_at image (kind_in image) table.tree)) true table.tree
 
--- which names may stand beside a key, where keys stand for them in this segment
-abbrev pub key_sides : List ℕ → Sides (List ℕ) (List ℕ)
-key_sides segment = record {
-  Right = λ key name. Before (key_text segment key) (key_text segment name);
-  Left = λ name key. NotAfter (key_text segment name) (key_text segment key);
-  Rise = λ key next. NotAfter (key_text segment key) (key_text segment next);
-}
-
 -- The keys are exact, but for those that were moved to let in the name at this offset.
 pub record HasKeysFor (offset : ℕ) (image : List ℕ) (table : SymbolTable) : Type 0 where
-  pub exact : IsExactFor (key_sides (segment_of image table.heap)) (word offset) (λ (key : List ℕ). key) lowest_key (λ (keys : List (List ℕ)). keys)
+  pub exact : IsExactFor (key_sides (key_text (segment_of image table.heap))) (word offset) (λ (key : List ℕ). key) lowest_key (λ (keys : List (List ℕ)). keys)
       (suc (level_at image (kind_in image) table.tree)) None
       (keys_from (node_at image (kind_in image)) (λ key at. entry_keys (leaf_k image) image at) (level_at image (kind_in image) table.tree) table.tree)
   pub filled : AreSymbolsFilled image table

@@ -11,6 +11,10 @@ use Rattle.h5_group.specs.Told.{links_told, blocks_told}
 use Rattle.h5_model.specs.declared.link.Link.{Link}
 use Rattle.h5_model.specs.declared.link.LinkTo.{LinkTo}
 use Rattle.h5_model.specs.declared.link.LinkTo.TheVariants as target
+use Rattle.h5_bytes.specs.Texts.{text_at}
+use Rattle.h5_snod.specs.declared.entry.SymbolEntry.{SymbolEntry}
+use Rattle.h5_snod.specs.declared.entry.SymbolTarget.{SymbolTarget}
+use Rattle.h5_snod.specs.declared.entry.SymbolTarget.TheVariants as said
 
 -- The group at this tree and heap stands in the image, with the links that are told of it in the blocks that are told.
 pub record IsGroupRead (image : List ℕ) (table : SymbolTable) : Type 0 where
@@ -27,11 +31,12 @@ pub record IsGroupReadable (image : List ℕ) (table : SymbolTable) (held : List
   pub inside : Inside (length image) blocks
   pub separate : (p : ℕ) → cover p held + cover p blocks ≤ 1
 
--- a link, as the file has it
+-- where a link leads, as the file has it
 abbrev pub lent_target : LinkTo ℕ → Target
 lent_target (target.Object header) = Header header
 lent_target (target.Soft text) = Text text.now
 
+-- a link, as the file has it
 abbrev pub lent_link : Link ℕ → List ℕ × Target
 lent_link l = (l.name.now, lent_target l.to)
 
@@ -42,3 +47,11 @@ IsLinkNamed image table name l = Contains (links_told image table) (lent_link l)
 -- the group has no link of this name
 abbrev pub HasNone : List ℕ → SymbolTable → List ℕ → Type 0
 HasNone image table name = (t : Target) → Contains (links_told image table) (name, t) → ⊥
+
+-- the link that an entry says, whose texts stand in this segment
+abbrev pub target_said : List ℕ → SymbolTarget → Target
+target_said segment (said.Header header) = Header header
+target_said segment (said.Text offset) = Text (text_at segment offset)
+
+abbrev pub link_said : List ℕ → SymbolEntry → List ℕ × Target
+link_said segment e = (text_at segment e.name, target_said segment e.target)

@@ -22,6 +22,7 @@ pub use group::read_group;
 pub use h5_btree::InsertFault;
 pub use h5_msg::{SymbolTable, read_symbol_table};
 pub use h5_space::{MAXIMUM_IMAGE, Superblock, length_for, push_superblock};
+pub use link::GroupLink;
 pub use list::{Links, group_links, links_at, symbol_nodes};
 pub use search::lookup;
 pub use write::{GroupFault, GroupPlaces, ObjectPlace, group_places, push_links};

@@ -1,19 +1,18 @@
 //! All links of a group (File Format Specification 3.0, section III.B).
 
 ghost use Rattle.std.specs.Prelude.{◌≡◌, ◌+◌, ◌^◌, ◌<◌, [], ◌∷◌, IfOk, MatchOption, OnSome, drop, length, map};
-ghost use Rattle.std.specs.Iterator.{YieldsFirstBy, item_count};
+ghost use Rattle.std.specs.Iterator.{YieldsFirst, item_count};
 ghost use Rattle.std.specs.List.{Contains};
 ghost use Rattle.h5_model.specs.Format.Superblock.{leaf_k};
 ghost use Rattle.h5_model.specs.Format.Symbols.{symbols_at, link_of};
-ghost use Rattle.h5_group.specs.Links.{IsGroupRead, lent_link};
+ghost use Rattle.h5_group.specs.Links.{IsGroupRead};
 ghost use Rattle.h5_group.specs.LinksLeft.{entries_under_way};
 ghost use Rattle.h5_group.specs.Told.{links_told, symbol_nodes_told};
 
-use crate::link::link_in;
+use crate::link::{GroupLink, link_in};
 use crate::nodes::{self, SymbolNodes};
 use crate::read::{segment, symbol_node};
 use h5_btree::tree_leaves;
-use h5_model::Link;
 use h5_msg::SymbolTable;
 use h5_snod::SymbolNode;
 use h5_space::Image;
@@ -78,13 +77,13 @@ impl<'a> Links<'a> {
 }
 
 impl<'a> Iterator for Links<'a> {
-    type Item = Link<'a, u64>;
+    type Item = GroupLink<'a>;
 
-    ghost next_gives = { YieldsFirstBy lent_link (λ left. left) };
+    ghost next_gives = { YieldsFirst (λ left. left) };
 
     ghost remaining = { item_count (λ left. left) };
 
-    fn next(&mut self) -> Option<Link<'a, u64>> {
+    fn next(&mut self) -> Option<GroupLink<'a>> {
         loop {
             if let Some(link) = link_at(self.segment, &self.node, self.place) {
                 self.place += 1;
@@ -99,10 +98,10 @@ impl<'a> Iterator for Links<'a> {
 }
 
 /// The link of entry `i` of the symbol node under way, or `None` where there is no such entry.
-fn link_at<'a>(segment: &'a [u8], node: &Option<SymbolNode<'_>>, i: usize) -> Option<Link<'a, u64>>
+fn link_at<'a>(segment: &'a [u8], node: &Option<SymbolNode<'_>>, i: usize) -> Option<GroupLink<'a>>
     ensures link { let links = map (link_of segment.now) (drop i (entries_under_way node.now)) in
         MatchOption result (links ≡ []) (λ link.
-        links ≡ lent_link link ∷ map (link_of segment.now) (drop (i + 1) (entries_under_way node.now))) }
+        links ≡ link ∷ map (link_of segment.now) (drop (i + 1) (entries_under_way node.now))) }
     ensures next { OnSome result (i + 1 < 2 ^ 64) }
 {
     match node {

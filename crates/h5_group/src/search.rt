@@ -30,7 +30,7 @@ pub fn lookup<'a>(image: &'a Image, table: SymbolTable, name: &[u8]) -> Option<L
     };
     let node = symbol_node(image, table, at);
     match node.find(segment, name) {
-        Ok(i) => Some(link_in(segment, &node, i)),
+        Ok(i) => Some(link_in(segment, &node, i).link()),
         Err(_) => None,
     }
 }

@@ -74,6 +74,7 @@ impl Heap {
     ///
     /// `HeapName`, at the header: as of [`Heap::name`]; or the text shares a byte with the empty name, a free block, or
     /// a text that was taken before. Then nothing changes.
+    #[inline(always)]
     pub fn take<'a>(&mut self, image: &'a Image, offset: u64) -> Result<&'a [u8], OpenFault>
         requires { self.old.segment.at + self.old.segment.len ≤ length image.now.bytes }
         ensures text { IfOk result (λ x. x.now ≡ text_at (segment_in image.now.bytes self.old) offset) }

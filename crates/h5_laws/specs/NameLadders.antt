@@ -13,6 +13,14 @@ name_sides text = record {
   Rise = λ key next. NotAfter (text key) (text next);
 }
 
+-- a key beside another one, each by the text for which it stands
+abbrev pub key_sides : {K : Type 0} → (K → List ℕ) → Sides K K
+key_sides text = record {
+  Right = λ key y. Before (text key) (text y);
+  Left = λ y key. NotAfter (text y) (text key);
+  Rise = λ key next. NotAfter (text key) (text next);
+}
+
 -- the text for which a key of a group's tree stands
 abbrev pub key_text : List ℕ → List ℕ → List ℕ
 key_text segment key = text_at segment (offset_in key)

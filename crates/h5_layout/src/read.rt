@@ -69,6 +69,8 @@ pub fn known_array<'a>(image: &'a Image, messages: &Messages) -> ArrayRef<'a>
 }
 
 /// The array, or the first rule that these messages break.
+// Inlined, so that the array is made where it is to stand: it has room for 32 sizes, which takes time to be moved.
+#[inline(always)]
 fn judge<'a>(image: &'a Image, messages: &Messages) -> Result<ArrayRef<'a>, Cause>
     requires within { IsWithin (length image.now.bytes) messages.now.list }
     requires dataset { IsOfDataset (messages_in image.now.bytes messages.now.list) }

@@ -1,6 +1,6 @@
 //! An array with the image in which its cells stand.
 
-ghost use Rattle.std.specs.Prelude.{◌≡◌, ◌^◌, ◌≤◌, false, IfSome, MatchOption, [], ◌∷◌, length};
+ghost use Rattle.std.specs.Prelude.{◌≡◌, ◌+◌, ◌^◌, ◌<◌, ◌≤◌, false, IfSome, MatchOption, [], ◌∷◌, length};
 ghost use Rattle.h5_model.specs.Edits.Refusal.{is_chunked};
 ghost use Rattle.h5_model.specs.Tree.Objects.{Chunked};
 ghost use Rattle.h5_model.specs.Tree.Places.{IsInside, cells as cells_of};
@@ -11,6 +11,7 @@ ghost use Rattle.h5_model.specs.Views.Shown.{is_in_line, is_lent, selected_value
 ghost use Rattle.h5_shape.specs.Runs.{cell_runs};
 ghost use Rattle.h5_layout.specs.Data.{AreDataRead, IsSoundDataset, dataset_told};
 ghost use Rattle.h5_layout.specs.Lent.{AreInLine, IsLent, IsStandingSelection};
+ghost use Rattle.h5_layout.specs.Runs.{HasBytes, IsPieceAt};
 
 use crate::array::{ArrayRef, block_bytes};
 use crate::cells::{StoredCells, run_bytes};
@@ -135,7 +136,7 @@ impl<'a> StoredArray<'a> {
         if let Some(bytes) = self.line() {
             return Some(run_bytes(&self.array.fixed(), bytes, &run));
         }
-        let (piece, cells) = self.cells().piece(run.place, run.length);
+        let (piece, cells) = self.piece(run.place, run.length);
         if cells < run.length {
             return None;
         }
@@ -143,6 +144,22 @@ impl<'a> StoredArray<'a> {
             Piece::Bytes(bytes) => Some(bytes),
             Piece::Fill { .. } => None,
         }
+    }
+
+    /// A piece of its cells from a place on, with at most so many, and how many it has.
+    // A call of its own: the room for what is found of chunks is cleared where chunks are sought alone.
+    #[inline(never)]
+    fn piece(&self, place: u64, most: u64) -> (Piece<'a>, u64)
+        requires some { 0 < most }
+        requires below { place + most ≤ length self.now.cells }
+        ensures piece { IsPieceAt (record {
+          fixed = self.now.fixed;
+          fill = self.now.fill;
+          values = self.now.cells;
+        }) place most result.0 result.1 }
+        ensures bytes { HasBytes result.0 }
+    {
+        self.cells().piece(place, most)
     }
 
     /// The bytes in which its cells stand one behind another.

@@ -1,12 +1,12 @@
 -- A link that leads to no object, to one that was read before, or to a new one.
-use Rattle.std.proofs.Common.{Bor, ◌≡◌, ◌≢◌, ◌==◌, inl, ℕ, ◌+◌, ◌-◌, ◌<◌, ◌≤◌, List, [], ◌∷◌, ◌++◌, length, get_or, refl, sym, ◌∙◌, subst, Some, arith}
+use Rattle.std.proofs.Common.{Bor, ap, ◌≡◌, ◌≢◌, ◌==◌, inl, ℕ, ◌+◌, ◌-◌, ◌<◌, ◌≤◌, List, [], ◌∷◌, ◌++◌, length, get_or, refl, sym, ◌∙◌, subst, Some, arith}
 use Rattle.std.specs.List.{Contains}
 use Rattle.std.specs.Prelude.{slice_get}
 use Rattle.std.proofs.lemmas.List.{append-nil}
 use Rattle.h5_bytes.specs.declared.Block.{Block}
 use Rattle.h5_model.specs.Format.Reached.{Named, named, ObjectHeader}
 use Rattle.h5_model.specs.Faults.HeaderFaults.{SomeMessage}
-use Rattle.h5_model.specs.Format.Symbols.{Target, Header}
+use Rattle.h5_model.specs.Format.Symbols.{Target, Header, Text}
 use Rattle.h5_model.specs.declared.open_fault.Cause.{Cause}
 use Rattle.h5_model.specs.declared.open_fault.Cause.TheVariants.{GroupLinkedTwice, TooLarge}
 use Rattle.h5_header.specs.Listed.{messages_in}
@@ -24,8 +24,7 @@ use Rattle.h5_open.specs.Opened.Refused.{IsOpenRefusedAt}
 use Rattle.h5_open.specs.Opened.Objects.{content_links}
 use Rattle.h5_open.specs.Placed.Whole.{IsGroupContent}
 use Rattle.h5_open.specs.Walk.{IsNamedBy, IsUnder, IsReady, AreFurtherObjects, IsTreeRead, IsLinkReady, IsLinkRead, CountsLink}
-use Rattle.h5_group.specs.Links.{lent_link, lent_target}
-use Rattle.h5_model.specs.declared.link.Link.{Link}
+use Rattle.h5_group.specs.Links.{lent_target}
 use Rattle.h5_model.specs.declared.link.LinkTo.{LinkTo}
 use Rattle.h5_model.specs.declared.link.LinkTo.TheVariants as target
 use Rattle.h5_open.proofs.CountedLaws.CountLaws.{counted_text, one_more}
@@ -127,24 +126,35 @@ refused_again image held followed objects field header depth ready counts name w
 
 -- ---- by the link's target
 
-pub ready_at : (image : List ℕ) (held : List Block) (followed : List Named) (objects : List OpenedObject) (field depth : ℕ) (l : Link ℕ) (header : ℕ) → l.to ≡ target.Object header
-    → IsLinkReady image held followed objects field depth (lent_link l) → IsReady image held followed objects field header (depth + 1)
-ready_at image held followed objects field depth l header is ready =
-    subst (λ (t : LinkTo ℕ). IsLinkReady image held followed objects field depth (l.name.now, lent_target t)) is ready
+-- where a link leads, by what was told of it
+pub leads_to : (t : Target) (to : LinkTo ℕ) (header : ℕ) → lent_target to ≡ t → to ≡ target.Object header → t ≡ Header header
+leads_to t to header same is = sym same ∙ ap lent_target is
 
-pub counted_at : (image : List ℕ) (objects : List OpenedObject) (counts : List ℕ) (waiting : List (List ℕ × Target)) (l : Link ℕ) (header : ℕ) → l.to ≡ target.Object header
-    → AreCounted image objects counts (lent_link l ∷ waiting) → AreCounted image objects counts ((l.name.now, Header header) ∷ waiting)
+pub leads_to_text : (t : Target) (to : LinkTo ℕ) (text : Bor (List ℕ)) → lent_target to ≡ t → to ≡ target.Soft text → t ≡ Text text.now
+leads_to_text t to text same is = sym same ∙ ap lent_target is
+
+pub leads_to_none : (t : Target) (to : LinkTo ℕ) → lent_target to ≡ t → ((header : ℕ) → to ≡ target.Object header → ⊥) → (header : ℕ) → t ≡ Header header → ⊥
+leads_to_none t (target.Object at) same none header is = none at refl
+leads_to_none t (target.Soft text) same none header is = let never : Text text.now ≡ Header header = same ∙ is in cc
+
+pub ready_at : (image : List ℕ) (held : List Block) (followed : List Named) (objects : List OpenedObject) (field depth : ℕ) (l : List ℕ × Target) (header : ℕ) → l.1 ≡ Header header
+    → IsLinkReady image held followed objects field depth l → IsReady image held followed objects field header (depth + 1)
+ready_at image held followed objects field depth l header is ready =
+    subst (λ (t : Target). IsLinkReady image held followed objects field depth (l.0, t)) is ready
+
+pub counted_at : (image : List ℕ) (objects : List OpenedObject) (counts : List ℕ) (waiting : List (List ℕ × Target)) (l : List ℕ × Target) (header : ℕ) → l.1 ≡ Header header
+    → AreCounted image objects counts (l ∷ waiting) → AreCounted image objects counts ((l.0, Header header) ∷ waiting)
 counted_at image objects counts waiting l header is are =
-    subst (λ (t : LinkTo ℕ). AreCounted image objects counts ((l.name.now, lent_target t) ∷ waiting)) is are
+    subst (λ (t : Target). AreCounted image objects counts ((l.0, t) ∷ waiting)) is are
 
 -- a soft link is no more to count
-pub soft_counted : (image : List ℕ) (objects : List OpenedObject) (counts : List ℕ) (l : Link ℕ) (text : Bor (List ℕ)) → l.to ≡ target.Soft text
-    → CountsLink image objects counts objects counts (lent_link l)
+pub soft_counted : (image : List ℕ) (objects : List OpenedObject) (counts : List ℕ) (l : List ℕ × Target) (text : List ℕ) → l.1 ≡ Text text
+    → CountsLink image objects counts objects counts l
 soft_counted image objects counts l text is waiting are =
-    counted_text image objects counts l.name.now text.now waiting
-    (subst (λ (t : LinkTo ℕ). AreCounted image objects counts ((l.name.now, lent_target t) ∷ waiting)) is are)
+    counted_text image objects counts l.0 text waiting
+    (subst (λ (t : Target). AreCounted image objects counts ((l.0, t) ∷ waiting)) is are)
 
-pub read_at : (image : List ℕ) (held now : List Block) (followed : List Named) (objects after : List OpenedObject) (field depth : ℕ) (l : Link ℕ) (header : ℕ) → l.to ≡ target.Object header
-    → IsLinkRead image held now followed objects after field depth (l.name.now, Header header) → IsLinkRead image held now followed objects after field depth (lent_link l)
+pub read_at : (image : List ℕ) (held now : List Block) (followed : List Named) (objects after : List OpenedObject) (field depth : ℕ) (l : List ℕ × Target) (header : ℕ) → l.1 ≡ Header header
+    → IsLinkRead image held now followed objects after field depth (l.0, Header header) → IsLinkRead image held now followed objects after field depth l
 read_at image held now followed objects after field depth l header is read =
-    subst (λ (t : LinkTo ℕ). IsLinkRead image held now followed objects after field depth (l.name.now, lent_target t)) (sym is) read
+    subst (λ (t : Target). IsLinkRead image held now followed objects after field depth (l.0, t)) (sym is) read

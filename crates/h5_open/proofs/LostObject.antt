@@ -10,14 +10,10 @@ use Rattle.std.specs.Ordering.{nat_cmp}
 use Rattle.h5_laws.specs.Trees.Unlinked.{links_from}
 use Rattle.h5_laws.proofs.Lists.{In, in_right}
 use Rattle.h5_model.specs.Format.Messages.{Message}
-use Rattle.h5_model.specs.declared.link.Link.{Link as Lent}
-use Rattle.h5_model.specs.declared.link.LinkTo.{LinkTo}
-use Rattle.h5_model.specs.declared.link.LinkTo.TheVariants as to
-use Rattle.h5_model.specs.Format.Symbols.{Target, Header}
+use Rattle.h5_model.specs.Format.Symbols.{Target, Header, Text}
 use Rattle.h5_model.specs.Tree.Objects.{Link, Object, Tree, leads_to, links_to}
 use Rattle.h5_space.specs.Space.{Space}
 use Rattle.h5_header.specs.Listed.{messages_in}
-use Rattle.h5_group.specs.Links.{lent_link, lent_target}
 use Rattle.h5_open.specs.declared.opened.losses.LostLinks.{LostLinks}
 use Rattle.h5_open.specs.declared.opened.object.OpenedObject.{OpenedObject}
 use Rattle.h5_open.specs.declared.opened.object.OpenedContent.{OpenedContent}
@@ -103,28 +99,28 @@ module _ (image : Space) (slots : List (Option OpenedObject)) (numbers : BTreeMa
     -- ---- its links, one by one
 
     -- these are the first of its links, this one is the next, and the others are left
-    module _ (first left : List (List ℕ × Target)) (here : Lent ℕ) (are : content_links image.bytes p.content ≡ first ++ lent_link here ∷ left) where
-      next_far : (n : ℕ) → found_links_to table (first ++ lent_link here ∷ []) n ≡ found_links_to table first n + (if leads_to n (link_to table (lent_target here.to)) then 1 else 0)
-      next_far n = led_more table first (lent_link here) n
+    module _ (first left : List (List ℕ × Target)) (here : List ℕ × Target) (are : content_links image.bytes p.content ≡ first ++ here ∷ left) where
+      next_far : (n : ℕ) → found_links_to table (first ++ here ∷ []) n ≡ found_links_to table first n + (if leads_to n (link_to table here.1) then 1 else 0)
+      next_far n = led_more table first here n
 
-      all_far : (n : ℕ) → found_links_to table (first ++ lent_link here ∷ []) n ≤ links_from tree (number ∷ []) n
+      all_far : (n : ℕ) → found_links_to table (first ++ here ∷ []) n ≤ links_from tree (number ∷ []) n
       all_far n =
-          let both = are ∙ sym (append_assoc first (lent_link here ∷ []) left) in
+          let both = are ∙ sym (append_assoc first (here ∷ []) left) in
           let whole = ap (λ (ls : List (List ℕ × Target)). found_links_to table ls n) both in
-          let parts = sum_by-append (λ (x : List ℕ × Target). cond (leads_by table n x) 1 0) (first ++ lent_link here ∷ []) left in
+          let parts = sum_by-append (λ (x : List ℕ × Target). cond (leads_by table n x) 1 0) (first ++ here ∷ []) left in
           omega (arith, whole, parts, object_loses n)
 
-      module _ (header : ℕ) (leads : here.to ≡ to.Object header) where
+      module _ (header : ℕ) (leads : here.1 ≡ Header header) where
         pub target_known : IsSome (lookup nat_cmp numbers header)
         target_known =
-            link_known here.name.now header
-            (subst (λ (t : LinkTo ℕ). In (here.name.now, lent_target t) (content_links image.bytes p.content)) leads
-            (subst (In (lent_link here)) (sym are) (in_right (lent_link here) first (lent_link here ∷ left) (inl refl))))
+            link_known here.0 header
+            (subst (λ (t : Target). In (here.0, t) (content_links image.bytes p.content)) leads
+            (subst (In here) (sym are) (in_right here first (here ∷ left) (inl refl))))
 
         module _ (target : ℕ) (found : lookup nat_cmp numbers header ≡ Some target) where
-          target_far : (n : ℕ) → found_links_to table (first ++ lent_link here ∷ []) n ≡ found_links_to table first n + (if n == target then 1 else 0)
+          target_far : (n : ℕ) → found_links_to table (first ++ here ∷ []) n ≡ found_links_to table first n + (if n == target then 1 else 0)
           target_far n =
-              next_far n ∙ ap (λ (t : LinkTo ℕ). found_links_to table first n + (if leads_to n (link_to table (lent_target t)) then 1 else 0)) leads
+              next_far n ∙ ap (λ (t : Target). found_links_to table first n + (if leads_to n (link_to table t) then 1 else 0)) leads
               ∙ ap (λ (b : Bool). found_links_to table first n + (if b then 1 else 0)) (found_leads header target found n)
 
           pub target_few : (old lost : LostLinks) → AreMoreLost old lost (found_links_to table first) → ((n : ℕ) → links_lost old.counts n + links_from tree (number ∷ []) n ≤ 65535)
@@ -134,18 +130,18 @@ module _ (image : Space) (slots : List (Option OpenedObject)) (numbers : BTreeMa
               omega (arith, is.counts target, few target, all_far target, target_far target, one)
 
           pub target_lost : (old lost new : LostLinks) → AreMoreLost old lost (found_links_to table first) → AreMoreLost lost new (λ n. if n == target then 1 else 0)
-              → AreMoreLost old new (found_links_to table (first ++ lent_link here ∷ []))
+              → AreMoreLost old new (found_links_to table (first ++ here ∷ []))
           target_lost old lost new is more =
-              more_is old new (λ n. found_links_to table first n + (if n == target then 1 else 0)) (found_links_to table (first ++ lent_link here ∷ [])) (λ n. sym (target_far n))
+              more_is old new (λ n. found_links_to table first n + (if n == target then 1 else 0)) (found_links_to table (first ++ here ∷ [])) (λ n. sym (target_far n))
               (more_then old lost new (found_links_to table first) (λ n. if n == target then 1 else 0) is more)
 
       -- a text leads to no object
-      pub text_passed : ((header : ℕ) → here.to ≡ to.Object header → ⊥) → (old lost : LostLinks) → AreMoreLost old lost (found_links_to table first)
-          → AreMoreLost old lost (found_links_to table (first ++ lent_link here ∷ []))
-      text_passed soft old lost is = more_is old lost (found_links_to table first) (found_links_to table (first ++ lent_link here ∷ [])) (λ n. let none = go here.to refl n in omega (arith, next_far n, none)) is where
-        go : (t : LinkTo ℕ) → here.to ≡ t → (n : ℕ) → ◌≡◌ {A = ℕ} (if leads_to n (link_to table (lent_target t)) then 1 else 0) 0
-        go (to.Object header) leads n = absurd (soft header leads)
-        go (to.Soft text) leads n = refl
+      pub text_passed : ((header : ℕ) → here.1 ≡ Header header → ⊥) → (old lost : LostLinks) → AreMoreLost old lost (found_links_to table first)
+          → AreMoreLost old lost (found_links_to table (first ++ here ∷ []))
+      text_passed soft old lost is = more_is old lost (found_links_to table first) (found_links_to table (first ++ here ∷ [])) (λ n. let none = go here.1 refl n in omega (arith, next_far n, none)) is where
+        go : (t : Target) → here.1 ≡ t → (n : ℕ) → ◌≡◌ {A = ℕ} (if leads_to n (link_to table t) then 1 else 0) 0
+        go (Header header) leads n = absurd (soft header leads)
+        go (Text text) leads n = refl
 
     pub all_lost : (first : List (List ℕ × Target)) → content_links image.bytes p.content ≡ first ++ [] → (old lost : LostLinks) → AreMoreLost old lost (found_links_to table first)
         → AreMoreLost old lost (links_from tree (number ∷ []))

@@ -1,12 +1,12 @@
 -- The slots of objects that lose links, and what their headers count.
-use Rattle.std.proofs.Common.{◌≡◌, ℕ, ◌+◌, ◌≤◌, ◌==◌, Bool, Bor, true, false, List, [], length, refl, ap, subst, arith, Option, Some, None, IsSome}
+use Rattle.std.proofs.Common.{◌≡◌, ℕ, ◌+◌, ◌≤◌, ◌==◌, Bool, true, false, List, [], length, refl, ap, subst, arith, Option, Some, None, IsSome}
 use Rattle.std.specs.Prelude.{if◌then◌else◌, slice_get}
 use Rattle.std.proofs.lemmas.Bool.Decides.{nat_tests}
 use Rattle.std.proofs.lemmas.List.FromFn.{length-range_with_len}
 use Rattle.std.specs.BTreeMap.{BTreeMap}
 use Rattle.std.specs.FinMap.{get}
 use Rattle.std.specs.List.{Contains, IsDistinct, range_with_len}
-use Rattle.std.specs.Option.{option_copied, option_flatten, option_map_or}
+use Rattle.std.specs.Option.{option_flatten, option_map_or}
 use Rattle.std.specs.Ordering.{nat_cmp, eq_by_cmp}
 use Rattle.h5_laws.specs.Trees.Sound.{IsSoundTree}
 use Rattle.h5_laws.proofs.Lists.{In, contains_in, in_range}
@@ -30,11 +30,6 @@ there_slot image slots n some = go (get (tree_of image slots) n) refl some where
   go : (found : Option Object) → get (tree_of image slots) n ≡ found → IsSome found → (p : OpenedObject) × (slice_get slots n ≡ Some (Some p))
   go None is some = absurd (let never : false ≡ true = some in cc)
   go (Some o) is some = slot_in_tree image slots n o is
-
--- what is lent where there is something
-pub lent_there : (r : Option (Bor ℕ)) → IsSome (option_copied r) → IsSome r
-lent_there None some = absurd (let never : false ≡ true = some in cc)
-lent_there (Some x) some = refl
 
 module _ (image : Space) (slots : List (Option OpenedObject)) (numbers : BTreeMap ℕ ℕ) (opened : IsOpened image slots numbers) where
   abbrev tree : Tree

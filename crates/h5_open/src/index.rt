@@ -1,7 +1,7 @@
 //! What is kept of an opened image: its objects, and the table of their numbers (File Format Specification 3.0, section IV.A).
 
 ghost use Rattle.std.specs.Prelude.{◌≡◌, ℕ, ◌^◌, ◌<◌, [], ◌∷◌, ◌++◌, IfErr, MatchOption, OnErr, OnOk, Some, None, length, slice_get, slice_set};
-ghost use Rattle.std.specs.BTreeMap.{Updates, get};
+ghost use Rattle.std.specs.BTreeMap.{Updates};
 ghost use Rattle.std.specs.List.{Contains, IsDistinct};
 ghost use Rattle.std.specs.Ordering.{eq_by_cmp, nat_cmp};
 ghost use Rattle.h5_open.specs.declared.opened.object.OpenedObject.{OpenedObject};
@@ -12,16 +12,15 @@ ghost use Rattle.h5_open.specs.Walk.{IsNumbered};
 
 use crate::opened::OpenedObject;
 use h5_model::{Cause, OpenFault};
-use h5_space::fault;
+use h5_space::{AddressMap, fault};
 use std::alloc::AllocError;
-use std::collections::BTreeMap;
 
 /// The objects that were read, by their numbers, and the number at each header.
 #[derive(Drop)]
 pub(crate) struct Index {
     /// A slot for each number that was given out. The slot of an object that is no more stays empty.
     pub(crate) objects: Vec<Option<OpenedObject>>,
-    pub(crate) numbers: BTreeMap<u64, u32>,
+    pub(crate) numbers: AddressMap<u32>,
 }
 
 /// The number of the object whose header is at this address, where it was read.
@@ -31,19 +30,7 @@ pub(crate) fn known_number(index: &Index, header: u64) -> Option<u32>
         (λ n. (o : OpenedObject) × (slice_get index.now.objects.items n ≡ Some (Some o))
         × (o.messages.header ≡ header)) }
 {
-    number_for(&index.numbers, header)
-}
-
-/// The number at this header, if it has one.
-fn number_for(numbers: &BTreeMap<u64, u32>, header: u64) -> Option<u32>
-    ensures { result ≡ get nat_cmp numbers.now header }
-{
-    // Objects mostly come in the order of their headers, so that few are sought among those that were read.
-    let (&last, _) = numbers.last_key_value()?;
-    if header > last {
-        return None;
-    }
-    numbers.get(&header).copied()
+    index.numbers.get(header)
 }
 
 /// The object of this number. Takes no memory.
@@ -88,9 +75,7 @@ pub(crate) fn keep(index: &mut Index, object: OpenedObject) -> Result<(), AllocE
 {
     let number = index.objects.len() as u32;
     index.objects.reserve(1)?;
-    let Ok(_) = index.numbers.insert(object.messages.header(), number) else {
-        return Err(AllocError);
-    };
+    index.numbers.insert(object.messages.header(), number)?;
     // There is room for it.
     let _ = index.objects.push(Some(object));
     Ok(())
@@ -119,6 +104,6 @@ fn clear(index: &mut Index, number: u32)
         → Updates nat_cmp index.old.numbers index.new.numbers o.messages.header None }
 {
     if let Some(object) = index.objects[number as usize].take() {
-        index.numbers.remove(&object.messages.header());
+        index.numbers.remove(object.messages.header());
     }
 }

@@ -6,7 +6,6 @@ ghost use Rattle.h5_bytes.specs.Blocks.{Separate};
 ghost use Rattle.h5_model.specs.Format.Superblock.{IsSuperblock};
 ghost use Rattle.h5_model.specs.Tree.Places.{cells as cells_of};
 ghost use Rattle.h5_space.specs.Claimed.{HasClaimed};
-ghost use Rattle.h5_chunks.specs.Shapes.{AreChunkSizes};
 ghost use Rattle.h5_layout.specs.Data.{AreDataRead, data_blocks};
 ghost use Rattle.h5_header.specs.Kinds.{IsOfGroup, IsOfDataset};
 ghost use Rattle.h5_header.specs.Listed.{messages_in};
@@ -28,7 +27,7 @@ use h5_group::{
     Links, SymbolTable, group_links, has_exact_keys, links_at, read_group, symbol_nodes,
 };
 use h5_header::{Messages, ObjectKind, claim};
-use h5_layout::{ArrayRef, Dims, Layout, known_array};
+use h5_layout::{ArrayRef, ChunkSizes, Layout, known_array};
 use h5_model::{Cause, Fixed, OpenFault};
 use h5_space::{Claims, Image, fault};
 use std::alloc::Global;
@@ -183,25 +182,23 @@ fn claim_data(
         Layout::Chunked {
             sizes,
             tree: Some(root),
-        } => {
-            let chunk = sizes.dims();
-            claim_chunks(alloc, image, claims, array.fixed(), &chunk, *root)
-        }
+        } => claim_chunks(alloc, image, claims, array.fixed(), sizes, *root),
     }
 }
 
 /// Claims the chunks of these sizes in the tree at this root, and the nodes of the tree; refused as `read_chunks` says.
+// A call of its own: the room for 32 sizes is cleared where there are chunks alone.
+#[inline(never)]
 fn claim_chunks(
     alloc: Global,
     image: &Image,
     claims: &mut Claims,
     fixed: Fixed,
-    sizes: &Dims,
+    sizes: &ChunkSizes<'_>,
     root: u64,
 ) -> Result<(), OpenFault>
     requires superblock { IsSuperblock image.now.bytes }
     requires end { claims.old.end ≡ length image.now.bytes }
-    requires sizes { AreChunkSizes sizes.now }
     requires small { cells_of sizes.now * fixed.size ≤ 2 ^ 30 }
     ensures read { OnOk result (AreDataRead image.now.bytes fixed (InChunks sizes.now (Some root))) }
     ensures claimed { OnOk result (HasClaimed claims.old claims.new
@@ -212,7 +209,8 @@ fn claim_chunks(
     ensures refused { IfErr result (λ fault. IsDataFault image.now.bytes claims.old.held fixed
         (InChunks sizes.now (Some root)) fault.cause fault.address) }
 {
-    let shape = ChunkShape::new(sizes.sizes(), sizes.cells() * fixed.size() as u64);
+    let dims = sizes.dims();
+    let shape = ChunkShape::new(dims.sizes(), dims.cells() * fixed.size() as u64);
     read_chunks(alloc, image, claims, &shape, root)
 }
 

@@ -143,7 +143,7 @@ impl Opened {
             (λ n. get self.now.table n ≡ Some header) }
         ensures sound { IsSound self.now }
     {
-        self.index.numbers.get(&header).copied()
+        self.index.numbers.get(header)
     }
 
     /// Gives each object a number: the index at which the address of its header stands in `headers`. An index without

@@ -4,7 +4,6 @@ ghost use Rattle.std.specs.Prelude.{◌≡◌, ◌+◌, ◌^◌, ◌≤◌, [], 
 ghost use Rattle.std.specs.List.{Contains};
 ghost use Rattle.h5_model.specs.Format.Superblock.{IsSuperblock, end_of_file};
 ghost use Rattle.h5_model.specs.Format.Symbols.{Header};
-ghost use Rattle.h5_group.specs.Links.{lent_link};
 ghost use Rattle.h5_header.specs.Walk.Walked.{IsWalked};
 ghost use Rattle.h5_open.specs.Opened.Kept.{IsOpened};
 ghost use Rattle.h5_open.specs.Opened.Refused.{IsOpenRefusedAt, ReadsSome};
@@ -16,11 +15,11 @@ use crate::counts::{Tally, check_counts, count_again, push_counted};
 use crate::index::{Index, known_number};
 use crate::object::{links_in, read_object};
 use h5_bytes::Block;
+use h5_group::GroupLink;
 use h5_header::claim;
-use h5_model::{Cause, Link, LinkTo, OpenFault};
-use h5_space::{Claims, Image, root_header, superblock_length};
+use h5_model::{Cause, LinkTo, OpenFault};
+use h5_space::{AddressMap, Claims, Image, root_header, superblock_length};
 use std::alloc::Global;
-use std::collections::BTreeMap;
 
 /// Walks an image: reads the root, and all objects to which links lead from there; `Opened::open` says what is refused.
 ///
@@ -38,7 +37,7 @@ pub(crate) fn walk(alloc: Global, image: &Image) -> Result<Index, OpenFault>
     let mut tally = Tally {
         index: Index {
             objects: Vec::new(alloc),
-            numbers: BTreeMap::new(alloc),
+            numbers: AddressMap::new(alloc),
         },
         counts: Vec::new(alloc),
     };
@@ -99,7 +98,7 @@ fn read_tree(
     let links = links_in(alloc, image, &object)?;
     push_counted(tally, object)?;
     for link in links {
-        follow(alloc, image, claims, tally, link, depth)?;
+        follow(alloc, image, claims, tally, &link, depth)?;
     }
     Ok(())
 }
@@ -111,7 +110,7 @@ fn follow(
     image: &Image,
     claims: &mut Claims,
     tally: &mut Tally,
-    link: Link<'_, u64>,
+    link: &GroupLink<'_>,
     depth: u8,
 ) -> Result<(), OpenFault>
     requires superblock { IsSuperblock image.now.bytes }
@@ -125,15 +124,15 @@ fn follow(
     ensures length { OnOk result (length tally.new.counts.items ≡ length tally.new.index.objects.items) }
     ensures read { OnOk result (ReadsLink image.now.bytes claims.old.held claims.new.held
         (objects_of tally.old.index.objects.items) (objects_of tally.new.index.objects.items) depth
-        (lent_link link.entry)) }
+        link.now) }
     ensures counted { OnOk result (CountsLink image.now.bytes
         (objects_of tally.old.index.objects.items) tally.old.counts.items
-        (objects_of tally.new.index.objects.items) tally.new.counts.items (lent_link link.entry)) }
+        (objects_of tally.new.index.objects.items) tally.new.counts.items link.now) }
     ensures refused { IfErr result (λ fault. IsLinkFault image.now.bytes claims.old.held
-        (objects_of tally.old.index.objects.items) tally.old.counts.items depth (lent_link link.entry)
+        (objects_of tally.old.index.objects.items) tally.old.counts.items depth link.now
         fault.cause fault.address) }
 {
-    let LinkTo::Object(header) = link.to else {
+    let LinkTo::Object(header) = link.to() else {
         return Ok(());
     };
     match known_number(&tally.index, header) {

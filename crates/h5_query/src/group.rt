@@ -58,8 +58,8 @@ pub fn tree_links<'a>(
     let mut links = Vec::with_capacity(alloc, found.len())?;
     for link in found {
         links.push(Link {
-            name: link.name,
-            to: link_to(opened, link.to),
+            name: link.name(),
+            to: link_to(opened, link.to()),
         })?;
     }
     Ok(links)

@@ -36,7 +36,7 @@ impl<'a> Iterator for LinkNames<'a> {
 
     fn next(&mut self) -> Option<&'a [u8]> {
         let link = self.links.next()?;
-        Some(link.name)
+        Some(link.name())
     }
 }
 

@@ -68,10 +68,10 @@ fn give_number(index: &mut Index, header: u64, number: u32)
     ensures given { IsGivenNumber index.old.objects.items index.new.objects.items header number }
     ensures len { length index.new.objects.items ≡ length index.old.objects.items }
 {
-    let before = *index.numbers.get(&header).unwrap();
+    let before = index.numbers.get(header).unwrap();
     index.objects.swap(number as usize, before as usize);
-    *index.numbers.get_mut(&header).unwrap() = number;
+    index.numbers.replace(header, number);
     if let Some(other) = &index.objects[before as usize] {
-        *index.numbers.get_mut(&other.messages.header()).unwrap() = before;
+        index.numbers.replace(other.messages.header(), before);
     }
 }

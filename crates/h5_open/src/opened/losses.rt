@@ -101,10 +101,10 @@ fn lose_links(
         return Err(AllocError);
     };
     for link in links {
-        let LinkTo::Object(header) = link.to else {
+        let LinkTo::Object(header) = link.to() else {
             continue;
         };
-        let target = *index.numbers.get(&header).unwrap();
+        let target = index.numbers.get(header).unwrap();
         lose(lost, target)?;
     }
     Ok(())

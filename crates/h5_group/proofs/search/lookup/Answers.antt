@@ -1,3 +1,4 @@
+use Rattle.std.proofs.Common.{Some, ap, sym, ◌∙◌}
 use Rattle.h5_group.proofs.Standing.{node_ascends}
 use Rattle.h5_group.proofs.Searched.{entry_there, link_found, none_found}
 use Rattle.h5_group.proofs.search.lookup.Goals as goal
@@ -12,9 +13,9 @@ link_in-requires c = entry_there c.segment-segment.result.now c.symbol_node-node
 
 pub returns-in-Ok-clause-found : goal.returns-in-Ok-clause-found
 returns-in-Ok-clause-found c =
-    link_found c.args.image.now.bytes c.args.table c.in-Some.at c.in-Ok.i c.args.name.now c.link_in.result c.in-Some.ensures.one
+    link_found c.args.image.now.bytes c.args.table c.in-Some.at c.in-Ok.i c.args.name.now c.link.result c.in-Some.ensures.one
     (rw (c.segment-segment.ensures.segment, c.symbol_node-node.ensures) at c.in-Ok.ensures.found)
-    (rw (c.segment-segment.ensures.segment, c.symbol_node-node.ensures) at c.link_in.ensures)
+    (rw (c.segment-segment.ensures.segment, c.symbol_node-node.ensures) at (c.link_in.ensures ∙ ap Some (sym c.link.ensures)))
 
 pub returns-in-Err-clause-absent : goal.returns-in-Err-clause-absent
 returns-in-Err-clause-absent c =

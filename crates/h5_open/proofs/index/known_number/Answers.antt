@@ -1,4 +1,4 @@
-use Rattle.std.proofs.Common.{◌≡◌, ◌∙◌, ℕ, Some, sym, subst}
+use Rattle.std.proofs.Common.{◌≡◌, ℕ, Some, sym, subst}
 use Rattle.std.specs.Prelude.{Option, MatchOption, slice_get}
 use Rattle.std.specs.List.{Contains}
 use Rattle.h5_open.specs.declared.opened.object.OpenedObject.{OpenedObject}
@@ -11,5 +11,5 @@ returns c =
     let slots = c.args.index.now.objects.items in
     subst (λ (found : Option ℕ). MatchOption found (Contains (headers (objects_of slots)) c.args.header → ⊥)
     (λ n. (o : OpenedObject) × (slice_get slots n ≡ Some (Some o)) × (o.messages.header ≡ c.args.header)))
-    (sym c.number_for.ensures)
+    (sym c.get.ensures)
     (object_here slots c.args.index.now.numbers c.requires c.args.header)

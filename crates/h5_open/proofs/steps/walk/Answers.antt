@@ -8,7 +8,7 @@ use Rattle.h5_open.proofs.WholeLaws.{none_numbered, ready_at, whole_at, opened}
 use Rattle.h5_open.proofs.steps.walk.Goals as goal
 
 pub read_tree-requires-clause-index : goal.read_tree-requires-clause-index
-read_tree-requires-clause-index c = none_numbered c.new.result.items c.new-2.result c.new.ensures.items c.new-2.ensures.empty
+read_tree-requires-clause-index c = none_numbered c.new.result.items c.new-2.result c.new.ensures.items c.new-2.ensures
 
 pub returns-in_err-read_tree-clause-refused : goal.returns-in_err-read_tree-clause-refused
 returns-in_err-read_tree-clause-refused c =

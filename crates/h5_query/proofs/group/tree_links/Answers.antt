@@ -5,13 +5,16 @@ use Rattle.h5_model.specs.Tree.Objects.{Link as LinkIn}
 use Rattle.h5_model.specs.Tree.Links.{tree_link}
 use Rattle.h5_model.specs.declared.link.Link.{Link}
 use Rattle.h5_model.specs.declared.object_no.ObjectNo.{ObjectNo}
-use Rattle.h5_open.specs.Links.{lent_link}
-use Rattle.h5_query.specs.Listed.{IsLinkLed, in_tree}
+use Rattle.h5_open.specs.Opened.Objects.{link_to}
+use Rattle.h5_query.specs.Listed.{IsLinkLed, IsTargetLed, in_tree}
 use Rattle.h5_query.proofs.ListedLaws.{one_moved}
 use Rattle.h5_query.proofs.group.tree_links.Goals as goal
 
 pub link_to-requires : goal.link_to-requires
-link_to-requires c = (subst (AllByRecursion (IsLinkLed c.args.opened.now.table)) c.in-Some.ensures.steps c.loop-link.invariant.led).0
+link_to-requires c =
+    let table = c.args.opened.now.table in
+    let led = (subst (AllByRecursion (IsLinkLed table)) c.in-Some.ensures.steps c.loop-link.invariant.led).0 in
+    subst (IsTargetLed table) (sym c.to.ensures) led
 
 pub loop-link-preserved : goal.loop-link-preserved
 loop-link-preserved c =
@@ -20,7 +23,8 @@ loop-link-preserved c =
     let later = c.next.new.self in
     record {
       all = ap (λ (ls : List (Link ObjectNo)). map tree_link ls ++ map (in_tree table) later) c.in_ok-push.ensures.items
-          ∙ one_moved tree_link (in_tree table) links _ (lent_link c.in-Some.link) later _ (ap (λ (to : LinkIn). (c.in-Some.link.name.now, to)) c.link_to.ensures)
+          ∙ one_moved tree_link (in_tree table) links _ c.in-Some.link later _ (ap (λ (to : LinkIn). (c.name.result.now, to)) (c.link_to.ensures ∙ ap (link_to table) c.to.ensures)
+          ∙ ap (λ (name : List ℕ). (name, link_to table c.in-Some.link.1)) c.name.ensures)
           (ap (λ (ls : List (List ℕ × Target)). map tree_link links ++ map (in_tree table) ls) (sym c.in-Some.ensures.steps) ∙ c.loop-link.invariant.all);
       led = (subst (AllByRecursion (IsLinkLed table)) c.in-Some.ensures.steps c.loop-link.invariant.led).1;
     }

@@ -1,4 +1,4 @@
-use Rattle.std.proofs.Common.{◌≡◌, ℕ, ◌+◌, ◌*◌, ◌≤◌, List, length, sym, ap, ◌∙◌, subst, arith}
+use Rattle.std.proofs.Common.{◌≡◌, ℕ, ◌+◌, ◌*◌, ◌≤◌, List, length, refl, sym, ap, ◌∙◌, subst, arith}
 use Rattle.h5_model.specs.Format.Fixed.{Fixed}
 use Rattle.h5_model.specs.Tree.Objects.{Dataset}
 use Rattle.h5_model.specs.Tree.Places.{cells}
@@ -12,10 +12,10 @@ use Rattle.h5_layout.specs.Runs.{AreCellBytes}
 use Rattle.h5_layout.proofs.LentLaws.{run_room}
 use Rattle.h5_layout.proofs.StandingSelected.{standing_below, standing_line, standing_selected}
 use Rattle.h5_layout.proofs.stored.StoredArray.standing.Goals as goal
-use Rattle.h5_layout.proofs.stored.StoredArray.standing.Goals.{After-cells, After-fixed}
+use Rattle.h5_layout.proofs.stored.StoredArray.standing.Goals.{After-line, After-fixed}
 
 -- the run is one of the selected cells of the array
-one : (c : After-cells) → IsOneRun c.args.self.now.sizes c.args.hyper.now c.in_ok-run.run'
+one : (c : After-line) → IsOneRun c.args.self.now.sizes c.args.hyper.now c.in_ok-run.run'
 one c = subst (λ (sizes : List ℕ). IsOneRun sizes c.args.hyper.now c.in_ok-run.run') (c.dims.ensures.sizes ∙ c.array.ensures.sizes) c.in_ok-run.ensures.run
 
 -- so it is where all cells of the array stand one behind another
@@ -43,19 +43,18 @@ pub one_run-requires : goal.one_run-requires
 one_run-requires c = record { small = let few = c.array.ensures.sound.few in let same = ap cells (c.dims.ensures.sizes ∙ c.array.ensures.sizes) in omega (arith, few, same) }
 
 pub piece-cells-requires-clause-some : goal.piece-cells-requires-clause-some
-piece-cells-requires-clause-some c = (standing_below c.args.self.now c.args.hyper.now c.in_ok-run.run' (one (goal.at.piece-cells-requires-clause-some c).After-cells)).0
+piece-cells-requires-clause-some c = (standing_below c.args.self.now c.args.hyper.now c.in_ok-run.run' (one (goal.at.piece-cells-requires-clause-some c).After-line)).0
 
 pub piece-cells-requires-clause-below : goal.piece-cells-requires-clause-below
 piece-cells-requires-clause-below c =
-    let counted : length c.cells.result.values ≡ cells c.args.self.now.sizes = ap (λ (x : CellsLeft). length x.values) c.cells.ensures ∙ c.array.ensures.sound.counted in
-    omega (arith, counted, (standing_below c.args.self.now c.args.hyper.now c.in_ok-run.run' (one (goal.at.piece-cells-requires-clause-below c).After-cells)).1)
+    let counted : length c.args.self.now.cells ≡ cells c.args.self.now.sizes = c.array.ensures.sound.counted in
+    omega (arith, counted, (standing_below c.args.self.now c.args.hyper.now c.in_ok-run.run' (one (goal.at.piece-cells-requires-clause-below c).After-line)).1)
 
 pub returns-in-Bytes : goal.returns-in-Bytes
 returns-in-Bytes c =
-    let b = (goal.at.returns-in-Bytes c).After-cells in
     let run = c.in_ok-run.run' in
-    let all = c.cells.result in
+    let all : CellsLeft = record { fixed = c.args.self.now.fixed; fill = c.args.self.now.fill; values = c.args.self.now.cells } in
     let low : AreBytes c.in-Bytes.bytes.now = subst HasBytes c.in-Bytes.is c.piece-cells.ensures.bytes in
     let at = subst (λ (p : Piece). IsPieceAt all run.place run.length p c.piece-cells.result.1) c.in-Bytes.is c.piece-cells.ensures.piece in
     let whole : c.piece-cells.result.1 ≡ run.length = omega (arith, at.few, c.if-cells-run.false) in
-    standing_selected c.args.self.now c.args.hyper.now run (one b) all c.cells.ensures c.array.ensures.sound.fixed c.in-Bytes.bytes low c.piece-cells.result.1 whole at
+    standing_selected c.args.self.now c.args.hyper.now run (one (goal.at.returns-in-Bytes c).After-line) all refl c.array.ensures.sound.fixed c.in-Bytes.bytes low c.piece-cells.result.1 whole at

@@ -16,12 +16,6 @@ use Rattle.h5_open.proofs.RenumberedLaws.ExchangedIndex.{found_at, is_found, is_
 use Rattle.h5_open.proofs.RenumberedLaws.Exchanges.{exchanged, exchanged_headers}
 use Rattle.h5_open.proofs.numbers.order.give_number.Goals as goal
 
--- what a map lends is there where the map has the key
-is_some_lent : (r : Option (MutBor ℕ)) (o : Option ℕ) → option_copied_mut r ≡ o → IsSome o → IsSome r
-is_some_lent None None same some = absurd (let never : false ≡ true = some in cc)
-is_some_lent None (Some k) same some = absurd (cc)
-is_some_lent (Some x) o same some = refl
-
 -- a number that the table has is that of a slot
 number_given : (slots : List (Option OpenedObject)) (n header : ℕ) → get (table_of slots) n ≡ Some header → n < length slots
 number_given slots n header at = let slot = slot_of slots n header at in slice_get_within slots n (Some slot.0) slot.1
@@ -57,34 +51,18 @@ pub swap-requires-clause-j_in_bounds : goal.swap-requires-clause-j_in_bounds
 swap-requires-clause-j_in_bounds c =
     let objects = c.args.index.now.objects in
     let numbers = c.args.index.now.numbers in
-    let before = c.unwrap-before.result.now in
-    let got : lookup nat_cmp numbers c.args.header ≡ Some before = sym c.get.ensures.value ∙ ap (λ (o : Option (Bor ℕ)). option_copied o) c.unwrap-before.ensures in
+    let before = c.unwrap-before.result in
+    let got : lookup nat_cmp numbers c.args.header ≡ Some before = sym c.get.ensures ∙ c.unwrap-before.ensures in
     let there = found_at (table_of objects.items) numbers c.requires.index c.args.header before got in
     omega (arith, objects.ok.0, number_given objects.items before c.args.header there)
 
 pub index-requires : goal.index-requires
 index-requires c =
     let slots = c.args.index.now.objects.items in
-    let before = c.unwrap-before.result.now in
-    let got : lookup nat_cmp c.args.index.now.numbers c.args.header ≡ Some before = sym c.get.ensures.value ∙ ap (λ (o : Option (Bor ℕ)). option_copied o) c.unwrap-before.ensures in
+    let before = c.unwrap-before.result in
+    let got : lookup nat_cmp c.args.index.now.numbers c.args.header ≡ Some before = sym c.get.ensures ∙ c.unwrap-before.ensures in
     let b = before_swap slots c.swap.new.self.items c.args.index.now.numbers c.requires.index c.args.number before c.args.header c.requires.number got c.swap.ensures.items c.swap.ensures.by_index in
     omega (arith, c.swap.new.self.ok.0, b.low, b.long)
-
-pub unwrap-requires-in-Some : goal.unwrap-requires-in-Some
-unwrap-requires-in-Some c =
-    let slots = c.args.index.now.objects.items in
-    let numbers = c.args.index.now.numbers in
-    let number = c.args.number in
-    let before = c.unwrap-before.result.now in
-    let other = c.header.result in
-    let got : lookup nat_cmp numbers c.args.header ≡ Some before = sym c.get.ensures.value ∙ ap (λ (o : Option (Bor ℕ)). option_copied o) c.unwrap-before.ensures in
-    let b = before_swap slots c.swap.new.self.items numbers c.requires.index number before c.args.header c.requires.number got c.swap.ensures.items c.swap.ensures.by_index in
-    let at : get (table_of slots) number ≡ Some other =
-    other_slot slots c.swap.new.self.items number before c.args.header b c.index.result.now c.index.ensures
-    ∙ ap (option_map header_of) c.in-Some.is ∙ ap (λ (h : ℕ). Some h) (sym c.header.ensures) in
-    let first = ((c.get_mut.follows.holds number).3 (is_found (table_of slots) numbers c.requires.index before c.args.header b.there)).0 in
-    is_some_lent c.get_mut-in-Some.result _ c.get_mut-in-Some.ensures.value
-    (is_found_still numbers (c.get_mut.follows.lender number) c.args.header number other first (is_found (table_of slots) numbers c.requires.index number other at))
 
 pub returns-in-Some-clause-index : goal.returns-in-Some-clause-index
 returns-in-Some-clause-index c =
@@ -92,24 +70,24 @@ returns-in-Some-clause-index c =
     let after = c.swap.new.self.items in
     let numbers = c.args.index.now.numbers in
     let number = c.args.number in
-    let before = c.unwrap-before.result.now in
+    let before = c.unwrap-before.result in
     let other = c.header.result in
-    let got : lookup nat_cmp numbers c.args.header ≡ Some before = sym c.get.ensures.value ∙ ap (λ (o : Option (Bor ℕ)). option_copied o) c.unwrap-before.ensures in
+    let got : lookup nat_cmp numbers c.args.header ≡ Some before = sym c.get.ensures ∙ c.unwrap-before.ensures in
     let b = before_swap slots after numbers c.requires.index number before c.args.header c.requires.number got c.swap.ensures.items c.swap.ensures.by_index in
     let at : get (table_of slots) number ≡ Some other =
     other_slot slots after number before c.args.header b c.index.result.now c.index.ensures ∙ ap (option_map header_of) c.in-Some.is ∙ ap (λ (h : ℕ). Some h) (sym c.header.ensures) in
-    let middle = c.get_mut.follows.lender number in
-    let first = ((c.get_mut.follows.holds number).3 (is_found (table_of slots) numbers c.requires.index before c.args.header b.there)).0 in
+    let middle = c.replace.new.self in
+    let first = (c.replace.ensures.updates (c.replace.ensures.there ∙ is_found (table_of slots) numbers c.requires.index before c.args.header b.there)).0 in
     let still = is_found_still numbers middle c.args.header number other first (is_found (table_of slots) numbers c.requires.index number other at) in
-    let second = ((c.get_mut-in-Some.follows.holds before).3 still).0 in
+    let second = (c.replace-in-Some.ensures.updates (c.replace-in-Some.ensures.there ∙ still)).0 in
     index_exchanged (table_of slots) (table_of after) number before (exchanged_headers slots after number before b.exchanged_slots) c.args.header b.there other at numbers middle
-    (c.get_mut-in-Some.follows.lender before) c.requires.index first second
+    c.replace-in-Some.new.self c.requires.index first second
 
 pub returns-in-Some-clause-given : goal.returns-in-Some-clause-given
 returns-in-Some-clause-given c =
-    let before = c.unwrap-before.result.now in
+    let before = c.unwrap-before.result in
     let got : lookup nat_cmp c.args.index.now.numbers c.args.header ≡ Some before
-    = sym c.get.ensures.value ∙ ap (λ (o : Option (Bor ℕ)). option_copied o) c.unwrap-before.ensures in
+    = sym c.get.ensures ∙ c.unwrap-before.ensures in
     let b = before_swap c.args.index.now.objects.items c.swap.new.self.items c.args.index.now.numbers c.requires.index c.args.number before c.args.header c.requires.number got
     c.swap.ensures.items c.swap.ensures.by_index in
     (before, b.there, b.exchanged_slots)
@@ -120,20 +98,20 @@ returns-in_default-clause-index c =
     let after = c.swap.new.self.items in
     let numbers = c.args.index.now.numbers in
     let number = c.args.number in
-    let before = c.unwrap-before.result.now in
-    let got : lookup nat_cmp numbers c.args.header ≡ Some before = sym c.get.ensures.value ∙ ap (λ (o : Option (Bor ℕ)). option_copied o) c.unwrap-before.ensures in
+    let before = c.unwrap-before.result in
+    let got : lookup nat_cmp numbers c.args.header ≡ Some before = sym c.get.ensures ∙ c.unwrap-before.ensures in
     let b = before_swap slots after numbers c.requires.index number before c.args.header c.requires.number got c.swap.ensures.items c.swap.ensures.by_index in
     let empty : get (table_of slots) number ≡ None =
     other_slot slots after number before c.args.header b c.index.result.now c.index.ensures ∙ ap (option_map header_of) c.in_default.is in
-    let first = ((c.get_mut.follows.holds number).3 (is_found (table_of slots) numbers c.requires.index before c.args.header b.there)).0 in
+    let first = (c.replace.ensures.updates (c.replace.ensures.there ∙ is_found (table_of slots) numbers c.requires.index before c.args.header b.there)).0 in
     index_moved (table_of slots) (table_of after) number before (exchanged_headers slots after number before b.exchanged_slots) c.args.header b.there empty numbers
-    (c.get_mut.follows.lender number) c.requires.index first
+    c.replace.new.self c.requires.index first
 
 pub returns-in_default-clause-given : goal.returns-in_default-clause-given
 returns-in_default-clause-given c =
-    let before = c.unwrap-before.result.now in
+    let before = c.unwrap-before.result in
     let got : lookup nat_cmp c.args.index.now.numbers c.args.header ≡ Some before
-    = sym c.get.ensures.value ∙ ap (λ (o : Option (Bor ℕ)). option_copied o) c.unwrap-before.ensures in
+    = sym c.get.ensures ∙ c.unwrap-before.ensures in
     let b = before_swap c.args.index.now.objects.items c.swap.new.self.items c.args.index.now.numbers c.requires.index c.args.number before c.args.header c.requires.number got
     c.swap.ensures.items c.swap.ensures.by_index in
     (before, b.there, b.exchanged_slots)
