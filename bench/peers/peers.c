@@ -5,7 +5,8 @@
  * RUNS is 5 and PHASES are all, as 'bcd', where they are left out. PARTS divides the counts of the phases a, e, f, g and j. Both keep
  * every file in memory: libhdf5 by its core driver, without a file behind it. Its low bound is the earliest, so the files are of the same
  * form. What is read is compared with what is to be read, by both, and so is what f and j have written. The floor of a phase is the time
- * for copying as many bytes as it has to move into fresh memory, in the same run: those of the cells, or of the image that is opened. */
+ * for copying as many bytes as it has to move into fresh memory, in the same run: those of the cells, or of the image that is opened. Of
+ * strided cells it is a loop that copies the same cells one by one, out of the same chunks or into them. */
 #include "both.h"
 
 #include <sys/mman.h>
@@ -832,6 +833,35 @@ static double copied(const void *bytes, size_t length, size_t again) {
     munmap(fresh, length);
     return time;
 }
+
+/* The number of a cell of an array in chunks that stand one behind another. */
+static size_t number_in_chunks(size_t row, size_t column) {
+    size_t chunk = row / CHUNK * (SIDE / CHUNK) + column / CHUNK;
+    return chunk * CHUNK * CHUNK + row % CHUNK * CHUNK + column % CHUNK;
+}
+
+/* Copies the strided cells one by one out of chunks, or into them, between memory that was used before. */
+static double strided_copied(bool is_read) {
+    memset(room, 0, (size_t)SIDE * SIDE * 4);
+    size_t at = 0;
+    double from = now();
+    for (size_t i = 0; i < strided[2][0]; i++)
+        for (size_t j = 0; j < strided[2][1]; j++)
+            for (size_t k = 0; k < strided[3][1]; k++, at++) {
+                size_t number = number_in_chunks(strided[0][0] + i * strided[1][0], strided[0][1] + j * strided[1][1] + k);
+                if (is_read)
+                    room[at] = cells[number];
+                else
+                    room[number] = cells[at];
+            }
+    return now() - from;
+}
+
+static double strided_read_floor(void) { return strided_copied(true); }
+static double strided_written_floor(void) { return strided_copied(false); }
+#else
+static double strided_read_floor(void) { return 0; }
+static double strided_written_floor(void) { return 0; }
 #endif
 
 /* ---- the table */
@@ -846,30 +876,31 @@ static const struct {
     size_t bytes;         /* how many it has to move; none where that says nothing */
     const size_t *length; /* the same, where it is known later */
     size_t again;         /* how many of them are to be moved once more */
+    double (*floor)(void); /* where cells are picked out, in place of these three */
 } phases[] = {
-    {'a', true, "10000 datasets created and written", a_theirs, a_ours, 0, NULL, 0},
-    {'b', false, "64 MB written, in 4096 chunks not yet stored", b_theirs, b_ours, BIG, NULL, 0},
-    {'c', false, "2233140 strided cells read", strided_theirs, strided_ours, STRIDED * 4, NULL, 0},
-    {'c', false, "64 MB read, in chunks", whole_theirs, whole_ours, BIG, NULL, 0},
-    {'c', false, "64 MB opened and read", opened_theirs, opened_ours, BIG, NULL, BIG},
-    {'d', false, "100000 single cells written", d_theirs, d_ours, 0, NULL, 0},
-    {'d', false, "2233140 strided cells written", strided_written_theirs, strided_written_ours, STRIDED * 4, NULL, 0},
-    {'e', true, "10000 hard links made", e_theirs, e_ours, 0, NULL, 0},
-    {'e', false, "10000 links opened and listed", links_listed_theirs, links_listed_ours, 0, &lengths[0], 0},
-    {'e', false, "10000 datasets listed with types", arrays_listed_theirs, arrays_listed_ours, 0, &lengths[1], 0},
-    {'f', true, "2000 times grown, written, shrunk", written_theirs, written_ours, 0, NULL, 0},
-    {'f', true, "the same beside 64 MB", written_beside_theirs, written_beside_ours, 0, NULL, 0},
-    {'f', true, "20000 times resized", sized_theirs, sized_ours, 0, NULL, 0},
-    {'f', true, "the same beside 64 MB", sized_beside_theirs, sized_beside_ours, 0, NULL, 0},
-    {'g', true, "5000 of 10000 links unlinked", links_gone_theirs, links_gone_ours, 0, NULL, 0},
-    {'g', true, "5000 of 10000 datasets unlinked", arrays_gone_theirs, arrays_gone_ours, 0, NULL, 0},
-    {'h', false, "1000000 reads of 16 cells", h_theirs, h_ours, 0, NULL, 0},
-    {'h', false, "100000 reads of 4 by 4 strided cells", fours_theirs, fours_ours, 0, NULL, 0},
-    {'i', false, "20000 times an attribute set, of 50", i_theirs, i_ours, 0, NULL, 0},
-    {'j', true, "100000 times a chunk appended", appended_theirs, appended_ours, 0, NULL, 0},
-    {'j', true, "the same beside 64 MB", appended_beside_theirs, appended_beside_ours, 0, NULL, 0},
-    {'k', false, "10000 single cells written, 1024 views of another array", some_theirs, beside_views_ours, 0, NULL, 0},
-    {'k', false, "10000 single cells written, 1024 views of the array", some_theirs, in_views_ours, 0, NULL, 0},
+    {'a', true, "10000 datasets created and written", a_theirs, a_ours, 0, NULL, 0, NULL},
+    {'b', false, "64 MB written, in 4096 chunks not yet stored", b_theirs, b_ours, BIG, NULL, 0, NULL},
+    {'c', false, "2233140 strided cells read", strided_theirs, strided_ours, 0, NULL, 0, strided_read_floor},
+    {'c', false, "64 MB read, in chunks", whole_theirs, whole_ours, BIG, NULL, 0, NULL},
+    {'c', false, "64 MB opened and read", opened_theirs, opened_ours, BIG, NULL, BIG, NULL},
+    {'d', false, "100000 single cells written", d_theirs, d_ours, 0, NULL, 0, NULL},
+    {'d', false, "2233140 strided cells written", strided_written_theirs, strided_written_ours, 0, NULL, 0, strided_written_floor},
+    {'e', true, "10000 hard links made", e_theirs, e_ours, 0, NULL, 0, NULL},
+    {'e', false, "10000 links opened and listed", links_listed_theirs, links_listed_ours, 0, &lengths[0], 0, NULL},
+    {'e', false, "10000 datasets listed with types", arrays_listed_theirs, arrays_listed_ours, 0, &lengths[1], 0, NULL},
+    {'f', true, "2000 times grown, written, shrunk", written_theirs, written_ours, 0, NULL, 0, NULL},
+    {'f', true, "the same beside 64 MB", written_beside_theirs, written_beside_ours, 0, NULL, 0, NULL},
+    {'f', true, "20000 times resized", sized_theirs, sized_ours, 0, NULL, 0, NULL},
+    {'f', true, "the same beside 64 MB", sized_beside_theirs, sized_beside_ours, 0, NULL, 0, NULL},
+    {'g', true, "5000 of 10000 links unlinked", links_gone_theirs, links_gone_ours, 0, NULL, 0, NULL},
+    {'g', true, "5000 of 10000 datasets unlinked", arrays_gone_theirs, arrays_gone_ours, 0, NULL, 0, NULL},
+    {'h', false, "1000000 reads of 16 cells", h_theirs, h_ours, 0, NULL, 0, NULL},
+    {'h', false, "100000 reads of 4 by 4 strided cells", fours_theirs, fours_ours, 0, NULL, 0, NULL},
+    {'i', false, "20000 times an attribute set, of 50", i_theirs, i_ours, 0, NULL, 0, NULL},
+    {'j', true, "100000 times a chunk appended", appended_theirs, appended_ours, 0, NULL, 0, NULL},
+    {'j', true, "the same beside 64 MB", appended_beside_theirs, appended_beside_ours, 0, NULL, 0, NULL},
+    {'k', false, "10000 single cells written, 1024 views of another array", some_theirs, beside_views_ours, 0, NULL, 0, NULL},
+    {'k', false, "10000 single cells written, 1024 views of the array", some_theirs, in_views_ours, 0, NULL, 0, NULL},
 };
 
 int main(int count, char **words) {
@@ -914,7 +945,9 @@ int main(int count, char **words) {
             theirs[run] = phases[k].theirs();
             ours[run] = phases[k].ours();
             size_t bytes = phases[k].length != NULL ? *phases[k].length : phases[k].bytes;
-            if (bytes > 0)
+            if (phases[k].floor != NULL)
+                floors[run] = phases[k].floor();
+            else if (bytes > 0)
                 floors[run] = copied(big_image, bytes, phases[k].again);
         }
         print_times(name, theirs, ours, runs);
