@@ -32,7 +32,7 @@ class Page(unittest.TestCase):
         repository = TRUST.Repository()
         closures = [{each.name for each in repository.closure(headline)[0]} for headline in TRUST.HEADLINES]
         known = ({"IsDone", "transcript_of", "ReadsAs", "refusal_of", "shows"}, {"Breach", "Reads", "HasTree", "Cause"},
-                 {"IsEdited", "IsRefused", "applied", "refusal_of", "Edit", "Spec"})
+                 {"IsEdited", "IsRefused", "with_edit", "refusal_of", "Edit", "Spec"})
         for names, some in zip(closures, known):
             self.assertLessEqual(some, names)
             self.assertGreater(len(names), 200)

@@ -22,20 +22,20 @@ Item = namedtuple("Item", "crate name shown cited")
 # Words with two meanings that stand, each with the lower crate and with the one in which it is to get another name when that is next changed.
 TWO_DEFINITIONS = {("raw_at", "h5_model", "h5_snod")}
 # A word that one crate offers, and the crate in which an item has that name too: for the same of another structure (`write_head`,
-# `NodeFault`, `Layout`), for the step above (`list` calls `list`), or for something else (`Step`, `Span`, `fault`).
+# `NodeFault`), for the step above (`list` calls `list`), or for something else (`Step`, `Span`, `fault`).
 OFFERED_BESIDE = {
-    "h5_types": "write", "h5_shape": "fits", "h5_msg": "Layout write_head", "h5_header": "write_head", "h5_attr": "fault remove_at", "h5_heap": "push_text",
+    "h5_types": "write", "h5_shape": "fits", "h5_msg": "write_head", "h5_header": "write_head", "h5_attr": "fault remove_at", "h5_heap": "push_text",
     "h5_snod": "NodeFault insert_at remove_at", "h5_btree": "NodeFault drop_front insert_at keep_front push_rows remove_at tree_node", "h5_group": "check_names tree_node", "h5_chunks": "check_order",
     "h5_layout": "Span", "h5_open": "read_tree", "h5_query": "Step", "h5_repack": "Layout links_of push_type",
-    "h5_file": "number_at write_fill", "h5_text": "Layout push_text", "h5_dump": "push_links", "h5_script": "list repack", "h5_cli": "list"}
+    "h5_file": "number_at write_fill", "h5_text": "push_text", "h5_dump": "push_links", "h5_script": "list repack", "h5_cli": "list"}
 # Items of code with the name of a definition that their file does not cite: types that are the code's form of what is defined (`Link`,
-# `Message`, `Node`, `Layout`), functions that give it by way of another word (`links_at`, `kind_at`), and two meanings (`bytes_of`, `cut`).
+# `Message`, `Node`), functions that give it by way of another word (`links_at`, `kind_at`), and two meanings (`bytes_of`).
 NAMED_AS_DEFINED = {
-    "h5_model": "Link", "h5_space": "cut", "h5_msg": "SymbolTable", "h5_header": "Message", "h5_heap": "link_span", "h5_btree": "Node Tree place_of",
+    "h5_model": "Link", "h5_msg": "SymbolTable", "h5_header": "Message", "h5_heap": "link_span", "h5_btree": "Node Tree place_of",
     "h5_group": "Names group_kind link_in links_at symbol_node symbol_nodes", "h5_layout": "bytes_of", "h5_open": "links_in",
-    "h5_query": "Kind array_of cut kind_at links_of names_at number_at", "h5_repack": "Extent Placed links_of new_links nowhere",
-    "h5_edit": "are_maxima is_chunk_large is_store links_in object_at", "h5_file": "Kept place_of", "h5_command": "Command cut",
-    "h5_text": "Layout", "h5_script": "Outcome"}
+    "h5_query": "Kind array_of kind_at links_of names_at number_at", "h5_repack": "Extent Placed links_of new_links nowhere",
+    "h5_edit": "are_maxima is_chunk_large is_store links_in object_at", "h5_file": "Kept place_of", "h5_command": "Command",
+    "h5_script": "Outcome"}
 
 
 def texts(crate, part, ending):

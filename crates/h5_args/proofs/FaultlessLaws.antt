@@ -18,7 +18,7 @@ use Rattle.clap.specs.declared.parser.matches.ValueSource.{ValueSource}
 use Rattle.clap.specs.Facts.{explicit_source}
 use Rattle.std.proofs.lemmas.List.{length-append}
 use Rattle.std.proofs.lemmas.Slice.Eq.{bytes_eq-Decides}
-use Rattle.h5_args.specs.Words.{wanted_by_words, faults, h5i_app, wanted, WantNew, WantLs, WantDump, WantRun}
+use Rattle.h5_args.specs.Words.{wanted_by_words, faults, h5i_app, wanted_in, WantNew, WantLs, WantDump, WantRun}
 
 -- ---- the subcommand is not `help`
 
@@ -346,7 +346,7 @@ has_needed false e = absurd (true≢false e)
 -- what is entered without a fault gives an order, but for `help`
 record Gives (s : Shape) : Type 0 where
   alone : s.aliases ≡ []
-  order : (words : List Text) → IsOrderName s.name → level_fault s [] nothing_held words false [] ≡ [] → is_some (wanted (Some (rows_at s words))) ≡ true
+  order : (words : List Text) → IsOrderName s.name → level_fault s [] nothing_held words false [] ≡ [] → is_some (wanted_in (Some (rows_at s words))) ≡ true
 
 abbrev AllGive : List Shape → Type 0
 AllGive [] = Unit {0}
@@ -374,17 +374,17 @@ found_gives word (s ∷ rest) all = go (answers_to word (label_of s)) refl (foun
 -- ---- the command
 
 module _ (a : App) (all : AllGive a.subs) where
-  stop_gives : (stop : Option (Text × List Text)) → StopsAtOrder stop → entered_fault a stop ≡ [] → is_some (entered a stop) ≡ true → is_some (wanted (entered a stop)) ≡ true
+  stop_gives : (stop : Option (Text × List Text)) → StopsAtOrder stop → entered_fault a stop ≡ [] → is_some (entered a stop) ≡ true → is_some (wanted_in (entered a stop)) ≡ true
   stop_gives None at passes has = absurd (true≢false (sym has))
   stop_gives (Some p) at passes has = go (find (λ s. answers_to p.0 (label_of s)) a.subs) (found_gives p.0 a.subs all) passes has
     where
       go : (found : Option Shape) → FoundGives p.0 found → option_map_or (λ s. level_fault s [] nothing_held p.1 false []) found [] ≡ []
-          → is_some (option_map (λ s. rows_at s p.1) found) ≡ true → is_some (wanted (option_map (λ s. rows_at s p.1) found)) ≡ true
+          → is_some (option_map (λ s. rows_at s p.1) found) ≡ true → is_some (wanted_in (option_map (λ s. rows_at s p.1) found)) ≡ true
       go None gives passes has = absurd (true≢false (sym has))
       go (Some s) gives passes has = gives.0.order p.1 (rw gives.1 at) passes
 
   faultless_gives : (words : List Text) → a.top.subcommand_required ≡ true → a.top.disable_help_subcommand ≡ false → built_fault a nothing_held words ≡ []
-      → is_some (wanted (entered a (stop_after a.top.rules (names_of a) words))) ≡ true
+      → is_some (wanted_in (entered a (stop_after a.top.rules (names_of a) words))) ≡ true
   faultless_gives words required helps e =
       let stop = stop_after a.top.rules (names_of a) words in
       let has = is_some (entered a stop) in

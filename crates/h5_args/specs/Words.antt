@@ -22,8 +22,8 @@ abbrev pub needing : App → App
 needing a = record a { top = record a.top { subcommand_required = true } }
 
 -- a command that tells its version
-abbrev pub versioned : App → App
-versioned a = record a { top = record a.top { has_version = true } }
+abbrev pub with_version : App → App
+with_version a = record a { top = record a.top { has_version = true } }
 
 -- a command and one subcommand more
 abbrev pub also : App → App → App
@@ -31,7 +31,7 @@ also a sub = with_subcommand a sub.top
 
 -- `h5i new FILE`, `h5i ls FILE`, `h5i dump FILE PATH` and `h5i run FILE`; `h5i --version` is told apart from these
 abbrev pub h5i_app : App
-h5i_app = also (also (also (also (needing (versioned (new_app (codes "h5i")))) (file_app (codes "new"))) (file_app (codes "ls"))) (path_app (codes "dump"))) (file_app (codes "run"))
+h5i_app = also (also (also (also (needing (with_version (new_app (codes "h5i")))) (file_app (codes "new"))) (file_app (codes "ls"))) (path_app (codes "dump"))) (file_app (codes "run"))
 
 -- what the words ask for, by texts
 pub data Wanted : Type 0 where
@@ -49,8 +49,8 @@ wanted_by name file path =
     else if bytes_eq name (codes "run") then option_map WantRun file
     else None
 
-abbrev pub wanted : Option (Text × List Row) → Option Wanted
-wanted found = option_and_then (λ p. wanted_by p.0 (first_of (codes "FILE") p.1) (first_of (codes "PATH") p.1)) found
+abbrev pub wanted_in : Option (Text × List Row) → Option Wanted
+wanted_in found = option_and_then (λ p. wanted_by p.0 (first_of (codes "FILE") p.1) (first_of (codes "PATH") p.1)) found
 
 -- clap's own definition says that the command takes these words, the program's name first
 abbrev pub Taken : List Text → Type 0
@@ -62,4 +62,4 @@ faults words = fault_of h5i_app words
 
 -- what clap's own definition of the matches gives for the words
 abbrev pub wanted_by_words : List Text → Option Wanted
-wanted_by_words words = wanted (subcommand_of h5i_app words)
+wanted_by_words words = wanted_in (subcommand_of h5i_app words)

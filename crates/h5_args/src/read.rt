@@ -3,7 +3,7 @@
 ghost use Rattle.std.specs.Prelude.{◌≡◌, [], IfOk, IfErr, MatchResult, Some, map, option_map};
 ghost use Rattle.clap.specs.Words.{kind_of, subcommand_rows_of};
 ghost use Rattle.clap.specs.declared.error.kind.ErrorKind.TheVariants.{OutOfMemory};
-ghost use Rattle.h5_args.specs.Words.{Taken, wanted_by_words, faults, wanted, wanted_by};
+ghost use Rattle.h5_args.specs.Words.{Taken, wanted_by_words, faults, wanted_in, wanted_by};
 ghost use Rattle.h5_args.specs.Faults.{IsFaultOf, IsOfKind};
 ghost use Rattle.h5_args.specs.Order.{wanted_by_order};
 ghost use Rattle.h5_args.specs.declared.orders.OrderFault.TheVariants.{NoMemory};
@@ -31,7 +31,7 @@ fn order_of<'a>(name: &str, file: Option<&'a str>, path: Option<&'a str>) -> Opt
 }
 
 fn order_in<'a>(matches: &ArgMatches<'a>) -> Option<Order<'a>>
-    ensures { option_map wanted_by_order result ≡ wanted (subcommand_rows_of matches.now) }
+    ensures { option_map wanted_by_order result ≡ wanted_in (subcommand_rows_of matches.now) }
 {
     let (name, inner) = matches.subcommand()?;
     order_of(name, inner.get_str("FILE"), inner.get_str("PATH"))

@@ -3,7 +3,7 @@ use Rattle.std.proofs.Common.{◌≡◌, ℕ, suc, ◌==◌, ◌+◌, ◌≤◌,
 use Rattle.std.specs.Option.{option_and_then}
 use Rattle.std.specs.List.{AllByRecursion, filter, find}
 use Rattle.h5_bytes.specs.Bytes.{part}
-use Rattle.h5_bytes.proofs.BlockLaws.{all_append}
+use Rattle.h5_bytes.proofs.BlockLaws.{all_append, all_left, all_right}
 use Rattle.h5_model.specs.Format.Addresses.{symbol_table_of}
 use Rattle.h5_model.specs.Format.Datatype.{fixed_of}
 use Rattle.h5_model.specs.Format.Messages.{Message, count_of, first_body}
@@ -109,14 +109,6 @@ module _ (kind : ℕ) (no_nil : (0 == kind) ≡ false) (no_attribute : (12 == ki
 
 -- ---- all of it
 
-all_front : {X : Type 0} (P : X → Type 0) (xs ys : List X) → AllByRecursion P (xs ++ ys) → AllByRecursion P xs
-all_front P [] ys all = tt
-all_front P (x ∷ xs) ys all = (all.0, all_front P xs ys all.1)
-
-all_back : {X : Type 0} (P : X → Type 0) (xs ys : List X) → AllByRecursion P (xs ++ ys) → AllByRecursion P ys
-all_back P [] ys all = all
-all_back P (x ∷ xs) ys all = all_back P xs ys all.1
-
 module _ (ms ms' : List Message) (body : List ℕ) (adds : AddsMessage ms ms' 12 body) where
   adds_others : (p : ℕ → Bool) → AllByRecursion (λ kind. p kind ≡ false) (0 ∷ 3 ∷ 12 ∷ 16 ∷ 17 ∷ [])
       → filter (λ (m : Message). p m.kind) ms' ≡ filter (λ (m : Message). p m.kind) ms
@@ -154,19 +146,19 @@ module _ (ms ms' : List Message) (body : List ℕ) (adds : AddsMessage ms ms' 12
     nil_types : IsPutInNil ms ms' 12 body → AllByRecursion Known ms → AllByRecursion Known ms'
     nil_types is all =
         let these : AllByRecursion Known (is.front ++ is.nil ∷ is.back) = subst (AllByRecursion Known) is.before all in
-        let back : AllByRecursion Known (is.nil ∷ is.back) = all_back Known is.front (is.nil ∷ is.back) these in
+        let back : AllByRecursion Known (is.nil ∷ is.back) = all_right Known is.front (is.nil ∷ is.back) these in
         subst (AllByRecursion Known) (sym is.after)
-        (all_append Known is.front _ (all_front Known is.front (is.nil ∷ is.back) these)
+        (all_append Known is.front _ (all_left Known is.front (is.nil ∷ is.back) these)
         (attribute, all_append Known is.rest is.back (nils_known is.rest is.left) back.1))
 
     block_types : IsPutInBlock ms ms' 12 body → AllByRecursion Known ms → AllByRecursion Known ms'
     block_types is all =
         let these : AllByRecursion Known (is.front ++ is.moved ∷ (is.middle ++ is.back)) = subst (AllByRecursion Known) is.before all in
-        let others : AllByRecursion Known (is.moved ∷ (is.middle ++ is.back)) = all_back Known is.front _ these in
+        let others : AllByRecursion Known (is.moved ∷ (is.middle ++ is.back)) = all_right Known is.front _ these in
         subst (AllByRecursion Known) (sym is.after)
-        (all_append Known is.front _ (all_front Known is.front _ these) (
+        (all_append Known is.front _ (all_left Known is.front _ these) (
           known (is.named).kind 16 is.names continuation,
-          all_append Known is.middle _ (all_front Known is.middle is.back others.1) (others.0, (attribute, all_back Known is.middle is.back others.1)),
+          all_append Known is.middle _ (all_left Known is.middle is.back others.1) (others.0, (attribute, all_right Known is.middle is.back others.1)),
         ))
 
   adds_types : (p : ℕ → Bool) → AllByRecursion (λ kind. IsTrue (p kind)) (0 ∷ 12 ∷ 16 ∷ []) → AllByRecursion (λ (m : Message). IsTrue (p m.kind)) ms

@@ -8,17 +8,6 @@ use Rattle.h5_model.specs.Format.Messages.{Message, count_of, first_body}
 use Rattle.h5_header.specs.Added.{is_movable}
 use Rattle.h5_attr.specs.Still.{IsSaidStill}
 
--- the same messages
-pub same_still : (ms : List Message) → IsSaidStill ms ms
-same_still ms = record {
-  others = λ p none. refl;
-  bodies = λ kind none. refl;
-  counts = λ kind none. refl;
-  types = λ p these all. all;
-  table = λ once. refl;
-  datatype = λ once. refl;
-}
-
 -- one edit behind another
 pub still_then : (ms next last : List Message) → IsSaidStill ms next → IsSaidStill next last → IsSaidStill ms last
 still_then ms next last first second = record {

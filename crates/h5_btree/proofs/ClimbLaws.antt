@@ -3,7 +3,7 @@ use Rattle.std.proofs.Common.{◌≡◌, ◌≢◌, ℕ, zero, suc, ◌+◌, ◌
 use Rattle.std.specs.List.{insert, remove}
 use Rattle.std.proofs.lemmas.List.{append_assoc, append-nil, take-append-drop, drop_more, take_more}
 use Rattle.std.proofs.lemmas.List.Concat.{flat_map-append}
-use Rattle.h5_bytes.specs.Bytes.{undefined}
+use Rattle.h5_bytes.specs.Bytes.{undefined_address}
 use Rattle.h5_model.specs.Format.Rows.{Node, Reading, next_row, first_or_undefined, IsRow, AreRows, leaves, nodes}
 use Rattle.h5_model.proofs.RowLaws.{Agree, next_row-same, IsRow-same, AreRows-same, leaves-same}
 use Rattle.h5_btree.specs.Climb.{IsNoNode, IsBelow, IsWay, AreUnder, IsTreeOf, LacksChild, Refills, Adds, Splits, RaisesRoot}
@@ -80,7 +80,7 @@ whole V m root (s ∷ rest) a front back w r =
     rw z (up.0, up.1 ∙ ap (leaves V m) e)
 
 -- a row and what is under it
-pub rows_under : (V : Reading) (m : ℕ) (row low list : List ℕ) → IsRow V m undefined row → next_row V row ≡ low → AreUnder V m low list
+pub rows_under : (V : Reading) (m : ℕ) (row low list : List ℕ) → IsRow V m undefined_address row → next_row V row ≡ low → AreUnder V m low list
     → AreRows V m row × (leaves V m row ≡ list)
 rows_under V zero row low list r e u = (r, e ∙ u)
 rows_under V (suc m) row low list r e u = ((r, rw e u.0), ap (leaves V m) e ∙ u.1)
@@ -102,9 +102,9 @@ module _ (V W : Reading) (l : ℕ) (same : KeepsLevels V W l) (top : l < 16) whe
   agree_join (x ∷ xs) ys a b = (a.0, agree_join xs ys a.1 b)
 
   pub agree_rows : (k : ℕ) (row : List ℕ) → k < l → AreRows V k row → Agree V W (nodes V k row)
-  agree_rows zero row lt r = agree_row zero undefined row (λ e. omega (arith, e, lt)) (omega arith) r
+  agree_rows zero row lt r = agree_row zero undefined_address row (λ e. omega (arith, e, lt)) (omega arith) r
   agree_rows (suc k) row lt r =
-      agree_join row (nodes V k (next_row V row)) (agree_row (suc k) undefined row (λ e. omega (arith, e, lt)) (omega (arith, lt, top)) r.0) (agree_rows k (next_row V row) (omega (arith, lt)) r.1)
+      agree_join row (nodes V k (next_row V row)) (agree_row (suc k) undefined_address row (λ e. omega (arith, e, lt)) (omega (arith, lt, top)) r.0) (agree_rows k (next_row V row) (omega (arith, lt)) r.1)
 
   pub agree_front : (f : List ℕ) (p : ℕ) (bk : List ℕ) → Agree V W (f ++ p ∷ bk) → Agree V W f × (W p ≡ V p) × Agree V W bk
   agree_front [] p bk a = (tt, a.0, a.1)
@@ -116,7 +116,7 @@ module _ (V W : Reading) (l : ℕ) (same : KeepsLevels V W l) (top : l < 16) whe
   IsWay-same k root [] a front back le high w = w
   IsWay-same k root (s ∷ rest) a front back le high w =
       let b = w.2 in
-      let r = agree_row (suc k) undefined (w.0 ++ s.node ∷ w.1) (λ e. omega (arith, e, le)) (omega (arith, high)) b.row in
+      let r = agree_row (suc k) undefined_address (w.0 ++ s.node ∷ w.1) (λ e. omega (arith, e, le)) (omega (arith, high)) b.row in
       let g = agree_front w.0 s.node w.1 r in
       let c = ap (λ (n : Node). n.children) g.1 in (
         w.0,
@@ -126,7 +126,7 @@ module _ (V W : Reading) (l : ℕ) (same : KeepsLevels V W l) (top : l < 16) whe
           child = rw c b.child;
           fronts = rw (next_row-same V W w.0 g.0, c) b.fronts;
           backs = rw (next_row-same V W w.1 g.2, c) b.backs;
-          row = IsRow-same V W (suc k) undefined (w.0 ++ s.node ∷ w.1) r b.row;
+          row = IsRow-same V W (suc k) undefined_address (w.0 ++ s.node ∷ w.1) r b.row;
         },
         IsWay-same (suc k) root rest s.node w.0 w.1 (omega (arith, le)) (omega (arith, high)) w.3,
       )
@@ -140,8 +140,8 @@ under_same V W (suc l) same top low list u =
 
 -- ---- a node has other children
 
-module _ (V W : Reading) (m p : ℕ) (front back children : List ℕ) (top : m < 16) (out : IsNoNode V undefined)
-    (row : IsRow V m undefined (front ++ p ∷ back)) (t : Refills V W p children) where
+module _ (V W : Reading) (m p : ℕ) (front back children : List ℕ) (top : m < 16) (out : IsNoNode V undefined_address)
+    (row : IsRow V m undefined_address (front ++ p ∷ back)) (t : Refills V W p children) where
   pub refills_keeps : KeepsLevels V W m
   refills_keeps n other low = t.others n low (λ e. other (ap (λ (k : ℕ). (V k).level) e ∙ level_here V m p front back top out row))
 
@@ -161,22 +161,22 @@ module _ (V W : Reading) (m p : ℕ) (front back children : List ℕ) (top : m <
       → AreUnder V m (next_row V front ++ (children ++ next_row V back)) list → IsTreeOf W (length way + m) root list
   refills_tree root way list high w u =
       let low = next_row V front ++ (children ++ next_row V back) in
-      let is = IsRow-refilled V W p children t.keys back t.node refills_back m undefined front refills_front row in
+      let is = IsRow-refilled V W p children t.keys back t.node refills_back m undefined_address front refills_front row in
       let here = rows_under W m (front ++ p ∷ back) low list is refills_below (under_same V W m refills_keeps top low list u) in
       let up = whole W m root way p front back (IsWay-same V W m refills_keeps top m root way p front back (omega arith) high w) here.0 in
       (up.0, up.1 ∙ here.1)
 
 -- ---- a node is split
 
-module _ (V W : Reading) (m p j child q : ℕ) (front back : List ℕ) (top : m < 16) (out : IsNoNode V undefined)
-    (row : IsRow V m undefined (front ++ p ∷ back)) (t : Splits V W p j child q) where
+module _ (V W : Reading) (m p j child q : ℕ) (front back : List ℕ) (top : m < 16) (out : IsNoNode V undefined_address)
+    (row : IsRow V m undefined_address (front ++ p ∷ back)) (t : Splits V W p j child q) where
   pub splits_keeps : KeepsLevels V W m
   splits_keeps n other low = t.others n low
       (λ e. other (ap (λ (k : ℕ). (V k).level) e ∙ level_here V m p front back top out row))
       (λ e. at_right e back refl) where
         at_right : n ≡ (V p).right → (b : List ℕ) → back ≡ b → ⊥
         at_right e [] none =
-            let end : n ≡ undefined = e ∙ right_here V m p front back top out row ∙ ap first_or_undefined none in
+            let end : n ≡ undefined_address = e ∙ right_here V m p front back top out row ∙ ap first_or_undefined none in
             absurd (omega (arith, ap (λ (k : ℕ). (V k).level) end, low, out))
         at_right e (c ∷ cs) some =
             let first : n ≡ get_or back 0 0 = e ∙ right_here V m p front back top out row ∙ ap first_or_undefined some ∙ sym (ap (λ (b : List ℕ). get_or b 0 0) some) in
@@ -216,19 +216,19 @@ module _ (V W : Reading) (m p j child q : ℕ) (front back : List ℕ) (top : m 
       → AreRows W m (front ++ p ∷ q ∷ back) × (leaves W m (front ++ p ∷ q ∷ back) ≡ list)
   splits_rows list u =
       let low = next_row V front ++ (insert (V p).children j child ++ next_row V back) in
-      let is = IsRow-split V W p q t.xs t.ys t.keys t.keys_q back t.at_p at_q splits_back m undefined front splits_front row in
+      let is = IsRow-split V W p q t.xs t.ys t.keys t.keys_q back t.at_p at_q splits_back m undefined_address front splits_front row in
       rows_under W m (front ++ p ∷ q ∷ back) low list is splits_below (under_same V W m splits_keeps top low list u)
 
 -- ---- one step of the climb
 
 -- the node has room: the tree is whole
-pub lacks_filled : (V W : Reading) (m root p : ℕ) (way : List Step) (j child : ℕ) (list : List ℕ) → length way + m < 16 → IsNoNode V undefined
+pub lacks_filled : (V W : Reading) (m root p : ℕ) (way : List Step) (j child : ℕ) (list : List ℕ) → length way + m < 16 → IsNoNode V undefined_address
     → LacksChild V m root p way j child list → Adds V W p j child → IsTreeOf W (length way + m) root list
 lacks_filled V W m root p way j child list high out lacks t =
     refills_tree V W m p lacks.front lacks.back (insert (V p).children j child) (omega (arith, high)) out lacks.row t root way list high lacks.above lacks.under
 
 -- the node is full: it lacks nothing any more, and the one above it lacks the new node, behind it
-unfoldable pub lacks_up : (V W : Reading) (m root p : ℕ) (s : Step) (way : List Step) (j child q : ℕ) (list : List ℕ) → length (s ∷ way) + m < 16 → IsNoNode V undefined
+unfoldable pub lacks_up : (V W : Reading) (m root p : ℕ) (s : Step) (way : List Step) (j child q : ℕ) (list : List ℕ) → length (s ∷ way) + m < 16 → IsNoNode V undefined_address
     → LacksChild V m root p (s ∷ way) j child list → Splits V W p j child q → LacksChild W (suc m) root s.node way (suc s.place) q list
 lacks_up V W m root p s way j child q list high out lacks t =
     let top : m < 16 = omega (arith, high) in
@@ -246,7 +246,7 @@ lacks_up V W m root p s way j child q list high out lacks t =
     }
 
 -- the node is the root, and full: the row below its new halves
-pub raised_below : (V W : Reading) (m root j child : ℕ) (list : List ℕ) → m < 16 → IsNoNode V undefined → (lacks : LacksChild V m root root [] j child list)
+pub raised_below : (V W : Reading) (m root j child : ℕ) (list : List ℕ) → m < 16 → IsNoNode V undefined_address → (lacks : LacksChild V m root root [] j child list)
     → (t : RaisesRoot V W root j child) → next_row W (t.p ∷ t.q ∷ []) ≡ next_row V lacks.front ++ (insert (V root).children j child ++ next_row V lacks.back)
 raised_below V W m root j child list top out lacks t =
     let w = lacks.above in
@@ -257,21 +257,21 @@ raised_below V W m root j child list top out lacks t =
     ∙ ap (λ h. t.xs ++ h) (append-nil t.ys) ∙ t.joined ∙ sym alone
 
 -- the node is the root, and full: it stands one level higher, at its address
-pub lacks_raised : (V W : Reading) (m root j child : ℕ) (list : List ℕ) → m < 16 → IsNoNode V undefined → LacksChild V m root root [] j child list
+pub lacks_raised : (V W : Reading) (m root j child : ℕ) (list : List ℕ) → m < 16 → IsNoNode V undefined_address → LacksChild V m root root [] j child list
     → RaisesRoot V W root j child → IsTreeOf W (suc m) root list
 lacks_raised V W m root j child list top out lacks t =
     let level : (V root).level ≡ m = level_here V m root lacks.front lacks.back top out lacks.row in
     let keeps : KeepsLevels V W m = λ n other low. t.others n low (λ e. other (ap (λ (k : ℕ). (V k).level) e ∙ level)) in
     let low = next_row V lacks.front ++ (insert (V root).children j child ++ next_row V lacks.back) in
     let kids : next_row W (root ∷ []) ≡ t.p ∷ t.q ∷ [] = ap (λ h. h ++ []) (ap (λ (n : Node). n.children) t.at_root) in
-    let row : IsRow W m undefined (t.p ∷ t.q ∷ []) = (
+    let row : IsRow W m undefined_address (t.p ∷ t.q ∷ []) = (
       ap (λ (n : Node). n.level) t.at_p ∙ level,
       ap (λ (n : Node). n.left) t.at_p,
       ap (λ (n : Node). n.right) t.at_p,
       (ap (λ (n : Node). n.level) t.at_q ∙ level, ap (λ (n : Node). n.left) t.at_q, ap (λ (n : Node). n.right) t.at_q, tt),
     ) in
     let below = raised_below V W m root j child list top out lacks t in
-    let first : IsRow W (suc m) undefined (root ∷ []) =
+    let first : IsRow W (suc m) undefined_address (root ∷ []) =
     (ap (λ (n : Node). n.level) t.at_root ∙ ap suc level, ap (λ (n : Node). n.left) t.at_root, ap (λ (n : Node). n.right) t.at_root, tt) in
     let here = rows_under W m (t.p ∷ t.q ∷ []) low list row below (under_same V W m keeps top low list lacks.under) in
     ((first, rw kids here.0), ap (leaves W m) kids ∙ here.1)

@@ -1,11 +1,12 @@
 -- An insertion on its way up, as the code goes: what it may read and write at a node it comes to, when it has taken a block, and when it
 -- has written there.
-use Rattle.std.proofs.Common.{◌≡◌, ◌≢◌, ◌⊎◌, inl, inr, ℕ, suc, ◌+◌, ◌^◌, ◌<◌, ◌≤◌, List, [], ◌∷◌, length, get_or, refl, sym, ap, ◌∙◌, subst, arith, ◌==◌}
+use Rattle.std.proofs.Common.{◌≡◌, ◌≢◌, ◌⊎◌, inl, inr, ℕ, suc, ◌+◌, ◌^◌, ◌<◌, ◌≤◌, List, [], ◌∷◌, length, refl, sym, ap, ◌∙◌, subst, arith, ◌==◌}
 use Rattle.std.specs.List.{list_any, AllByRecursion}
-use Rattle.h5_bytes.specs.Bytes.{undefined}
-use Rattle.h5_model.specs.Format.Rows.{Node, first_or_undefined}
+use Rattle.std.proofs.lemmas.Bool.{or_right}
+use Rattle.h5_bytes.specs.Bytes.{undefined_address}
+use Rattle.h5_model.specs.Format.Rows.{Node}
 use Rattle.h5_model.specs.Format.Nodes.{Kind, IsNode, entries_in, node_at, node_block, node_bytes, node_length, reading_of, tree_blocks}
-use Rattle.h5_model.proofs.RowLaws.{at_listed, same_number, later_of}
+use Rattle.h5_model.proofs.RowLaws.{at_listed, same_number}
 use Rattle.h5_space.specs.Space.{Space}
 use Rattle.h5_space.specs.Moves.{Moves}
 use Rattle.h5_space.specs.Whole.{IsApart}
@@ -14,7 +15,7 @@ use Rattle.h5_btree.specs.Rewritten.{IsRewritten}
 use Rattle.h5_btree.specs.Insertion.{IsClimbing}
 use Rattle.h5_btree.specs.declared.way.Step.{Step}
 use Rattle.h5_btree.proofs.NodeLaws.{length-children}
-use Rattle.h5_btree.proofs.RowEdits.{level_here, right_here, back_level}
+use Rattle.h5_btree.proofs.RowEdits.{level_here}
 use Rattle.h5_btree.proofs.TreeReadings.{Listed, owned_at, owned_of_level}
 use Rattle.h5_btree.proofs.ClimbSteps.{inside_of_apart, undefined_free}
 use Rattle.h5_btree.proofs.SplitSteps.{right_known, taken_apart, taken_new, taken_others, written_apart, written_others}
@@ -23,7 +24,7 @@ module _ (s t : Space) (kind : Kind) (root m p : ℕ) (way : List Step) (j child
   pub top : m < 16
   top = let h = c.high in omega (arith, h)
 
-  pub out : IsNoNode (reading_of t.bytes kind own) undefined
+  pub out : IsNoNode (reading_of t.bytes kind own) undefined_address
   out = undefined_free t kind own c.apart c.short
 
   pub own_p : Listed own p
@@ -47,28 +48,16 @@ module _ (s t : Space) (kind : Kind) (root m p : ℕ) (way : List Step) (j child
   pub entry_p : j ≤ entries_in (node_bytes t.bytes kind p)
   entry_p = let l = length-children kind (node_bytes t.bytes kind p) (node_at t.bytes kind p) refl in let h = place_p in omega (arith, l, h)
 
-  pub known_right : (((node_at t.bytes kind p).right ≡ undefined) ⊎ Listed own (node_at t.bytes kind p).right) × ((node_at t.bytes kind p).right ≡ p → p ≡ undefined)
+  pub known_right : (((node_at t.bytes kind p).right ≡ undefined_address) ⊎ Listed own (node_at t.bytes kind p).right) × ((node_at t.bytes kind p).right ≡ p → p ≡ undefined_address)
   known_right = right_known t kind own m p c.lacks.front c.lacks.back top out c.lacks.row own_p
 
-  listed_right : (r : ℕ) → r ≡ (node_at t.bytes kind p).right → r ≢ undefined → Listed own r
+  listed_right : (r : ℕ) → r ≡ (node_at t.bytes kind p).right → r ≢ undefined_address → Listed own r
   listed_right r er there = elim known_right.0 [ inl none ↦ absurd (there (er ∙ none)) | inr listed ↦ subst (Listed own) (sym er) listed ]
 
   far_right : (r : ℕ) → r ≡ (node_at t.bytes kind p).right → r ≢ p
   far_right r er same = let i = inside_p in absurd (omega (arith, known_right.1 (sym er ∙ same), i, c.short))
 
-  -- a node of another level is not the neighbour to the right
-  pub not_right : (n : ℕ) → Listed own n → (reading_of t.bytes kind own n).level ≢ m → n ≢ (node_at t.bytes kind p).right
-  not_right n listed other same =
-      by_back c.lacks.back refl (same ∙ ap (λ (k : Node). k.right) (sym same_p) ∙ right_here (reading_of t.bytes kind own) m p c.lacks.front c.lacks.back top out c.lacks.row) where
-        by_back : (b : List ℕ) → c.lacks.back ≡ b → n ≡ first_or_undefined b → ⊥
-        by_back [] e end = let i = inside_of_apart t kind own c.apart n listed in absurd (omega (arith, end, i, c.short))
-        by_back (x ∷ xs) e end =
-            let long : 0 < length c.lacks.back = omega (arith, ap (λ (ys : List ℕ). length ys) e) in
-            let first : get_or c.lacks.back 0 0 ≡ x = ap (λ (ys : List ℕ). get_or ys 0 0) e in
-            let level = back_level (reading_of t.bytes kind own) m p c.lacks.front c.lacks.back top out c.lacks.row 0 long in
-            other (ap (λ (k : ℕ). (reading_of t.bytes kind own k).level) (end ∙ sym first) ∙ level)
-
-  -- nor is it p
+  -- a node of another level is not p
   pub not_here : (n : ℕ) → (reading_of t.bytes kind own n).level ≢ m → n ≢ p
   not_here n other same =
       other (ap (λ (k : ℕ). (reading_of t.bytes kind own k).level) same ∙ level_here (reading_of t.bytes kind own) m p c.lacks.front c.lacks.back top out c.lacks.row)
@@ -93,7 +82,7 @@ module _ (s t : Space) (kind : Kind) (root m p : ℕ) (way : List Step) (j child
     all = q ∷ own
 
     pub among : (n : ℕ) → Listed own n → Listed all n
-    among n is = later_of (q == n) (list_any (λ k. k == n) own) is
+    among n is = or_right (q == n) (list_any (λ k. k == n) own) is
 
     pub is_q : Listed all q
     is_q = rw (same_number q) refl
@@ -138,16 +127,16 @@ module _ (s t : Space) (kind : Kind) (root m p : ℕ) (way : List Step) (j child
         pub apart₃ : IsApart (tree_blocks kind all) t₃.free (length t₃.bytes)
         apart₃ = written_apart t₂ t₃ kind all p node_p apart₂ (among p own_p) write_p
 
-        pub bytes_r : r ≢ undefined → node_bytes t₃.bytes kind r ≡ node_bytes t.bytes kind r
+        pub bytes_r : r ≢ undefined_address → node_bytes t₃.bytes kind r ≡ node_bytes t.bytes kind r
         bytes_r there =
             let listed = listed_right r er there in
             written_others t₂ t₃ kind all p node_p apart₂ (among p own_p) write_p r (among r listed) (far_right r er)
             ∙ written_others t₁ t₂ kind all q node_q apart₁ is_q write_q r (among r listed) (new_q r listed)
             ∙ taken_others t t₁ kind own q c.apart taken r listed
 
-        pub inside_r : r ≢ undefined → r + node_length kind ≤ length t₃.bytes
+        pub inside_r : r ≢ undefined_address → r + node_length kind ≤ length t₃.bytes
         inside_r there = inside_of_apart t₃ kind all apart₃ r (among r (listed_right r er there))
 
-        pub form_r : r ≢ undefined → IsNode kind (node_bytes t₃.bytes kind r)
+        pub form_r : r ≢ undefined_address → IsNode kind (node_bytes t₃.bytes kind r)
         form_r there =
             subst (IsNode kind) (sym (bytes_r there)) (at_listed (λ at. IsNode kind (node_bytes t.bytes kind at)) own r c.formed (listed_right r er there))

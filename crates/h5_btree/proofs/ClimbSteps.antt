@@ -3,7 +3,7 @@ use Rattle.std.proofs.Common.{◌≡◌, ◌≢◌, inl, inr, ℕ, suc, ◌+◌,
 use Rattle.std.specs.List.{list_any, insert, AllByRecursion}
 use Rattle.std.proofs.lemmas.List.Edits.{length-insert}
 use Rattle.std.proofs.lemmas.Bool.{cases_lt, cases_order}
-use Rattle.h5_bytes.specs.Bytes.{undefined}
+use Rattle.h5_bytes.specs.Bytes.{undefined_address}
 use Rattle.h5_bytes.specs.Blocks.{holds, cover, Inside}
 use Rattle.h5_bytes.specs.declared.Block.{Block}
 use Rattle.h5_bytes.proofs.BlockLaws.{holds_in, holds_past, holds-le}
@@ -115,14 +115,14 @@ moves_within s t a big big' m less same = record {
 
 -- no node stands at the undefined address
 pub undefined_free : (s : Space) (kind : Kind) (owned : List ℕ) → IsApart (tree_blocks kind owned) s.free (length s.bytes) → length s.bytes < 2 ^ 64
-    → IsNoNode (reading_of s.bytes kind owned) undefined
+    → IsNoNode (reading_of s.bytes kind owned) undefined_address
 undefined_free s kind owned apart short =
-    free_of_none (node_at s.bytes kind) owned undefined (undefined_is_none kind owned (length s.bytes) short (blocks_inside s kind owned apart))
+    free_of_none (node_at s.bytes kind) owned undefined_address (undefined_is_none kind owned (length s.bytes) short (blocks_inside s kind owned apart))
 
 -- it starts at a node of level 0
 pub climb_start : (s : Space) (kind : Kind) (root level p j child : ℕ) (way : List Step) (front back owned list : List ℕ) → HasTree s.bytes kind root level owned list
     → IsApart (tree_blocks kind owned) s.free (length s.bytes) → length s.bytes < 2 ^ 64
-    → IsWay (reading_of s.bytes kind owned) 0 root way p front back → IsRow (reading_of s.bytes kind owned) 0 undefined (front ++ p ∷ back)
+    → IsWay (reading_of s.bytes kind owned) 0 root way p front back → IsRow (reading_of s.bytes kind owned) 0 undefined_address (front ++ p ∷ back)
     → j ≤ length (reading_of s.bytes kind owned p).children
     → IsClimbing s s kind root 0 p way j child (insert list (length (next_row (reading_of s.bytes kind owned) front) + j) child) owned owned
 climb_start s kind root level p j child way front back owned list tree apart short w row place =

@@ -3,11 +3,12 @@ use Rattle.std.proofs.Common.{◌≡◌, ℕ, zero, suc, ◌+◌, ◌<◌, ◌�
 use Rattle.std.specs.Prelude.{◌==◌}
 use Rattle.std.specs.List.{AllByRecursion, Contains, list_any}
 use Rattle.std.proofs.lemmas.List.Elements.{Contains-append_left, Contains-append_right}
-use Rattle.h5_bytes.specs.Bytes.{undefined}
+use Rattle.h5_bytes.specs.Bytes.{undefined_address}
 use Rattle.h5_bytes.specs.Blocks.{Inside}
-use Rattle.h5_model.specs.Format.Rows.{Node, Reading, next_row, IsRow, AreRows, nodes}
+use Rattle.h5_model.specs.Format.Rows.{Node, Reading, next_row, IsRow, nodes}
 use Rattle.h5_model.specs.Format.Nodes.{Kind, HasTree, IsNode, node_at, node_bytes, node_length, entries_in, reading_of, tree_blocks}
 use Rattle.h5_model.proofs.RowLaws.{at_listed}
+use Rattle.h5_laws.proofs.Rows.{row_is}
 use Rattle.h5_btree.specs.Form.{IsRefusedAt, MayBeRoot, MayStandAt}
 use Rattle.h5_btree.specs.Descent.{IsInRow}
 use Rattle.h5_btree.specs.declared.read.NodeFault.{NodeFault}
@@ -20,10 +21,6 @@ row_level : (V : Reading) (level left : ℕ) (row : List ℕ) (k at : ℕ) → I
 row_level V level left [] k at rows low is = absurd (omega arith)
 row_level V level left (x ∷ xs) zero at rows low is = subst (λ n. (V n).level ≡ level) is rows.0
 row_level V level left (x ∷ xs) (suc k) at rows low is = row_level V level x xs k at rows.3 (omega arith) is
-
-first_row : (V : Reading) (level : ℕ) (row : List ℕ) → AreRows V level row → IsRow V level undefined row
-first_row V zero row rows = rows
-first_row V (suc level) row rows = rows.0
 
 in_next_row : (V : Reading) (row : List ℕ) (k at child : ℕ) → k < length row → get_or row k at ≡ at → Contains (V at).children child → Contains (next_row V row) child
 in_next_row V [] k at child low is has = absurd (omega arith)
@@ -61,7 +58,7 @@ read_all image kind at NodeForm inside formed refused =
 
 module _ (image : List ℕ) (kind : Kind) (owned : List ℕ) (level : ℕ) (row : List ℕ) (at : ℕ) (r : IsInRow image kind owned level row at) where
   pub level_in_row : (reading_of image kind owned at).level ≡ level
-  level_in_row = row_level (reading_of image kind owned) level undefined row r.here.0 at (first_row (reading_of image kind owned) level row r.rows) r.here.1 (here_at r.here.0 r.here.1 r.here.2) where
+  level_in_row = row_level (reading_of image kind owned) level undefined_address row r.here.0 at (row_is (reading_of image kind owned) level row r.rows) r.here.1 (here_at r.here.0 r.here.1 r.here.2) where
     here_at : (k : ℕ) → k < length row → slice_index_or row k at ≡ at → get_or row k at ≡ at
     here_at k low is = is
 
@@ -100,7 +97,7 @@ child_in_row image kind owned level row at i child r low is = record {
 
 module _ (image : List ℕ) (kind : Kind) (root level : ℕ) (owned children : List ℕ) (t : HasTree image kind root level owned children) (inside : Inside (length image) (tree_blocks kind owned)) where
   root_level : (reading_of image kind owned root).level ≡ level
-  root_level = row_level (reading_of image kind owned) level undefined (root ∷ []) 0 root (first_row (reading_of image kind owned) level (root ∷ []) t.rows) (omega arith) refl
+  root_level = row_level (reading_of image kind owned) level undefined_address (root ∷ []) 0 root (row_is (reading_of image kind owned) level (root ∷ []) t.rows) (omega arith) refl
 
   pub level_of_root : (node_at image kind root).level ≡ level
   level_of_root = ap (λ (n : Node). n.level) (sym (read_here image kind owned level root t.low root_level)) ∙ root_level

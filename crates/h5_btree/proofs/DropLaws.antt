@@ -1,7 +1,7 @@
 -- A removal on its way up: a child goes from a node, and a node without children goes from its row and from the node above.
 use Rattle.std.proofs.Common.{◌≡◌, ◌≢◌, ℕ, zero, suc, ◌+◌, ◌<◌, List, [], ◌∷◌, ◌++◌, length, get_or, refl, sym, ap, ◌∙◌, arith, subst}
 use Rattle.std.specs.List.{remove}
-use Rattle.h5_bytes.specs.Bytes.{undefined}
+use Rattle.h5_bytes.specs.Bytes.{undefined_address}
 use Rattle.h5_model.specs.Format.Rows.{Node, Reading, next_row, row_below, first_or_undefined, IsRow, AreRows, leaves}
 use Rattle.h5_btree.specs.Climb.{IsNoNode, AreUnder, IsTreeOf, IsOver, Drops, Unlinks, EmptiesRoot}
 use Rattle.h5_btree.specs.declared.way.Step.{Step}
@@ -30,8 +30,8 @@ use Rattle.h5_btree.proofs.ClimbLaws.{KeepsLevels, IsWay-same, row_without, rows
 
 -- ---- a node goes
 
-module _ (V W : Reading) (m p : ℕ) (front back : List ℕ) (top : m < 16) (out : IsNoNode V undefined)
-    (row : IsRow V m undefined (front ++ p ∷ back)) (t : Unlinks V W p) where
+module _ (V W : Reading) (m p : ℕ) (front back : List ℕ) (top : m < 16) (out : IsNoNode V undefined_address)
+    (row : IsRow V m undefined_address (front ++ p ∷ back)) (t : Unlinks V W p) where
   first_is : 0 < length back → get_or back 0 0 ≡ (V p).right
   first_is some = go back refl where
     go : (b : List ℕ) → back ≡ b → get_or back 0 0 ≡ (V p).right
@@ -42,7 +42,7 @@ module _ (V W : Reading) (m p : ℕ) (front back : List ℕ) (top : m < 16) (out
   not_left n other low e = go front refl where
     go : (f : List ℕ) → front ≡ f → ⊥
     go [] none =
-        let end : n ≡ undefined = e ∙ left_here V m p front back top out row ∙ ap (last_of undefined) none in
+        let end : n ≡ undefined_address = e ∙ left_here V m p front back top out row ∙ ap (last_of undefined_address) none in
         absurd (omega (arith, ap (λ (k : ℕ). (V k).level) end, low, out))
     go (x ∷ xs) some =
         let fl : suc (length xs) ≡ length front = sym (ap (λ (f : List ℕ). length f) some) in
@@ -53,7 +53,7 @@ module _ (V W : Reading) (m p : ℕ) (front back : List ℕ) (top : m < 16) (out
   not_right n other low e = go back refl where
     go : (b : List ℕ) → back ≡ b → ⊥
     go [] none =
-        let end : n ≡ undefined = e ∙ right_here V m p front back top out row ∙ ap first_or_undefined none in
+        let end : n ≡ undefined_address = e ∙ right_here V m p front back top out row ∙ ap first_or_undefined none in
         absurd (omega (arith, ap (λ (k : ℕ). (V k).level) end, low, out))
     go (c ∷ cs) some =
         let more : 0 < length back = omega (arith, ap (λ (b : List ℕ). length b) some) in
@@ -75,12 +75,12 @@ module _ (V W : Reading) (m p : ℕ) (front back : List ℕ) (top : m < 16) (out
       subst (λ (n : ℕ). W n ≡ record (V n) { right = first_or_undefined back }) (sym e)
       (t.at_left low ∙ ap (λ (r : ℕ). record (V (V p).left) { right = r }) (right_here V m p front back top out row)))
 
-  unlinks_back : BackNames V W (last_of undefined front) back
-  unlinks_back = back_names V W (last_of undefined front) back
+  unlinks_back : BackNames V W (last_of undefined_address front) back
+  unlinks_back = back_names V W (last_of undefined_address front) back
       (λ some.
       let e = first_is some in
       let low : (V (V p).right).level < 16 = omega (arith, ap (λ (k : ℕ). (V k).level) e, back_level V m p front back top out row 0 some, top) in
-      subst (λ (n : ℕ). W n ≡ record (V n) { left = last_of undefined front }) (sym e)
+      subst (λ (n : ℕ). W n ≡ record (V n) { left = last_of undefined_address front }) (sym e)
       (t.at_right low ∙ ap (λ (l : ℕ). record (V (V p).right) { left = l }) (left_here V m p front back top out row)))
       (λ i less.
       t.others (get_or back (suc i) 0) (omega (arith, back_level V m p front back top out row (suc i) less, top)) (back_other V m p front back top out row (suc i) less)
@@ -88,19 +88,19 @@ module _ (V W : Reading) (m p : ℕ) (front back : List ℕ) (top : m < 16) (out
 
   -- the row below
   pub unlinks_below : next_row W (front ++ back) ≡ next_row V front ++ next_row V back
-  unlinks_below = next_row-without V W p back undefined front unlinks_front unlinks_back
+  unlinks_below = next_row-without V W p back undefined_address front unlinks_front unlinks_back
 
   -- the row without it, and what is under it
   pub unlinks_rows : (list : List ℕ) → AreUnder V m (next_row V front ++ next_row V back) list
       → AreRows W m (front ++ back) × (leaves W m (front ++ back) ≡ list)
   unlinks_rows list u =
-      let is = IsRow-without V W p back m undefined front unlinks_front unlinks_back row in
+      let is = IsRow-without V W p back m undefined_address front unlinks_front unlinks_back row in
       rows_under W m (front ++ back) (next_row V front ++ next_row V back) list is unlinks_below (under_same V W m unlinks_keeps top (next_row V front ++ next_row V back) list u)
 
 -- ---- one step
 
 -- the node has other children: the tree is whole
-pub over_kept : (V W : Reading) (m root p : ℕ) (way : List Step) (i : ℕ) (list : List ℕ) → length way + m < 16 → IsNoNode V undefined
+pub over_kept : (V W : Reading) (m root p : ℕ) (way : List Step) (i : ℕ) (list : List ℕ) → length way + m < 16 → IsNoNode V undefined_address
     → IsOver V m root p way i list → Drops V W p i → IsTreeOf W (length way + m) root list
 over_kept V W m root p way i list high out over t =
     refills_tree V W m p over.front over.back (remove (V p).children i) (omega (arith, high)) out over.row t root way list high over.above over.under
@@ -113,7 +113,7 @@ remove_alone (x ∷ []) (suc i) one low = absurd (omega (arith, low))
 remove_alone (x ∷ y ∷ xs) i one low = absurd (omega (arith, one))
 
 -- the node has no other child: it goes, and the one above has a child too much
-unfoldable pub over_up : (V W : Reading) (m root p : ℕ) (s : Step) (way : List Step) (i : ℕ) (list : List ℕ) → length (s ∷ way) + m < 16 → IsNoNode V undefined
+unfoldable pub over_up : (V W : Reading) (m root p : ℕ) (s : Step) (way : List Step) (i : ℕ) (list : List ℕ) → length (s ∷ way) + m < 16 → IsNoNode V undefined_address
     → IsOver V m root p (s ∷ way) i list → length (V p).children ≡ 1 → Unlinks V W p → IsOver W (suc m) root s.node way s.place list
 over_up V W m root p s way i list high out over one t =
     let top : m < 16 = omega (arith, high) in

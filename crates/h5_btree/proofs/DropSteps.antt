@@ -3,7 +3,7 @@ use Rattle.std.proofs.Common.{◌≡◌, ◌≢◌, inl, inr, ℕ, suc, ◌+◌,
 use Rattle.std.specs.Prelude.{if◌then◌else◌}
 use Rattle.std.specs.List.{list_any, remove, AllByRecursion}
 use Rattle.std.proofs.lemmas.List.Edits.{length-remove}
-use Rattle.h5_bytes.specs.Bytes.{undefined}
+use Rattle.h5_bytes.specs.Bytes.{undefined_address}
 use Rattle.h5_bytes.specs.Blocks.{holds}
 use Rattle.h5_bytes.specs.declared.Block.{Block}
 use Rattle.h5_model.specs.Format.Rows.{Node, next_row, IsRow, leaves, nodes}
@@ -55,7 +55,7 @@ listed-without p n (x ∷ xs) other is = go (x == p) (x == n) refl refl is (list
 -- it starts at a node of level 0
 pub shrink_start : (s : Space) (kind : Kind) (root level p i : ℕ) (way : List Step) (front back owned list : List ℕ) → HasTree s.bytes kind root level owned list
     → IsApart (tree_blocks kind owned) s.free (length s.bytes) → length s.bytes < 2 ^ 64
-    → IsWay (reading_of s.bytes kind owned) 0 root way p front back → IsRow (reading_of s.bytes kind owned) 0 undefined (front ++ p ∷ back)
+    → IsWay (reading_of s.bytes kind owned) 0 root way p front back → IsRow (reading_of s.bytes kind owned) 0 undefined_address (front ++ p ∷ back)
     → i < length (reading_of s.bytes kind owned p).children
     → IsShrinking s s kind root 0 p way i (remove list (length (next_row (reading_of s.bytes kind owned) front) + i)) owned owned
 shrink_start s kind root level p i way front back owned list tree apart short w row place =
@@ -189,7 +189,7 @@ shrink_up s t u kind root m p step way i list owned own c one t' moves formed fi
 pub shrink_emptied : (s t u : Space) (kind : Kind) (root m i : ℕ) (list owned own : List ℕ)
     → IsShrinking s t kind root m root [] i list owned own
     → length (reading_of t.bytes kind own root).children ≡ 1
-    → IsRewritten t u kind root (record { level = 0; left = undefined; right = undefined; keys = remove (node_at t.bytes kind root).keys i; children = [] })
+    → IsRewritten t u kind root (record { level = 0; left = undefined_address; right = undefined_address; keys = remove (node_at t.bytes kind root).keys i; children = [] })
     → IsChildTaken s u kind root 0 root i list owned (root ∷ []) × (list ≡ [])
 shrink_emptied s t u kind root m i list owned own c one r =
     let keys = remove (node_at t.bytes kind root).keys i in

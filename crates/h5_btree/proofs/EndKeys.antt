@@ -4,31 +4,18 @@ use Rattle.std.proofs.Common.{◌≡◌, ◌≢◌, ℕ, zero, suc, ◌+◌, ◌
 use Rattle.std.specs.Prelude.{if◌then◌else◌}
 use Rattle.std.proofs.lemmas.Bool.Decides.{nat_tests}
 use Rattle.std.proofs.lemmas.List.{length-take-le}
+use Rattle.std.proofs.lemmas.Bool.{and_parts, not-false, not-true}
 use Rattle.h5_model.specs.Format.Rows.{Node}
+use Rattle.h5_model.proofs.RowLaws.{equal_number}
 use Rattle.h5_btree.specs.Descent.{IsChildFor}
-use Rattle.h5_btree.specs.Widened.{widened}
+use Rattle.h5_btree.specs.Widened.{widened_node}
 use Rattle.h5_btree.proofs.KeyedEnds.{ends_cut, get_cut, get_cut_next}
 
 -- ---- tests
 
-and_both : (a b : Bool) → (a && b) ≡ true → (a ≡ true) × (b ≡ true)
-and_both true b is = (refl, is)
-and_both false b is = cc
-
 and_last : (a b : Bool) → a ≡ true → (a && b) ≡ false → b ≡ false
 and_last true b on is = is
 and_last false b on is = cc
-
-not_off : (b : Bool) → not b ≡ false → b ≡ true
-not_off true is = refl
-not_off false is = cc
-
-not_on : (b : Bool) → not b ≡ true → b ≡ false
-not_on true is = cc
-not_on false is = refl
-
-same_number : (m n : ℕ) → (m == n) ≡ true → m ≡ n
-same_number m n is = grind (arith, nat_tests)
 
 is_same : (m n : ℕ) → m ≡ n → (m == n) ≡ true
 is_same m n is = grind (arith, nat_tests)
@@ -60,29 +47,29 @@ module _ (behind : List ℕ → Bool) (node : Node) (i : ℕ) (may_first : Bool)
 
   first_both : first_gives ≡ true → ((i == 0) ≡ true) × (not (behind (get_or node.keys 0 [])) ≡ true)
   first_both is =
-      let some = (and_both may_first ((i == 0) && not (behind (get_or node.keys 0 []))) is).1 in
-      and_both (i == 0) (not (behind (get_or node.keys 0 []))) some
+      let some = (and_parts may_first ((i == 0) && not (behind (get_or node.keys 0 []))) is).1 in
+      and_parts (i == 0) (not (behind (get_or node.keys 0 []))) some
 
   last_both : last_gives ≡ true → ((i + 1 == length node.children) ≡ true) × (behind (get_or node.keys (length node.children) []) ≡ true)
-  last_both is = and_both (i + 1 == length node.children) (behind (get_or node.keys (length node.children) [])) is
+  last_both is = and_parts (i + 1 == length node.children) (behind (get_or node.keys (length node.children) [])) is
 
   -- an end key gives way at its end alone, and where what is sought is not within it
   pub first_place : first_gives ≡ true → i ≡ 0
-  first_place is = same_number i 0 (first_both is).0
+  first_place is = equal_number i 0 (first_both is).0
 
   pub last_place : last_gives ≡ true → suc i ≡ length node.children
-  last_place is = let both = same_number (i + 1) (length node.children) (last_both is).0 in omega (arith, both)
+  last_place is = let both = equal_number (i + 1) (length node.children) (last_both is).0 in omega (arith, both)
 
   pub first_off : first_gives ≡ true → behind kk ≡ false
   first_off is =
-      let off = not_on (behind (get_or node.keys 0 [])) (first_both is).1 in
+      let off = not-true (behind (get_or node.keys 0 [])) (first_both is).1 in
       subst (λ (n : ℕ). behind (get_or node.keys n []) ≡ false) (sym (first_place is)) off
 
   pub last_on : last_gives ≡ true → behind jj ≡ true
   last_on is = subst (λ (n : ℕ). behind (get_or node.keys n []) ≡ true) (sym (last_place is)) (last_both is).1
 
   module _ (chosen : IsChildFor behind node i) (long : length node.keys ≡ length node.children + 1) where
-    pub end_keys : (widened (record { first = first_gives; last = last_gives }) low high node).keys ≡ take i node.keys ++ low_key ∷ high_key ∷ drop (suc (suc i)) node.keys
+    pub end_keys : (widened_node (record { first = first_gives; last = last_gives }) low high node).keys ≡ take i node.keys ++ low_key ∷ high_key ∷ drop (suc (suc i)) node.keys
     end_keys = ends_cut node.keys node.children i long chosen.child low high first_gives last_gives first_place last_place
 
     -- where it stays, what is sought is within it
@@ -92,7 +79,7 @@ module _ (behind : List ℕ → Bool) (node : Node) (i : ℕ) (may_first : Bool)
       by_place zero is =
           let some = and_last may_first ((i == 0) && not (behind (get_or node.keys 0 []))) may off in
           let none = and_last (i == 0) (not (behind (get_or node.keys 0 []))) (is_same i 0 is) some in
-          subst (λ (n : ℕ). behind (get_or node.keys n []) ≡ true) (sym is) (not_off (behind (get_or node.keys 0 [])) none)
+          subst (λ (n : ℕ). behind (get_or node.keys n []) ≡ true) (sym is) (not-false (behind (get_or node.keys 0 [])) none)
       by_place (suc n) is = chosen.low (omega (arith, is))
 
     pub high_kept : last_gives ≡ false → behind jj ≡ false
@@ -102,7 +89,7 @@ module _ (behind : List ℕ → Bool) (node : Node) (i : ℕ) (may_first : Bool)
 
       by_test : (b : Bool) → (i + 1 == length node.children) ≡ b → behind jj ≡ false
       by_test true is =
-          let at = same_number (i + 1) (length node.children) is in
+          let at = equal_number (i + 1) (length node.children) is in
           let none = and_last (i + 1 == length node.children) (behind (get_or node.keys (length node.children) [])) is off in
           subst (λ (n : ℕ). behind (get_or node.keys n []) ≡ false) (sym at ∙ next) none
       by_test false is =

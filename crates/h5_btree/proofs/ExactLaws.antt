@@ -4,6 +4,7 @@ use Rattle.std.specs.Option.{option_or}
 use Rattle.std.specs.List.{AllByRecursion, flat_map, slice_get}
 use Rattle.std.proofs.lemmas.Grind.{flat_map-append}
 use Rattle.h5_bytes.specs.Blocks.{Inside}
+use Rattle.h5_bytes.proofs.BlockLaws.{all_so}
 use Rattle.h5_model.specs.Format.Rows.{Reading}
 use Rattle.h5_model.specs.Format.Nodes.{Kind, HasTree, IsNode, node_at, node_bytes, node_length, tree_blocks}
 use Rattle.h5_model.proofs.RowLaws.{at_listed}
@@ -14,7 +15,6 @@ use Rattle.h5_space.specs.Space.{Space}
 use Rattle.h5_btree.specs.Exact.{IsExactBelow, IsBehindChild, IsKeyFirst, key_before, subtree_at}
 use Rattle.h5_btree.specs.Keyed.{at_children, trees_below}
 use Rattle.h5_btree.specs.Retired.{IsLastOf, IsSubtree, StandsUnder, keys_below, lowest_key}
-use Rattle.h5_btree.proofs.RetiredNodes.{all_with}
 use Rattle.h5_btree.proofs.RetiredSteps.{take_got}
 use Rattle.h5_btree.proofs.RetiredTrees.{root_under}
 
@@ -176,7 +176,7 @@ module _ (stands : ℕ → Type 0) (s : Space) (kind : Kind) (owned list : List 
       at_listed (λ n. n + node_length kind ≤ length s.bytes) owned at (each_inside owned inside) is.0,
       at_listed (λ n. IsNode kind (node_bytes s.bytes kind n)) owned at formed is.0,
     ),
-    all_with (IsSubtree (node_at s.bytes kind) owned list height) (StandsUnder stands s.bytes kind height) (node_at s.bytes kind at).children (under_stands height) is.2,
+    all_so (IsSubtree (node_at s.bytes kind) owned list height) (StandsUnder stands s.bytes kind height) (node_at s.bytes kind at).children (under_stands height) is.2,
   )
 
 pub tree_stands : (stands : ℕ → Type 0) (s : Space) (kind : Kind) (root level : ℕ) (owned list : List ℕ) → HasTree s.bytes kind root level owned list

@@ -85,9 +85,6 @@ next_low s t kind root m p next higher j child list owned own c =
 pub keys_left : (a long all front back : ℕ) → (suc a + 1) * long ≤ all → front ≡ long → front + back ≡ all → (a + 1) * long ≤ back
 keys_left a long all front back is first both = omega (arith, is, first, both)
 
-pub bytes_first : (a n room : ℕ) → (a + 2) * n ≤ room → n ≤ room
-bytes_first a n room is = omega (arith, is)
-
 pub bytes_left : (a n room left : ℕ) → (suc a + 2) * n ≤ room → room ≤ left + n → (a + 2) * n ≤ left
 bytes_left a n room left is spent = omega (arith, is, spent)
 

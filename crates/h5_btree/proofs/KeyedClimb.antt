@@ -1,9 +1,8 @@
 -- An insertion along a way, node by node, as one into the tree of keys: from the node where a child comes in up to the root.
-use Rattle.std.proofs.Common.{◌≡◌, ◌⊎◌, inl, inr, ℕ, zero, suc, ◌+◌, ◌*◌, ◌<◌, ◌≤◌, Bool, true, false, List, [], ◌∷◌, ◌++◌, length, map, take, drop, get_or, refl, sym, ap, ◌∙◌, subst, arith, add-one}
-use Rattle.std.specs.Prelude.{nat_lt, if◌then◌else◌}
+use Rattle.std.proofs.Common.{◌≡◌, ◌⊎◌, inl, inr, ℕ, zero, suc, ◌+◌, ◌*◌, ◌<◌, ◌≤◌, Bool, List, [], ◌∷◌, ◌++◌, length, map, take, drop, get_or, refl, sym, ap, ◌∙◌, subst, arith, add-one}
 use Rattle.std.specs.List.{AllByRecursion, insert}
 use Rattle.std.proofs.lemmas.List.Edits.{length-insert}
-use Rattle.h5_bytes.specs.Bytes.{undefined}
+use Rattle.h5_bytes.specs.Bytes.{undefined_address}
 use Rattle.h5_bytes.proofs.BlockLaws.{all_right}
 use Rattle.h5_model.specs.Format.Rows.{Node, Reading, IsRow, AreRows}
 use Rattle.h5_model.specs.Format.Nodes.{Kind, IsNode, node_at, node_bytes, reading_of}
@@ -25,13 +24,7 @@ use Rattle.h5_btree.proofs.TreeReadings.{Listed, owned_at, owned_of_level}
 use Rattle.h5_btree.proofs.KeyedTrees.{IsOffWay, cut_at, drop_at}
 use Rattle.h5_btree.proofs.KeyedOwn.{keys_count, keys_cut, long_trees, trees_cut}
 use Rattle.h5_btree.proofs.KeyedGrown.{GoesIn, IsWide, wide_same, wide_behind, fits_one, fits_two}
-
--- the left half has K children, or one more
-pub left_least : (k j : ℕ) → (k ≤ left_count k j) × (left_count k j ≤ k + 1)
-left_least k j = by_test (nat_lt j k) where
-  by_test : (b : Bool) → (k ≤ (if b then k else k + 1)) × ((if b then k else k + 1) ≤ k + 1)
-  by_test true = (omega arith, omega arith)
-  by_test false = (omega arith, omega arith)
+use Rattle.h5_btree.proofs.HalfLists.{left_bounds}
 
 pub drop_past : {X : Type 0} (xs : List X) (n : ℕ) → length xs ≤ n → drop n xs ≡ []
 drop_past [] zero past = refl
@@ -40,7 +33,7 @@ drop_past (x ∷ xs) zero past = absurd (omega (arith, past))
 drop_past (x ∷ xs) (suc n) past = drop_past xs n (omega (arith, past))
 
 module _ {B X : Type 0} (sides : Sides (List ℕ) X) (items : B → List X) (Base : B → Type 0) (Puts : B → Grown (List ℕ) B → Type 0) (x : X) (low high : List ℕ)
-    (follows : List ℕ → List ℕ → Bool) (s t : List ℕ) (kind : Kind) (root level : ℕ) (owned : List ℕ) (out : IsNoNode (reading_of s kind owned) undefined) (top : level ≤ 15)
+    (follows : List ℕ → List ℕ → Bool) (s t : List ℕ) (kind : Kind) (root level : ℕ) (owned : List ℕ) (out : IsNoNode (reading_of s kind owned) undefined_address) (top : level ≤ 15)
     (formed : AllByRecursion (λ at. IsNode kind (node_bytes s kind at)) owned) (some : 1 ≤ kind.k) (was now : AtChild B) where
   abbrev V : Reading
   V = node_at s kind
@@ -75,7 +68,7 @@ module _ {B X : Type 0} (sides : Sides (List ℕ) X) (items : B → List X) (Bas
 
   -- ---- a node of the tree
 
-  module _ (m p : ℕ) (f bk : List ℕ) (deep : m ≤ level) (row : IsRow Y m undefined (f ++ p ∷ bk)) where
+  module _ (m p : ℕ) (f bk : List ℕ) (deep : m ≤ level) (row : IsRow Y m undefined_address (f ++ p ∷ bk)) where
     listed : Listed owned p
     listed = owned_of_level V owned p (let l = level_here Y m p f bk (omega (arith, deep, top)) out row in omega (arith, l, deep, top))
 
@@ -170,7 +163,7 @@ module _ {B X : Type 0} (sides : Sides (List ℕ) X) (items : B → List X) (Bas
 
   module _ (hold : AreHeld) (sorted : S (suc level) (keys_from Y was level root)) where
     -- the two halves of a node
-    halves : (m p j : ℕ) (f bk : List ℕ) (key : List ℕ) (child l r : ℕ) → m ≤ level → IsRow Y m undefined (f ++ p ∷ bk) → j ≤ length (Y p).children
+    halves : (m p j : ℕ) (f bk : List ℕ) (key : List ℕ) (child l r : ℕ) → m ≤ level → IsRow Y m undefined_address (f ++ p ∷ bk) → j ≤ length (Y p).children
         → Wide m (Y p).keys (Y p).children (insert (Y p).keys j key) (insert (Y p).children j child) → length (V p).children ≡ 2 * kind.k
         → (W l).keys ≡ take (left_count kind.k j + 1) (insert (V p).keys j key) → (W l).children ≡ take (left_count kind.k j) (insert (V p).children j child)
         → (W r).keys ≡ drop (left_count kind.k j) (insert (V p).keys j key) → (W r).children ≡ drop (left_count kind.k j) (insert (V p).children j child)
@@ -182,7 +175,7 @@ module _ {B X : Type 0} (sides : Sides (List ℕ) X) (items : B → List X) (Bas
         let lk = length-insert (Y p).keys j key (omega (arith, count, place)) in
         let lc = length-insert (Y p).children j child place in
         let all : length (Y p).children ≡ 2 * kind.k = ap (λ (o : Node). length o.children) same ∙ full in
-        let least = left_least kind.k j in
+        let least = left_bounds kind.k j in
         let two = fits_two sides Puts kind.k x low high Y W was now m (Y p).keys (Y p).children (insert (Y p).keys j key) (insert (Y p).children j child) wide
         (omega (arith, lk, lc, count)) l r n
         (kl ∙ ap (λ (o : Node). take (n + 1) (insert o.keys j key)) (sym same)) (cl ∙ ap (λ (o : Node). take n (insert o.children j child)) (sym same))
@@ -192,7 +185,7 @@ module _ {B X : Type 0} (sides : Sides (List ℕ) X) (items : B → List X) (Bas
         (ap (λ (o : Node). get_or (insert o.keys j key) n []) same) two
 
     -- the child comes in
-    comes : (m p j : ℕ) (f bk : List ℕ) (key : List ℕ) (child : ℕ) → m ≤ level → IsRow Y m undefined (f ++ p ∷ bk) → j ≤ length (Y p).children
+    comes : (m p j : ℕ) (f bk : List ℕ) (key : List ℕ) (child : ℕ) → m ≤ level → IsRow Y m undefined_address (f ++ p ∷ bk) → j ≤ length (Y p).children
         → Wide m (Y p).keys (Y p).children (insert (Y p).keys j key) (insert (Y p).children j child) → HasComeIn s t kind p j key child
         → In (suc m) (keys_from Y was m p) (One (keys_from W now m p))
     comes m p j f bk key child deep row place wide come =
@@ -247,7 +240,7 @@ module _ {B X : Type 0} (sides : Sides (List ℕ) X) (items : B → List X) (Bas
         let two = halves m p j f bk key child l r (omega (arith, sum)) row place wide full risen.left_keys risen.left risen.right_keys risen.right in
         let at : j ≤ length (V p).keys = let c = ap (λ (o : Node). length o.children) same in omega (arith, c, count, place) in
         let lk = length-insert (V p).keys j key at in
-        let least = left_least kind.k j in
+        let least = left_bounds kind.k j in
         let within : left_count kind.k j < length (insert (V p).keys j key) = omega (arith, lk, count, full, least.1, some) in
         let up = subst (λ (n : ℕ). HasRisen s t kind n j key child l r) w.0 risen in
         inr (

@@ -2,7 +2,7 @@
 use Rattle.std.proofs.Common.{◌≡◌, ◌≢◌, ℕ, suc, ◌+◌, ◌≤◌, Bool, true, false, List, [], ◌∷◌, ◌++◌, length, take, drop, get_or, sym, subst, arith, add-one}
 use Rattle.std.specs.Prelude.{if◌then◌else◌}
 use Rattle.std.specs.List.{AllByRecursion, insert, remove}
-use Rattle.h5_bytes.specs.Bytes.{undefined}
+use Rattle.h5_bytes.specs.Bytes.{undefined_address}
 use Rattle.h5_bytes.proofs.BlockLaws.{all_left, all_right}
 use Rattle.h5_model.specs.Format.Rows.{Node, Reading}
 use Rattle.h5_model.specs.Format.Nodes.{Kind, node_at, reading_of}
@@ -68,7 +68,7 @@ module _ {B X : Type 0} (sides : Sides (List ℕ) X) (items : B → List X) (Bas
     abbrev I : (height : ℕ) → KeyTree (List ℕ) B height → List X
     I = items_in (List ℕ) items
 
-    abbrev pub out : IsNoNode Y undefined
+    abbrev pub out : IsNoNode Y undefined_address
     out = off_out s t kind root level way owned list k e others was now same
 
     pub steps : level ≡ length e.above

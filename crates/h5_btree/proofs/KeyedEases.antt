@@ -2,7 +2,7 @@
 use Rattle.std.proofs.Common.{◌≡◌, ◌≢◌, ◌⊎◌, inl, inr, ℕ, suc, ◌+◌, ◌<◌, ◌≤◌, true, List, [], ◌∷◌, ◌++◌, length, take, drop, get_or, sym, ap, ap₂, ◌∙◌, subst, arith}
 use Rattle.std.specs.List.{AllByRecursion, flat_map, remove}
 use Rattle.std.proofs.lemmas.Grind.{flat_map-append}
-use Rattle.h5_bytes.specs.Bytes.{undefined}
+use Rattle.h5_bytes.specs.Bytes.{undefined_address}
 use Rattle.h5_bytes.proofs.BlockLaws.{all_append, all_left, all_right}
 use Rattle.h5_model.specs.Format.Rows.{Node, Reading}
 use Rattle.h5_model.specs.Format.Nodes.{Kind, node_at, reading_of}
@@ -151,7 +151,7 @@ module _ {B X : Type 0} (sides : Sides (List ℕ) X) (orderly : IsOrderly sides)
     same : AllByRecursion (StandsAlike V W at at) (remove list k)
     same = all_stand V W at (remove list k)
 
-    abbrev out : IsNoNode Y undefined
+    abbrev out : IsNoNode Y undefined_address
     out = off_out s t kind root level way owned list k e others at at same
 
     abbrev Same : (height : ℕ) → KeyTree (List ℕ) B height → KeyTree (List ℕ) B height → Type 0

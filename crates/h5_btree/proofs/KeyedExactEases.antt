@@ -3,7 +3,7 @@ use Rattle.std.proofs.Common.{◌≡◌, ◌≢◌, ◌⊎◌, inl, inr, ℕ, su
 use Rattle.std.specs.Prelude.{Option, None}
 use Rattle.std.specs.List.{AllByRecursion, flat_map, remove}
 use Rattle.std.proofs.lemmas.Grind.{flat_map-append}
-use Rattle.h5_bytes.specs.Bytes.{undefined}
+use Rattle.h5_bytes.specs.Bytes.{undefined_address}
 use Rattle.h5_bytes.proofs.BlockLaws.{all_left, all_right}
 use Rattle.h5_model.specs.Format.Links.{Before, NotAfter}
 use Rattle.h5_model.specs.Format.Rows.{Node, Reading}
@@ -148,7 +148,7 @@ module _ (text : List ℕ → List ℕ) (empty : text lowest_key ≡ []) (x : Li
     same : AllByRecursion (StandsAlike V W at at) (remove list k)
     same = all_stand V W at (remove list k)
 
-    abbrev out : IsNoNode Y undefined
+    abbrev out : IsNoNode Y undefined_address
     out = off_out s t kind root level way owned list k e others at at same
 
     -- a node on the way

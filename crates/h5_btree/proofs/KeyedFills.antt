@@ -2,7 +2,7 @@
 -- children, the tree of keys is the same.
 use Rattle.std.proofs.Common.{◌≡◌, ◌≢◌, inl, ℕ, suc, ◌+◌, ◌≤◌, true, List, [], ◌∷◌, ◌++◌, length, take, drop, get_or, refl, sym, ap, ap₂, ◌∙◌, subst, arith, append-nil}
 use Rattle.std.specs.List.{AllByRecursion, remove}
-use Rattle.h5_bytes.specs.Bytes.{undefined}
+use Rattle.h5_bytes.specs.Bytes.{undefined_address}
 use Rattle.h5_bytes.proofs.BlockLaws.{all_left, all_right, all_so}
 use Rattle.h5_model.specs.Format.Rows.{Node, Reading, leaves}
 use Rattle.h5_model.specs.Format.Nodes.{Kind, HasTree, node_at, reading_of}
@@ -93,7 +93,7 @@ module _ {B X : Type 0} (sides : Sides (List ℕ) X) (orderly : IsOrderly sides)
   module _ (low high : List ℕ) (some : 1 ≤ kind.k) (right : sides.Right end_key x) (left : sides.Left x next_key)
       (admits : AllByRecursion (λ (st : Step). sides.Right (get_or (V st.node).keys st.place []) x × sides.Left x (get_or (V st.node).keys (suc st.place) [])) e.above)
       (Puts : B → Grown (List ℕ) B → Type 0) (put : Puts (was end_key end_child) (One (now end_key end_child))) where
-    abbrev out : IsNoNode Y undefined
+    abbrev out : IsNoNode Y undefined_address
     out = off_out s s kind root level way owned list k e all_keep was now same
 
     filled_p : (o : Node) → o ≡ V p → Puts (was (get_or o.keys i []) (get_or o.children i 0)) (One (now (get_or o.keys i []) (get_or o.children i 0)))

@@ -1,14 +1,13 @@
--- The trees of keys of groups and of chunks: what stands at each child at their bottom, and that a group's tree is in order by the
--- definition exactly where its tree of keys is.
+-- The tree of keys of a group: what stands at each child at its bottom, and that it is in order exactly where the group's tree is, by
+-- the definition. And a chunk that comes in beside another one.
 use Rattle.std.proofs.Common.{◌≡◌, ℕ, ◌≤◌, List, [], ◌∷◌, ◌++◌, length, map, refl, ap, arith}
 use Rattle.std.specs.Bool.{⊤}
-use Rattle.std.specs.List.{AllByRecursion, zip}
+use Rattle.std.specs.List.{AllByRecursion}
 use Rattle.h5_bytes.proofs.BlockLaws.{all_so}
-use Rattle.h5_model.specs.Format.Chunks.{offsets_in}
 use Rattle.h5_model.specs.Format.Links.{Before, IsOrdered, Symbols, names_in}
 use Rattle.h5_model.specs.Format.Nodes.{Kind, HasTree, node_at, reading_of}
 use Rattle.h5_model.specs.Format.Rows.{Node}
-use Rattle.h5_laws.specs.ChunkLadders.{chunk_lists, rising_chunk_sides}
+use Rattle.h5_laws.specs.ChunkLadders.{rising_chunk_sides}
 use Rattle.h5_laws.specs.KeyEdits.{Grown, Two}
 use Rattle.h5_laws.specs.NameLadders.{key_text, name_lists, name_sides}
 use Rattle.h5_laws.proofs.ChunkLadders.{chunk_order}
@@ -64,20 +63,7 @@ module _ (image : List ℕ) (kind : Kind) (root level : ℕ) (owned symbol_nodes
       (nodes_in_order (name_sides (key_text segment)) (λ (b : List (List ℕ)). b) (λ (b : List (List ℕ)). ⊤) (names_at_child S segment) image kind root level owned symbol_nodes has
       (name_lists S segment) (names_bottom image kind owned S segment) sorted)
 
--- ---- chunks: the one at a child, by the key before it
-
-abbrev pub chunk_at_child : ℕ → AtChild (List (List ℕ × ℕ))
-chunk_at_child rank key c = (offsets_in rank key, c) ∷ []
-
-chunks_listed : (rank : ℕ) (keys : List (List ℕ)) (children : List ℕ)
-    → map (λ (chunk : List ℕ × ℕ). chunk ∷ []) (zip (map (offsets_in rank) keys) children) ≡ map (λ (b : List (List ℕ × ℕ)). b) (at_children (chunk_at_child rank) keys children)
-chunks_listed rank [] children = refl
-chunks_listed rank (k ∷ keys) [] = refl
-chunks_listed rank (k ∷ keys) (c ∷ children) = ap (λ (ls : List (List (List ℕ × ℕ))). ((offsets_in rank k, c) ∷ []) ∷ ls) (chunks_listed rank keys children)
-
-pub chunks_bottom : (image : List ℕ) (kind : Kind) (owned : List ℕ) (rank : ℕ)
-    → IsBottomOf (λ (b : List (List ℕ × ℕ)). b) (chunk_at_child rank) (chunk_lists rank) (reading_of image kind owned)
-chunks_bottom image kind owned rank = λ n. chunks_listed rank (reading_of image kind owned n).keys (reading_of image kind owned n).children
+-- ---- chunks
 
 -- a new chunk beside the one that stands at a child, behind it or before it, where the key between them parts them
 module _ (rank : ℕ) where

@@ -2,7 +2,7 @@
 use Rattle.std.proofs.Common.{◌≡◌, inl, inr, ℕ, suc, ◌+◌, ◌<◌, List, [], ◌∷◌, ◌++◌, length, take, drop, get_or, refl, sym, ap, ap₂, ◌∙◌, subst, arith}
 use Rattle.std.specs.List.{AllByRecursion, remove}
 use Rattle.std.proofs.lemmas.List.{length-append}
-use Rattle.h5_bytes.specs.Bytes.{undefined}
+use Rattle.h5_bytes.specs.Bytes.{undefined_address}
 use Rattle.h5_model.specs.Format.Rows.{Node, Reading, IsRow}
 use Rattle.h5_model.specs.Format.Nodes.{Kind, node_at, reading_of}
 use Rattle.h5_laws.specs.KeyTrees.{KeyTree}
@@ -68,7 +68,7 @@ module _ {B : Type 0} (Takes : B → B → Type 0) (Empty : B → Type 0) where
 
 -- ---- the way to where it stopped
 
-module _ {B : Type 0} (Takes : B → B → Type 0) (Empty : B → Type 0) (s : Space) (kind : Kind) (owned : List ℕ) (root : ℕ) (out : IsNoNode (reading_of s.bytes kind owned) undefined)
+module _ {B : Type 0} (Takes : B → B → Type 0) (Empty : B → Type 0) (s : Space) (kind : Kind) (owned : List ℕ) (root : ℕ) (out : IsNoNode (reading_of s.bytes kind owned) undefined_address)
     (was : AtChild B) where
   abbrev V : Reading
   V = node_at s.bytes kind
@@ -76,7 +76,7 @@ module _ {B : Type 0} (Takes : B → B → Type 0) (Empty : B → Type 0) (s : S
   abbrev X : Reading
   X = reading_of s.bytes kind owned
 
-  pub here_same : (m a : ℕ) (f bk : List ℕ) → m < 16 → IsRow X m undefined (f ++ a ∷ bk) → X a ≡ V a
+  pub here_same : (m a : ℕ) (f bk : List ℕ) → m < 16 → IsRow X m undefined_address (f ++ a ∷ bk) → X a ≡ V a
   here_same m a f bk top row =
       owned_at V owned a (owned_of_level V owned a (let l = level_here X m a f bk top out row in omega (arith, l, top)))
 
@@ -87,11 +87,11 @@ module _ {B : Type 0} (Takes : B → B → Type 0) (Empty : B → Type 0) (s : S
   -- where the nodes below a step had one child alone, nothing is left below it
   abbrev pub IsStopped : Step → List Step → ℕ → Type 0
   IsStopped step above total =
-      (m : ℕ) × (f : List ℕ) × (bk : List ℕ) × IsWay X m root above step.node f bk × IsRow X m undefined (f ++ step.node ∷ bk)
+      (m : ℕ) × (f : List ℕ) × (bk : List ℕ) × IsWay X m root above step.node f bk × IsRow X m undefined_address (f ++ step.node ∷ bk)
       × (step.place < length (V step.node).children) × (length above + m ≡ total) × IsGoing Takes Empty m (tree_at m step)
 
   pub sinks : (gone : List Step) (step : Step) (above : List Step) (m : ℕ) (cur : Step) (rest : List Step) (f bk : List ℕ) → length rest + m < 16
-      → IsWay X m root rest cur.node f bk → IsRow X m undefined (f ++ cur.node ∷ bk) → cur.place < length (V cur.node).children → cur ∷ rest ≡ gone ++ step ∷ above
+      → IsWay X m root rest cur.node f bk → IsRow X m undefined_address (f ++ cur.node ∷ bk) → cur.place < length (V cur.node).children → cur ∷ rest ≡ gone ++ step ∷ above
       → AllByRecursion (λ (g : Step). length (V g.node).children ≡ 1) gone → IsGoing Takes Empty m (tree_at m cur) → IsStopped step above (length rest + m)
   sinks [] step above m cur rest f bk high w row low cut ones going =
       let first : cur ≡ step = cc in

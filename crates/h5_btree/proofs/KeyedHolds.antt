@@ -4,7 +4,7 @@ use Rattle.std.proofs.Common.{◌≡◌, inl, inr, ℕ, zero, suc, ◌+◌, ◌*
 use Rattle.std.specs.Prelude.{if◌then◌else◌, nat_le}
 use Rattle.std.specs.List.{AllByRecursion}
 use Rattle.std.proofs.lemmas.Bool.Decides.{nat_tests}
-use Rattle.h5_bytes.specs.Bytes.{undefined}
+use Rattle.h5_bytes.specs.Bytes.{undefined_address}
 use Rattle.h5_bytes.proofs.BlockLaws.{all_left, all_right, all_so}
 use Rattle.h5_model.specs.Format.Rows.{Reading, next_row, AreRows}
 use Rattle.h5_laws.specs.Ladders.{Sides, LieBetween, IsOrderly}
@@ -79,9 +79,9 @@ module _ (Y : Reading) where
   HaveChildren (suc m) row = AllByRecursion HasChild row × HaveChildren m (next_row Y row)
 
   have_rows : (m : ℕ) (row : List ℕ) → AreRows Y m row → ((n : ℕ) → (Y n).level ≤ m → HasChild n) → HaveChildren m row
-  have_rows zero row rows each = all_so (λ n. (Y n).level ≡ 0) HasChild row (λ n l. each n (omega (arith, l))) (row_levels Y 0 undefined row rows)
+  have_rows zero row rows each = all_so (λ n. (Y n).level ≡ 0) HasChild row (λ n l. each n (omega (arith, l))) (row_levels Y 0 undefined_address row rows)
   have_rows (suc m) row rows each = (
-    all_so (λ n. (Y n).level ≡ suc m) HasChild row (λ n l. each n (omega (arith, l))) (row_levels Y (suc m) undefined row rows.0),
+    all_so (λ n. (Y n).level ≡ suc m) HasChild row (λ n l. each n (omega (arith, l))) (row_levels Y (suc m) undefined_address row rows.0),
     have_rows m (next_row Y row) rows.1 (λ n l. each n (omega (arith, l))),
   )
 

@@ -2,7 +2,7 @@
 use Rattle.std.proofs.Common.{◌≡◌, ◌≢◌, inl, inr, ℕ, zero, suc, ◌+◌, ◌≤◌, List, [], ◌∷◌, ◌++◌, length, map, take, drop, get_or, sym, ap, ◌∙◌, subst, arith, add-one, Bool}
 use Rattle.std.specs.Bool.{⊤}
 use Rattle.std.specs.List.{AllByRecursion, insert, remove}
-use Rattle.h5_bytes.specs.Bytes.{undefined}
+use Rattle.h5_bytes.specs.Bytes.{undefined_address}
 use Rattle.h5_bytes.proofs.BlockLaws.{all_append, all_left, all_right, all_so}
 use Rattle.h5_model.specs.Format.Rows.{Node, Reading, next_row, nodes}
 use Rattle.h5_model.specs.Format.Nodes.{Kind, HasTree, node_at, reading_of}
@@ -217,7 +217,7 @@ module _ {B X : Type 0} (sides : Sides (List ℕ) X) (items : B → List X) (Bas
   abbrev S : (height : ℕ) → KeyTree (List ℕ) B height → Type 0
   S = IsSorted sides items Base
 
-  out : IsNoNode Y undefined
+  out : IsNoNode Y undefined_address
   out = off_out s t kind root level way owned list k e others was now same
 
   steps : level ≡ length e.above

@@ -52,14 +52,10 @@ without_one (f ∷ front) x back all = (all_without (Before f) front x back all.
 pub ascending_taken : (x : List ℕ) (old new : List (List ℕ)) → AreAscending old → IsTaken x old new → AreAscending new
 ascending_taken x old new all t = subst AreAscending (sym t.after) (without_one t.front x t.back (subst AreAscending t.before all))
 
--- none is after the last one, and all behind are after it
+-- none is after the last one
 up_to_last : (front : Names) (y : List ℕ) → AreAscending (front ++ y ∷ []) → AllByRecursion (λ z. NotAfter z y) (front ++ y ∷ [])
 up_to_last [] y all = (not_after_itself y, tt)
 up_to_last (f ∷ front) y all = (before_le f y (all_right (Before f) front (y ∷ []) all.0).0, up_to_last front y all.1)
-
-after_last : (front : Names) (y : List ℕ) (back : Names) → AreAscending (front ++ y ∷ back) → AllByRecursion (Before y) back
-after_last [] y back all = all.0
-after_last (f ∷ front) y back all = after_last front y back all.1
 
 module _ (text : List ℕ → List ℕ) (x : List ℕ) where
   abbrev pub IsNameGrown : List (List ℕ) → Grown (List ℕ) (List (List ℕ)) → Type 0

@@ -1,7 +1,7 @@
 -- The nodes of a tree off a way: what is below them stays where an edit writes on the way alone.
 use Rattle.std.proofs.Common.{◌≡◌, ◌≢◌, ℕ, suc, ◌+◌, ◌<◌, List, [], ◌∷◌, ◌++◌, length, take, drop, sym, ap, ap₂, ◌∙◌, subst, arith}
 use Rattle.std.specs.List.{AllByRecursion, remove}
-use Rattle.h5_bytes.specs.Bytes.{undefined}
+use Rattle.h5_bytes.specs.Bytes.{undefined_address}
 use Rattle.h5_bytes.proofs.BlockLaws.{all_left, all_right, all_so}
 use Rattle.h5_model.specs.Format.Rows.{Node, Reading, next_row, AreRows, leaves}
 use Rattle.h5_model.specs.Format.Nodes.{Kind, node_at, reading_of}
@@ -36,7 +36,7 @@ module _ {B : Type 0} (s t : Space) (kind : Kind) (root level : ℕ) (way : List
   abbrev i : ℕ
   i = e.step.place
 
-  pub off_out : IsNoNode Y undefined
+  pub off_out : IsNoNode Y undefined_address
   off_out = undefined_free s kind owned e.apart e.short
 
   bottom : AreRows Y (length e.above) (root ∷ []) × (leaves Y (length e.above) (root ∷ []) ≡ next_row Y (e.front ++ p ∷ e.back))

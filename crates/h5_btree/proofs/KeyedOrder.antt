@@ -3,7 +3,7 @@ use Rattle.std.proofs.Common.{◌≡◌, ℕ, zero, suc, ◌+◌, ◌<◌, ◌==
 use Rattle.std.specs.Prelude.{if◌then◌else◌}
 use Rattle.std.specs.List.{AllByRecursion, flat_map, list_any}
 use Rattle.std.proofs.lemmas.List.{length-map}
-use Rattle.h5_bytes.specs.Bytes.{undefined}
+use Rattle.h5_bytes.specs.Bytes.{undefined_address}
 use Rattle.h5_bytes.proofs.BlockLaws.{all_append, all_left, all_right, all_so}
 use Rattle.h5_model.specs.Format.Rows.{Node, Reading, blank, next_row, AreRows, nodes}
 use Rattle.h5_model.specs.Format.Nodes.{Kind, HasTree, node_at, reading_of}
@@ -80,13 +80,13 @@ module _ {B X : Type 0} (items : B → List X) (at : AtChild B) (bottom : Bottom
       module _ (long : (n : ℕ) → (V n).level < 16 → length (V n).keys ≡ length (V n).children + 1) where
         sorted_rows : (level : ℕ) (row : List ℕ) → level < 16 → AreRows V level row → AllByRecursion IsNodeInOrder (nodes V level row)
             → AllByRecursion (λ n. S (suc level) (keys_from V at level n)) row
-        sorted_rows zero row top rows all = go row (row_levels V 0 undefined row rows) all where
+        sorted_rows zero row top rows all = go row (row_levels V 0 undefined_address row rows) all where
           go : (ns : List ℕ) → AllByRecursion (λ n. (V n).level ≡ 0) ns → AllByRecursion IsNodeInOrder ns → AllByRecursion (λ n. S 1 (keys_from V at 0 n)) ns
           go [] levels all = tt
           go (n ∷ ns) levels all = ((to_ladder 0 n levels.0 (long n (omega (arith, levels.0))) all.0.0, all.0.1 levels.0), go ns levels.1 all.1)
         sorted_rows (suc level) row top rows all =
             let below = sorted_rows level (next_row V row) (omega (arith, top)) rows.1 (all_right IsNodeInOrder row (nodes V level (next_row V row)) all) in
-            go row (row_levels V (suc level) undefined row rows.0) (all_left IsNodeInOrder row (nodes V level (next_row V row)) all)
+            go row (row_levels V (suc level) undefined_address row rows.0) (all_left IsNodeInOrder row (nodes V level (next_row V row)) all)
             (each_down (λ n. S (suc level) (keys_from V at level n)) row below)
           where
             go : (ns : List ℕ) → AllByRecursion (λ n. (V n).level ≡ suc level) ns → AllByRecursion IsNodeInOrder ns
@@ -104,12 +104,12 @@ module _ {B X : Type 0} (items : B → List X) (at : AtChild B) (bottom : Bottom
 
         rows_sorted : (level : ℕ) (row : List ℕ) → level < 16 → AreRows V level row → AllByRecursion (λ n. S (suc level) (keys_from V at level n)) row
             → AllByRecursion IsNodeInOrder (nodes V level row)
-        rows_sorted zero row top rows all = go row (row_levels V 0 undefined row rows) all where
+        rows_sorted zero row top rows all = go row (row_levels V 0 undefined_address row rows) all where
           go : (ns : List ℕ) → AllByRecursion (λ n. (V n).level ≡ 0) ns → AllByRecursion (λ n. S 1 (keys_from V at 0 n)) ns → AllByRecursion IsNodeInOrder ns
           go [] levels all = tt
           go (n ∷ ns) levels all = ((from_ladder 0 n levels.0 (long n (omega (arith, levels.0))) all.0.0, λ is. all.0.1), go ns levels.1 all.1)
         rows_sorted (suc level) row top rows all =
-            all_append IsNodeInOrder row (nodes V level (next_row V row)) (go row (row_levels V (suc level) undefined row rows.0) all)
+            all_append IsNodeInOrder row (nodes V level (next_row V row)) (go row (row_levels V (suc level) undefined_address row rows.0) all)
             (rows_sorted level (next_row V row) (omega (arith, top)) rows.1
             (each_up (λ n. S (suc level) (keys_from V at level n)) row
             (all_so (λ n. S (suc (suc level)) (keys_from V at (suc level) n)) (λ n. AllByRecursion (λ c. S (suc level) (keys_from V at level c)) (V n).children) row

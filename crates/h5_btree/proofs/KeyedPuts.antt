@@ -1,8 +1,8 @@
 -- An insertion along a way leaves the keys in order, and the items are the old ones with the new one at its place.
-use Rattle.std.proofs.Common.{◌≡◌, ◌≢◌, ◌⊎◌, inl, inr, ℕ, suc, ◌+◌, ◌≤◌, Bool, true, List, [], length, take, get_or, refl, sym, ap, ◌∙◌, subst, arith}
+use Rattle.std.proofs.Common.{◌≡◌, ◌≢◌, ◌⊎◌, inl, inr, ℕ, suc, ◌+◌, ◌≤◌, Bool, List, [], length, take, get_or, refl, sym, ap, ◌∙◌, subst, arith}
 use Rattle.std.specs.Prelude.{if◌then◌else◌}
 use Rattle.std.specs.List.{AllByRecursion, remove}
-use Rattle.h5_bytes.specs.Bytes.{undefined}
+use Rattle.h5_bytes.specs.Bytes.{undefined_address}
 use Rattle.h5_model.specs.Format.Rows.{Node, Reading}
 use Rattle.h5_model.specs.Format.Nodes.{Kind, HasTree, entries_in, node_at, node_bytes, reading_of}
 use Rattle.h5_model.proofs.OneTree.{level_is}
@@ -64,7 +64,7 @@ module _ {B X : Type 0} (sides : Sides (List ℕ) X) (orderly : IsOrderly sides)
     abbrev I : (height : ℕ) → KeyTree (List ℕ) B height → List X
     I = items_in (List ℕ) items
 
-    abbrev out : IsNoNode Y undefined
+    abbrev out : IsNoNode Y undefined_address
     out = off_out s t kind root level way owned list k e others was now same
 
     abbrev Held : Type 0

@@ -1,7 +1,7 @@
 -- The keys of each node of a tree are retired: so the keys of the whole tree are, stay in order, and name none of what was hit.
 use Rattle.std.proofs.Common.{◌≡◌, ℕ, zero, suc, ◌+◌, ◌<◌, ◌≤◌, List, [], ◌∷◌, length, map, sym, ap, ◌∙◌, subst, arith}
 use Rattle.std.specs.List.{AllByRecursion}
-use Rattle.h5_bytes.specs.Bytes.{undefined}
+use Rattle.h5_bytes.specs.Bytes.{undefined_address}
 use Rattle.h5_bytes.proofs.BlockLaws.{all_left, all_right}
 use Rattle.h5_model.specs.Format.Rows.{Node, Reading, next_row, AreRows, nodes}
 use Rattle.h5_model.specs.Format.Nodes.{Kind, HasTree, node_at, reading_of}
@@ -50,7 +50,7 @@ module _ {B X : Type 0} (items : B → List X) (at : AtChild B) (blind : (k j : 
 
     retired_rows : (level : ℕ) (row : List ℕ) → level < 16 → AreRows V level row → AllByRecursion IsRetired (nodes V level row)
         → AllByRecursion (λ n. R (suc level) (keys_from V at level n) (keys_from W at level n)) row
-    retired_rows zero row top rows all = go row (row_levels V 0 undefined row rows) all where
+    retired_rows zero row top rows all = go row (row_levels V 0 undefined_address row rows) all where
       go : (ns : List ℕ) → AllByRecursion (λ n. (V n).level ≡ 0) ns → AllByRecursion IsRetired ns → AllByRecursion (λ n. R 1 (keys_from V at 0 n) (keys_from W at 0 n)) ns
       go [] levels all = tt
       go (n ∷ ns) levels all =
@@ -67,7 +67,7 @@ module _ {B X : Type 0} (items : B → List X) (at : AtChild B) (blind : (k j : 
           )
     retired_rows (suc level) row top rows all =
         let below = retired_rows level (next_row V row) (omega (arith, top)) rows.1 (all_right IsRetired row (nodes V level (next_row V row)) all) in
-        go row (row_levels V (suc level) undefined row rows.0) (all_left IsRetired row (nodes V level (next_row V row)) all) below
+        go row (row_levels V (suc level) undefined_address row rows.0) (all_left IsRetired row (nodes V level (next_row V row)) all) below
       where
         go : (ns : List ℕ) → AllByRecursion (λ n. (V n).level ≡ suc level) ns → AllByRecursion IsRetired ns
             → AllByRecursion (λ n. R (suc level) (keys_from V at level n) (keys_from W at level n)) (next_row V ns)

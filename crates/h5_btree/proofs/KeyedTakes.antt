@@ -2,7 +2,7 @@
 -- the child.
 use Rattle.std.proofs.Common.{◌≡◌, ◌≢◌, ◌⊎◌, inl, inr, ℕ, suc, ◌+◌, ◌^◌, ◌<◌, ◌≤◌, List, [], ◌∷◌, ◌++◌, length, take, drop, get_or, refl, sym, ap, ap₂, ◌∙◌, subst, arith}
 use Rattle.std.specs.List.{AllByRecursion, remove}
-use Rattle.h5_bytes.specs.Bytes.{undefined}
+use Rattle.h5_bytes.specs.Bytes.{undefined_address}
 use Rattle.h5_bytes.proofs.BlockLaws.{all_left, all_right, all_so}
 use Rattle.h5_model.specs.Format.Rows.{Node, Reading, next_row, IsRow, AreRows, leaves}
 use Rattle.h5_model.specs.Format.Nodes.{Kind, node_at, reading_of, tree_blocks}
@@ -62,10 +62,10 @@ module _ {B : Type 0} (none : B) (Takes : B → B → Type 0) (Empty : B → Typ
     done : IsChildTaken s t kind root taken.3 p i (remove list k) owned own
     done = taken.7
 
-    out : IsNoNode O undefined
+    out : IsNoNode O undefined_address
     out = undefined_free s kind owned e.apart e.short
 
-    out_new : IsNoNode Y undefined
+    out_new : IsNoNode Y undefined_address
     out_new = undefined_free t kind own (apart_then s t (tree_blocks kind owned) (tree_blocks kind own) done.moves e.apart) short
 
     steps_long : length e.above + 0 ≡ level
@@ -134,7 +134,7 @@ module _ {B : Type 0} (none : B) (Takes : B → B → Type 0) (Empty : B → Typ
       new_rows : AreRows Y level (root ∷ [])
       new_rows = subst (λ (l : ℕ). AreRows Y l (root ∷ [])) as_high done.tree.rows
 
-      again : (steps : List Step) (m a : ℕ) (g h : List ℕ) → length steps + m ≡ level → mp ≤ m → IsWay O m root steps a g h → IsRow O m undefined (g ++ a ∷ h)
+      again : (steps : List Step) (m a : ℕ) (g h : List ℕ) → length steps + m ≡ level → mp ≤ m → IsWay O m root steps a g h → IsRow O m undefined_address (g ++ a ∷ h)
           → IsWay Y m root steps a g h × AreRows Y m (g ++ a ∷ h)
       again [] m a g h sum over w row =
           let same : level ≡ m = omega (arith, sum) in
@@ -150,8 +150,8 @@ module _ {B : Type 0} (none : B) (Takes : B → B → Type 0) (Empty : B → Typ
           (λ n l.
           let alike = other_alike n (omega (arith, l.1, sum, low)) (λ same. let q = ap (λ (k : ℕ). (O k).level) same in let pl = p_level in omega (arith, q, pl, l.0, over)) in
           sym alike.1 ∙ ap (λ (k : Node). k.children) (sym (owned_at V owned n (owned_of_level V owned n (omega (arith, l.0, sum, low))))))
-          (all_both (λ n. (O n).level ≡ suc m) (λ n. (Y n).level ≡ suc m) (f' ++ st.node ∷ bk') (row_levels O (suc m) undefined (f' ++ st.node ∷ bk') b.row)
-          (row_levels Y (suc m) undefined (f' ++ st.node ∷ bk') up.1.0)) in
+          (all_both (λ n. (O n).level ≡ suc m) (λ n. (Y n).level ≡ suc m) (f' ++ st.node ∷ bk') (row_levels O (suc m) undefined_address (f' ++ st.node ∷ bk') b.row)
+          (row_levels Y (suc m) undefined_address (f' ++ st.node ∷ bk') up.1.0)) in
           let rest = all_right (λ n. (Y n).children ≡ (O n).children) f' (st.node ∷ bk') kids in
           let at_f = next_row-alike O Y f' (all_left (λ n. (Y n).children ≡ (O n).children) f' (st.node ∷ bk') kids) in
           let at_bk = next_row-alike O Y bk' rest.1 in
@@ -167,7 +167,7 @@ module _ {B : Type 0} (none : B) (Takes : B → B → Type 0) (Empty : B → Typ
       way_new : IsWay Y mp root above p f bk × AreRows Y mp (f ++ p ∷ bk)
       way_new = again above mp p f bk high (omega arith) stopped.3 stopped.4
 
-      row_new : IsRow Y mp undefined (f ++ p ∷ bk)
+      row_new : IsRow Y mp undefined_address (f ++ p ∷ bk)
       row_new = row_is Y mp (f ++ p ∷ bk) way_new.1
 
       new_level : (Y p).level ≡ mp

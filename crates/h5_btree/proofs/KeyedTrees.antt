@@ -3,8 +3,8 @@ use Rattle.std.proofs.Common.{◌≡◌, ◌≢◌, ℕ, zero, suc, ◌+◌, ◌
 use Rattle.std.specs.Bool.{⊤}
 use Rattle.std.specs.List.{AllByRecursion}
 use Rattle.std.proofs.lemmas.List.{length-map, map-append}
-use Rattle.h5_bytes.specs.Bytes.{undefined}
-use Rattle.h5_bytes.proofs.BlockLaws.{all_append, all_left, all_right, all_so}
+use Rattle.h5_bytes.specs.Bytes.{undefined_address}
+use Rattle.h5_bytes.proofs.BlockLaws.{all_left, all_right, all_so}
 use Rattle.h5_model.specs.Format.Rows.{Reading, next_row, IsRow, AreRows, leaves}
 use Rattle.h5_laws.specs.KeyTrees.{KeyTree}
 use Rattle.h5_btree.specs.Climb.{IsNoNode, IsWay}
@@ -106,11 +106,6 @@ module _ {B : Type 0} (V W : Reading) (was is : AtChild B) where
   alike_right (suc level) xs ys all =
       (all_right IsAlike xs ys all.0, alike_right level (next_row V xs) (next_row V ys) (subst (AreAlike level) (next_row-append V xs ys) all.1))
 
-  pub alike_append : (level : ℕ) (xs ys : List ℕ) → AreAlike level xs → AreAlike level ys → AreAlike level (xs ++ ys)
-  alike_append zero xs ys a b = all_append StandsAlike xs ys a b
-  alike_append (suc level) xs ys a b =
-      (all_append IsAlike xs ys a.0 b.0, subst (AreAlike level) (sym (next_row-append V xs ys)) (alike_append level (next_row V xs) (next_row V ys) a.1 b.1))
-
   at-same : (keys : List (List ℕ)) (children : List ℕ) → AllByRecursion StandsAlike children → at_children is keys children ≡ at_children was keys children
   at-same [] children all = refl
   at-same (k ∷ keys) [] all = refl
@@ -141,11 +136,11 @@ module _ {B : Type 0} (V W : Reading) (was is : AtChild B) where
   pub alike_rows : (m : ℕ) (row list : List ℕ) → AreRows V m row → leaves V m row ≡ list → ((n : ℕ) → (V n).level ≤ m → IsAlike n) → AllByRecursion StandsAlike list
       → AreAlike (suc m) row
   alike_rows zero row list rows same each stand = (
-    all_so (λ n. (V n).level ≡ 0) IsAlike row (λ n l. each n (omega (arith, l))) (row_levels V 0 undefined row rows),
+    all_so (λ n. (V n).level ≡ 0) IsAlike row (λ n l. each n (omega (arith, l))) (row_levels V 0 undefined_address row rows),
     subst (AllByRecursion StandsAlike) (sym same) stand,
   )
   alike_rows (suc m) row list rows same each stand = (
-    all_so (λ n. (V n).level ≡ suc m) IsAlike row (λ n l. each n (omega (arith, l))) (row_levels V (suc m) undefined row rows.0),
+    all_so (λ n. (V n).level ≡ suc m) IsAlike row (λ n l. each n (omega (arith, l))) (row_levels V (suc m) undefined_address row rows.0),
     alike_rows m (next_row V row) list rows.1 same (λ n l. each n (omega (arith, l))) stand,
   )
 
@@ -161,7 +156,7 @@ next_row-alike V W (n ∷ row) all = ap₂ (λ (xs ys : List ℕ). xs ++ ys) all
 
 -- ---- the other nodes of a row
 
-module _ (V : Reading) (l p : ℕ) (front back : List ℕ) (top : l < 16) (out : IsNoNode V undefined) (row : IsRow V l undefined (front ++ p ∷ back)) where
+module _ (V : Reading) (l p : ℕ) (front back : List ℕ) (top : l < 16) (out : IsNoNode V undefined_address) (row : IsRow V l undefined_address (front ++ p ∷ back)) where
   abbrev pub IsOther : ℕ → Type 0
   IsOther n = ((V n).level ≡ l) × (n ≢ p)
 
@@ -185,7 +180,7 @@ module _ {B : Type 0} (V W : Reading) (was is : AtChild B) where
   abbrev pub AreOthersAlike : ℕ → List Step → Type 0
   AreOthersAlike m way = (n : ℕ) → m < (V n).level → (V n).level < 16 → AllByRecursion (λ (s : Step). n ≢ s.node) way → IsAlike V W was is n
 
-module _ (V : Reading) (out : IsNoNode V undefined) where
+module _ (V : Reading) (out : IsNoNode V undefined_address) where
   -- the nodes of a way are of higher levels
   pub way_higher : (m root : ℕ) (way : List Step) (a : ℕ) (front back : List ℕ) → length way + m < 16 → IsWay V m root way a front back
       → AllByRecursion (λ (s : Step). m < (V s.node).level) way
@@ -213,7 +208,7 @@ module _ (V : Reading) (out : IsNoNode V undefined) where
   lower_apart m n (s ∷ way) low all =
       (λ e. let same = ap (λ (k : ℕ). (V k).level) e in absurd (omega (arith, same, low, all.0)), lower_apart m n way low all.1)
 
-module _ {B : Type 0} (V W : Reading) (was is : AtChild B) (out : IsNoNode V undefined) where
+module _ {B : Type 0} (V W : Reading) (was is : AtChild B) (out : IsNoNode V undefined_address) where
   pub off_way : (m root : ℕ) (way : List Step) (a : ℕ) (front back : List ℕ) → length way + m < 16 → IsWay V m root way a front back → AreOthersAlike V W was is m way
       → AreAlike V W was is (suc m) front → AreAlike V W was is (suc m) back → IsOffWay V W was is m way
   off_way m root [] a front back high w others before behind = tt

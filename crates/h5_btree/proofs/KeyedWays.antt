@@ -2,7 +2,7 @@
 use Rattle.std.proofs.Common.{◌≡◌, ◌≢◌, ℕ, suc, ◌+◌, ◌<◌, ◌≤◌, List, [], ◌∷◌, ◌++◌, length, take, drop, slice_index, Bool, true, false, refl, sym, ap, ◌∙◌, subst, arith, ◌==◌}
 use Rattle.std.specs.Prelude.{if◌then◌else◌}
 use Rattle.std.specs.List.{list_any}
-use Rattle.h5_bytes.specs.Bytes.{undefined}
+use Rattle.h5_bytes.specs.Bytes.{undefined_address}
 use Rattle.h5_model.specs.Format.Rows.{Node, Reading, blank, next_row}
 use Rattle.h5_model.specs.Format.Nodes.{Kind, IsNode, entries_in, node_at, node_bytes, node_of, reading_of}
 use Rattle.h5_model.proofs.RowLaws.{all_listed, at_listed}
@@ -33,7 +33,7 @@ module _ (V W : Reading) (same : KeepsRows V W) where
           ∙ ap (λ (xs : List ℕ). next_row W f ++ take s.place xs) (sym (children-keyed s.node));
       backs = below.backs ∙ ap (λ (xs : List ℕ). drop (suc s.place) xs ++ next_row V bk) (sym (children-keyed s.node))
           ∙ ap (λ (xs : List ℕ). drop (suc s.place) (W s.node).children ++ xs) (sym (next_row-keyed V W same bk));
-      row = IsRow-keyed V W same (suc m) undefined (f ++ s.node ∷ bk) below.row;
+      row = IsRow-keyed V W same (suc m) undefined_address (f ++ s.node ∷ bk) below.row;
     },
     IsWay-keyed (suc m) root way s.node f bk rest,
   )
@@ -87,7 +87,7 @@ module _ (s t : Space) (kind : Kind) (root level : ℕ) (way : List Step) (owned
     front = e.front;
     back = e.back;
     leads = IsWay-keyed V W same_rows 0 root e.above e.step.node e.front e.back e.leads;
-    row = IsRow-keyed V W same_rows 0 undefined (e.front ++ e.step.node ∷ e.back) e.row;
+    row = IsRow-keyed V W same_rows 0 undefined_address (e.front ++ e.step.node ∷ e.back) e.row;
     place = subst (λ (xs : List ℕ). e.step.place < length xs) (sym (children-keyed V W same_rows e.step.node)) e.place;
     number = e.number ∙ ap (λ (xs : List ℕ). length xs + e.step.place) (sym (next_row-keyed V W same_rows e.front));
   }

@@ -4,8 +4,9 @@ use Rattle.std.proofs.Common.{◌≡◌, ◌≢◌, ◌⊎◌, inl, inr, ℕ, ze
 use Rattle.std.specs.Prelude.{⊤}
 use Rattle.std.specs.List.{AllByRecursion, flat_map, remove, slice_get}
 use Rattle.std.proofs.lemmas.Option.{get_or_from_slice_get}
-use Rattle.h5_bytes.specs.Bytes.{undefined}
-use Rattle.h5_bytes.proofs.BlockLaws.{all_append, all_left, all_right}
+use Rattle.std.proofs.lemmas.Bool.{or_right, false_from_ne_true, both_ways}
+use Rattle.h5_bytes.specs.Bytes.{undefined_address}
+use Rattle.h5_bytes.proofs.BlockLaws.{all_append, all_left, all_right, all_so}
 use Rattle.h5_model.specs.Format.Rows.{Node, Reading, next_row}
 use Rattle.h5_model.specs.Format.Nodes.{Kind, HasTree, node_at, reading_of}
 use Rattle.h5_laws.specs.ExactKeys.{AreAllBehind, EachKey, IsExact, on_edge}
@@ -23,7 +24,7 @@ use Rattle.h5_btree.specs.declared.way.Step.{Step}
 use Rattle.h5_btree.proofs.ClimbSteps.{at_or}
 use Rattle.h5_btree.proofs.KeyedOff.{off_list, off_steps}
 use Rattle.h5_btree.proofs.KeyedTrees.{row_levels}
-use Rattle.h5_btree.proofs.RetiredNodes.{all_flat, all_with, under_named}
+use Rattle.h5_btree.proofs.RetiredNodes.{all_flat, under_named}
 use Rattle.h5_btree.proofs.RetiredReads.{all_got}
 use Rattle.h5_btree.proofs.RetiredTrees.{root_under}
 use Rattle.h5_btree.proofs.TreeReadings.{owned_at, owned_of_level}
@@ -31,10 +32,7 @@ use Rattle.h5_btree.proofs.TreeReadings.{owned_at, owned_of_level}
 -- ALL IS LOOKED AT where no way is told
 pub looked_everywhere : (hit : List ℕ → Bool) (V : Reading) (height : ℕ) (edge : Bool) (at : ℕ) → AreHitsLooked hit V None height edge at
 looked_everywhere hit V zero edge at = tt
-looked_everywhere hit V (suc height) edge at = λ i child got. inl (always (edge && (i == 0)), looked_everywhere hit V height (edge && (i == 0)) child) where
-  always : (b : Bool) → (b || true) ≡ true
-  always true = refl
-  always false = refl
+looked_everywhere hit V (suc height) edge at = λ i child got. inl (or_right (edge && (i == 0)) true refl, looked_everywhere hit V height (edge && (i == 0)) child)
 
 -- ---- items below a node, as the tree of keys has them
 
@@ -107,14 +105,6 @@ module _ (V : Reading) (keys : ℕ → List (List ℕ)) where
     abbrev Unhit : List (List ℕ) → Type 0
     Unhit = AllByRecursion (λ (key : List ℕ). hit key ≡ false)
 
-    is_false : (b : Bool) → (b ≡ true → ⊥) → b ≡ false
-    is_false true off = absurd (off refl)
-    is_false false off = refl
-
-    not_true : (b : Bool) → b ≡ false → b ≡ true → ⊥
-    not_true true off on = cc
-    not_true false off on = cc
-
     each_row : (level : ℕ) → ((n : ℕ) → EachKey (List (List ℕ)) (λ (k : List ℕ). Hit k → ⊥) (suc level) (T (suc level) n) → IsUnhitBelow hit V (suc level) n) → (cs : List ℕ)
         → AllByRecursion (EachKey (List (List ℕ)) (λ (k : List ℕ). Hit k → ⊥) (suc level)) (map (λ n. keys_from V (λ key c. keys c) level n) cs)
         → AllByRecursion (IsUnhitBelow hit V (suc level)) cs
@@ -128,11 +118,11 @@ module _ (V : Reading) (keys : ℕ → List (List ℕ)) where
     each_unhit : (height n : ℕ) → EachKey (List (List ℕ)) (λ (k : List ℕ). Hit k → ⊥) height (T height n) → IsUnhitBelow hit V height n
     each_unhit zero n each = tt
     each_unhit (suc zero) n each = (
-      all_with (λ (k : List ℕ). Hit k → ⊥) (λ (key : List ℕ). hit key ≡ false) (V n).keys (λ k off. is_false (hit k) off) each.0,
+      all_so (λ (k : List ℕ). Hit k → ⊥) (λ (key : List ℕ). hit key ≡ false) (V n).keys (λ k off. false_from_ne_true (hit k) off) each.0,
       all_zero (V n).children,
     )
     each_unhit (suc (suc level)) n each = (
-      all_with (λ (k : List ℕ). Hit k → ⊥) (λ (key : List ℕ). hit key ≡ false) (V n).keys (λ k off. is_false (hit k) off) each.0,
+      all_so (λ (k : List ℕ). Hit k → ⊥) (λ (key : List ℕ). hit key ≡ false) (V n).keys (λ k off. false_from_ne_true (hit k) off) each.0,
       each_row level (each_unhit (suc level)) (V n).children each.1,
     )
 
@@ -147,9 +137,9 @@ module _ (V : Reading) (keys : ℕ → List (List ℕ)) where
           → IsUnhitBelow hit V height child
       unhit_child height k child off none exact =
           each_unhit height child
-          (nowhere (λ (key : List ℕ). key) lowest_key (λ (b : List (List ℕ)). b) Hit (not_true (hit lowest_key) low) height k (T height child) (not_true (hit k) off)
+          (nowhere (λ (key : List ℕ). key) lowest_key (λ (b : List (List ℕ)). b) Hit (both_ways (hit lowest_key) low) height k (T height child) (both_ways (hit k) off)
           (below_items (λ (key : List ℕ). Hit key → ⊥) height child
-          (all_with (λ (key : List ℕ). hit key ≡ false) (λ (key : List ℕ). Hit key → ⊥) (keys_below V keys height child) (λ key is. not_true (hit key) is) none))
+          (all_so (λ (key : List ℕ). hit key ≡ false) (λ (key : List ℕ). Hit key → ⊥) (keys_below V keys height child) (λ key is. both_ways (hit key) is) none))
           exact)
 
       abbrev HasBefore : Bool → Option (List ℕ) → Type 0
@@ -292,7 +282,7 @@ module _ (hit : List ℕ → Bool) (keys : ℕ → List (List ℕ)) where
         let b = w.2 in
         let top = e.tree.low in
         let low : suc m < 16 = omega (arith, sum, top) in
-        let levels = row_levels Y (suc m) undefined (f ++ st.node ∷ bk) b.row in
+        let levels = row_levels Y (suc m) undefined_address (f ++ st.node ∷ bk) b.row in
         let levels_f = all_left (λ n. (Y n).level ≡ suc m) f (st.node ∷ bk) levels in
         let levels_b = all_right (λ n. (Y n).level ≡ suc m) f (st.node ∷ bk) levels in
         let fronts = subst (AllByRecursion (U (suc m))) b.fronts before in
@@ -319,7 +309,7 @@ module _ (hit : List ℕ → Bool) (keys : ℕ → List (List ℕ)) where
         let all = subst (AllByRecursion (U 0)) (off_list s s kind root level way owned list k e keep at at stay) named in
         let rest = all_right (U 0) (next_row Y e.front) ((take i cs ++ drop (suc i) cs) ++ next_row Y e.back) all in
         let here = all_left (U 0) (take i cs ++ drop (suc i) cs) (next_row Y e.back) rest in
-        let levels = row_levels Y 0 undefined (e.front ++ p ∷ e.back) e.row in
+        let levels = row_levels Y 0 undefined_address (e.front ++ p ∷ e.back) e.row in
         let levels_b = all_right (λ n. (Y n).level ≡ 0) e.front (p ∷ e.back) levels in
         let steps = off_steps s s kind root level way owned list k e keep at at stay in
         let next = next_got way 0 e.step e.above e.way_is in

@@ -5,7 +5,7 @@ use Rattle.std.specs.List.{copy_within}
 use Rattle.std.proofs.lemmas.List.{places, get_or-set_same, get_or-set_other, same_lists}
 use Rattle.h5_bytes.specs.Bytes.{byte_at, little_bytes, number_at, part, with_field, with_part}
 use Rattle.h5_bytes.specs.Tables.{table}
-use Rattle.h5_bytes.proofs.PartLaws.{with_part_is, length-with_part, part-with_part_other, part-copy_within, part-copy_within_other}
+use Rattle.h5_bytes.proofs.PartLaws.{with_part_is, part-with_part_other, part-copy_within, part-copy_within_other}
 use Rattle.h5_bytes.proofs.FieldLaws.{number_at-with_field, number_at-with_part_other}
 use Rattle.h5_bytes.proofs.TableLaws.{table_take, table_drop}
 use Rattle.h5_model.specs.Format.Nodes.{Kind, IsNode, node_of, node_length, entries_in, key_in, key_place, child_in}
@@ -109,9 +109,6 @@ module _ (kind : Kind) (bytes : List ℕ) (k n : ℕ) (is : n ≡ entries_in byt
 
   pub length-moved_front : length moved_front ≡ length bytes
   length-moved_front = let o = in_order in let e = end_fits in length-copy_within bytes start end dest o e (omega arith)
-
-  pub length-front_dropped : length front_dropped ≡ length bytes
-  length-front_dropped = let l = length-moved_front in length-with_part 6 (little_bytes 2 (n - k)) moved_front (omega (arith, long)) ∙ l
 
   head_stays : (a m : ℕ) → (a + m ≤ 6) ⊎ (8 ≤ a) → a + m ≤ dest → part a m front_dropped ≡ part a m bytes
   head_stays a m far low =

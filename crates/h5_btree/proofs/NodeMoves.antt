@@ -58,9 +58,6 @@ module _ (kind : Kind) (bytes key : List ℕ) (j child n : ℕ) (is : n ≡ entr
   length-childed = let w = within in let f = fits in let l = length-keyed in
       length-with_part (from + kind.key_length) (little_bytes 8 child) keyed (omega arith) ∙ l
 
-  pub length-put_in : length put_in ≡ length bytes
-  length-put_in = let l = length-childed in length-with_part 6 (little_bytes 2 (n + 1)) childed (omega (arith, long)) ∙ l
-
   below : (a m : ℕ) → (a + m ≤ 6) ⊎ (8 ≤ a) → a + m ≤ from → part a m put_in ≡ part a m bytes
   below a m far low =
       let w = within in let f = fits in let ls = length-shifted in let lk = length-keyed in let lc = length-childed in
@@ -182,9 +179,6 @@ module _ (kind : Kind) (bytes : List ℕ) (j n : ℕ) (is : n ≡ entries_in byt
   pub length-shifted_back : length shifted_back ≡ length bytes
   length-shifted_back = let s = start_is in let o = in_order in let e = end_fits in length-copy_within bytes start end dest o e (omega arith)
 
-  pub length-taken_out : length taken_out ≡ length bytes
-  length-taken_out = let l = length-shifted_back in length-with_part 6 (little_bytes 2 (n - 1)) shifted_back (omega (arith, long)) ∙ l
-
   stays : (a m : ℕ) → (a + m ≤ 6) ⊎ (8 ≤ a) → a + m ≤ dest → part a m taken_out ≡ part a m bytes
   stays a m far low =
       let s = start_is in let o = in_order in let e = end_fits in let l = length-shifted_back in
@@ -240,9 +234,6 @@ module _ (kind : Kind) (bytes : List ℕ) (j n : ℕ) (is : n ≡ entries_in byt
 
   pub end_within : (e k₁ : ℕ) → e ≡ key_place kind n → k₁ ≡ kind.key_length → e + k₁ ≤ length bytes
   end_within e k₁ last one = let f = end_fits in omega (arith, last, one)
-
-  pub start_within : (s e k₁ : ℕ) → s ≡ key_place kind (j + 1) → e ≡ key_place kind n → k₁ ≡ kind.key_length → s ≤ e + k₁
-  start_within s e k₁ first last one = let o = in_order in omega (arith, first, last, one)
 
   pub shift_back_fits : (s e d k₁ : ℕ) → s ≡ key_place kind (j + 1) → e ≡ key_place kind n → d ≡ key_place kind j → k₁ ≡ kind.key_length → d + (e + k₁ - s) ≤ length bytes
   shift_back_fits s e d k₁ first last to one = let o = in_order in let f = end_fits in let x = start_is in omega (arith, first, last, to, one)

@@ -2,7 +2,7 @@
 -- that went. With the weight 'holds this byte' it is how many of the nodes hold a byte, so that the blocks of the tree are told.
 use Rattle.std.proofs.Common.{◌≡◌, ℕ, zero, suc, ◌+◌, ◌<◌, ◌≤◌, List, [], ◌∷◌, ◌++◌, length, refl, sym, ap, ◌∙◌, arith, subst}
 use Rattle.std.specs.List.{insert, remove}
-use Rattle.h5_bytes.specs.Bytes.{undefined}
+use Rattle.h5_bytes.specs.Bytes.{undefined_address}
 use Rattle.h5_bytes.specs.Blocks.{holds, cover}
 use Rattle.h5_model.specs.Format.Rows.{Node, Reading, next_row, IsRow, nodes}
 use Rattle.h5_model.specs.Format.Nodes.{Kind, node_length, tree_blocks}
@@ -51,8 +51,8 @@ module _ (w : ℕ → ℕ) where
   under-same V W (suc l) same top low list u = ap (total w) (nodes-same V W l low (agree_rows V W (suc l) same top l low (omega arith) u.0))
 
   -- a node has other children
-  refills_total : (V W : Reading) (m root p : ℕ) (way : List Step) (front back children list : List ℕ) (high : length way + m < 16) (out : IsNoNode V undefined)
-      (row : IsRow V m undefined (front ++ p ∷ back)) (is : IsWay V m root way p front back)
+  refills_total : (V W : Reading) (m root p : ℕ) (way : List Step) (front back children list : List ℕ) (high : length way + m < 16) (out : IsNoNode V undefined_address)
+      (row : IsRow V m undefined_address (front ++ p ∷ back)) (is : IsWay V m root way p front back)
       → AreUnder V m (next_row V front ++ (children ++ next_row V back)) list → Refills V W p children
       → total w (nodes W (length way + m) (root ∷ []))
       ≡ above_total w V m root way p front back is + (total w (front ++ p ∷ back) + under_total w V m (next_row V front ++ (children ++ next_row V back)))
@@ -68,14 +68,14 @@ module _ (w : ℕ → ℕ) where
       omega (arith, all, up, here, down)
 
   -- the node had room: no node has come
-  pub filled_total : (V W : Reading) (m root p : ℕ) (way : List Step) (j child : ℕ) (list : List ℕ) → length way + m < 16 → IsNoNode V undefined
+  pub filled_total : (V W : Reading) (m root p : ℕ) (way : List Step) (j child : ℕ) (list : List ℕ) → length way + m < 16 → IsNoNode V undefined_address
       → (lacks : LacksChild V m root p way j child list) → Adds V W p j child
       → total w (nodes W (length way + m) (root ∷ [])) ≡ lacks_total w V m root p way j child list lacks
   filled_total V W m root p way j child list high out lacks t =
       refills_total V W m root p way lacks.front lacks.back (insert (V p).children j child) list high out lacks.row lacks.above lacks.under t
 
   -- the node was split: q has come
-  pub up_total : (V W : Reading) (m root p : ℕ) (s : Step) (way : List Step) (j child q : ℕ) (list : List ℕ) (high : length (s ∷ way) + m < 16) (out : IsNoNode V undefined)
+  pub up_total : (V W : Reading) (m root p : ℕ) (s : Step) (way : List Step) (j child q : ℕ) (list : List ℕ) (high : length (s ∷ way) + m < 16) (out : IsNoNode V undefined_address)
       (lacks : LacksChild V m root p (s ∷ way) j child list) (t : Splits V W p j child q)
       → lacks_total w W (suc m) root s.node way (suc s.place) q list (lacks_up V W m root p s way j child q list high out lacks t)
       ≡ w q + lacks_total w V m root p (s ∷ way) j child list lacks
@@ -99,7 +99,7 @@ module _ (w : ℕ → ℕ) where
       omega (arith, up, below, here, down, a, b)
 
   -- the root was split: two nodes have come
-  pub raised_total : (V W : Reading) (m root j child : ℕ) (list : List ℕ) → m < 16 → (out : IsNoNode V undefined) → (lacks : LacksChild V m root root [] j child list)
+  pub raised_total : (V W : Reading) (m root j child : ℕ) (list : List ℕ) → m < 16 → (out : IsNoNode V undefined_address) → (lacks : LacksChild V m root root [] j child list)
       → (t : RaisesRoot V W root j child)
       → next_row W (t.p ∷ t.q ∷ []) ≡ next_row V lacks.front ++ (insert (V root).children j child ++ next_row V lacks.back)
       → total w (nodes W (suc m) (root ∷ [])) ≡ w t.p + (w t.q + lacks_total w V m root root [] j child list lacks)
@@ -115,14 +115,14 @@ module _ (w : ℕ → ℕ) where
       omega (arith, next, here, down, alone)
 
   -- the node has other children: no node has gone
-  pub kept_total : (V W : Reading) (m root p : ℕ) (way : List Step) (i : ℕ) (list : List ℕ) → length way + m < 16 → IsNoNode V undefined
+  pub kept_total : (V W : Reading) (m root p : ℕ) (way : List Step) (i : ℕ) (list : List ℕ) → length way + m < 16 → IsNoNode V undefined_address
       → (over : IsOver V m root p way i list) → Drops V W p i
       → total w (nodes W (length way + m) (root ∷ [])) ≡ over_total w V m root p way i list over
   kept_total V W m root p way i list high out over t =
       refills_total V W m root p way over.front over.back (remove (V p).children i) list high out over.row over.above over.under t
 
   -- the node has gone
-  pub over_up_total : (V W : Reading) (m root p : ℕ) (s : Step) (way : List Step) (i : ℕ) (list : List ℕ) (high : length (s ∷ way) + m < 16) (out : IsNoNode V undefined)
+  pub over_up_total : (V W : Reading) (m root p : ℕ) (s : Step) (way : List Step) (i : ℕ) (list : List ℕ) (high : length (s ∷ way) + m < 16) (out : IsNoNode V undefined_address)
       (over : IsOver V m root p (s ∷ way) i list) (one : length (V p).children ≡ 1) (t : Unlinks V W p)
       → w p + over_total w W (suc m) root s.node way s.place list (over_up V W m root p s way i list high out over one t)
       ≡ over_total w V m root p (s ∷ way) i list over

@@ -3,7 +3,7 @@ use Rattle.std.proofs.Common.{◌≡◌, ℕ, zero, suc, ◌+◌, ◌<◌, ◌�
 use Rattle.std.specs.Prelude.{◌↔◌, IsTrue}
 use Rattle.std.specs.List.{AllByRecursion}
 use Rattle.std.proofs.lemmas.List.{length-map, get_or-map}
-use Rattle.h5_bytes.specs.Bytes.{undefined}
+use Rattle.h5_bytes.specs.Bytes.{undefined_address}
 use Rattle.h5_bytes.proofs.BlockLaws.{all_left, all_right}
 use Rattle.h5_model.specs.Format.Rows.{Node, Reading, next_row, nodes, leaves, IsRow, AreRows}
 use Rattle.h5_model.specs.Format.Nodes.{Kind, HasTree, node_at}
@@ -105,9 +105,9 @@ module _ {X : Type 0} (sides : Sides (List ℕ) X) (orderly : IsOrderly sides) (
   )
 
   rows_ordered : (level : ℕ) (row : List ℕ) → AreRows V level row → AllByRecursion Ordered (nodes V level row) → AllByRecursion (AreOrderedFrom level) row
-  rows_ordered zero row rows ordered = at_zero undefined row rows ordered
+  rows_ordered zero row rows ordered = at_zero undefined_address row rows ordered
   rows_ordered (suc level) row rows ordered =
-      at_more level undefined row rows.0 (all_left Ordered row (nodes V level (next_row V row)) ordered)
+      at_more level undefined_address row rows.0 (all_left Ordered row (nodes V level (next_row V row)) ordered)
       (rows_ordered level (next_row V row) rows.1 (all_right Ordered row (nodes V level (next_row V row)) ordered))
 
 -- ---- a tree of the image

@@ -3,11 +3,12 @@ use Rattle.std.proofs.Common.{◌≡◌, ◌≢◌, ℕ, suc, ◌+◌, ◌<◌, 
 use Rattle.std.specs.Prelude.{slice_get, slice_set}
 use Rattle.std.specs.List.{list_any, insert}
 use Rattle.std.proofs.lemmas.Option.{get_or_from_slice_get, slice_get_within}
-use Rattle.h5_bytes.specs.Bytes.{undefined}
+use Rattle.std.proofs.lemmas.Bool.{or_right}
+use Rattle.h5_bytes.specs.Bytes.{undefined_address}
 use Rattle.h5_bytes.proofs.PartLaws.{length-part}
 use Rattle.h5_model.specs.Format.Rows.{Node, first_or_undefined}
 use Rattle.h5_model.specs.Format.Nodes.{Kind, IsNode, node_at, node_block, node_bytes, node_length, node_of, reading_of, tree_blocks}
-use Rattle.h5_model.proofs.RowLaws.{same_number, later_of}
+use Rattle.h5_model.proofs.RowLaws.{same_number}
 use Rattle.h5_space.specs.Space.{Space}
 use Rattle.h5_space.specs.Moves.{Moves}
 use Rattle.h5_space.specs.Whole.{IsApart}
@@ -90,21 +91,21 @@ module _ (s t t₁ t₂ : Space) (kind : Kind) (root m j child : ℕ) (list owne
   level_root = ap (λ (n : Node). n.level) (sym (same_p s t kind root m root [] j child list owned own c))
       ∙ level_here (reading_of t.bytes kind own) m root c.lacks.front c.lacks.back (top s t kind root m root [] j child list owned own c) (out s t kind root m root [] j child list owned own c) c.lacks.row
 
-  pub left_root : (node_at t.bytes kind root).left ≡ undefined
+  pub left_root : (node_at t.bytes kind root).left ≡ undefined_address
   left_root = ap (λ (n : Node). n.left) (sym (same_p s t kind root m root [] j child list owned own c))
       ∙ left_here (reading_of t.bytes kind own) m root c.lacks.front c.lacks.back (top s t kind root m root [] j child list owned own c) (out s t kind root m root [] j child list owned own c) c.lacks.row
-      ∙ ap (last_of undefined) c.lacks.above.1
+      ∙ ap (last_of undefined_address) c.lacks.above.1
 
-  pub right_root : (node_at t.bytes kind root).right ≡ undefined
+  pub right_root : (node_at t.bytes kind root).right ≡ undefined_address
   right_root = ap (λ (n : Node). n.right) (sym (same_p s t kind root m root [] j child list owned own c))
       ∙ right_here (reading_of t.bytes kind own) m root c.lacks.front c.lacks.back (top s t kind root m root [] j child list owned own c) (out s t kind root m root [] j child list owned own c) c.lacks.row
       ∙ ap first_or_undefined c.lacks.above.2
 
   among : (n : ℕ) → Listed own n → Listed (q ∷ own) n
-  among n at = later_of (q == n) (list_any (λ k. k == n) own) at
+  among n at = or_right (q == n) (list_any (λ k. k == n) own) at
 
   among_all : (n : ℕ) → Listed (q ∷ own) n → Listed all n
-  among_all n at = later_of (p == n) (list_any (λ k. k == n) (q ∷ own)) at
+  among_all n at = or_right (p == n) (list_any (λ k. k == n) (q ∷ own)) at
 
   is_q : Listed (q ∷ own) q
   is_q = rw (same_number q) refl
@@ -175,16 +176,16 @@ module _ (s t t₁ t₂ t₃ t₄ u : Space) (kind : Kind) (root m j child p q :
   abbrev old : Node
   old = node_at t.bytes kind root
 
-  wp : IsRewritten t₂ t₃ kind p (record { level = old.level; left = undefined; right = q; keys = keys_p; children = xs })
+  wp : IsRewritten t₂ t₃ kind p (record { level = old.level; left = undefined_address; right = q; keys = keys_p; children = xs })
   wp = subst (λ (l : ℕ). IsRewritten t₂ t₃ kind p (record { level = old.level; left = l; right = q; keys = keys_p; children = xs }))
       (left_root s t t₁ t₂ kind root m j child list owned own c q p take_q take_p) write_p
 
-  wq : IsRewritten t₃ t₄ kind q (record { level = old.level; left = p; right = undefined; keys = keys_q; children = ys })
+  wq : IsRewritten t₃ t₄ kind q (record { level = old.level; left = p; right = undefined_address; keys = keys_q; children = ys })
   wq = subst (λ (r : ℕ). IsRewritten t₃ t₄ kind q (record { level = old.level; left = p; right = r; keys = keys_q; children = ys }))
       (right_root s t t₁ t₂ kind root m j child list owned own c q p take_q take_p) write_q
 
-  wr : IsRewritten t₄ u kind root (record { level = suc old.level; left = undefined; right = undefined; keys = x ∷ y ∷ z ∷ []; children = p ∷ q ∷ [] })
-  wr = subst (λ (r : ℕ). IsRewritten t₄ u kind root (record { level = suc old.level; left = undefined; right = r; keys = x ∷ y ∷ z ∷ []; children = p ∷ q ∷ [] }))
+  wr : IsRewritten t₄ u kind root (record { level = suc old.level; left = undefined_address; right = undefined_address; keys = x ∷ y ∷ z ∷ []; children = p ∷ q ∷ [] })
+  wr = subst (λ (r : ℕ). IsRewritten t₄ u kind root (record { level = suc old.level; left = undefined_address; right = r; keys = x ∷ y ∷ z ∷ []; children = p ∷ q ∷ [] }))
       (right_root s t t₁ t₂ kind root m j child list owned own c q p take_q take_p)
       (subst (λ (l : ℕ). IsRewritten t₄ u kind root (record { level = suc old.level; left = l; right = old.right; keys = x ∷ y ∷ z ∷ []; children = p ∷ q ∷ [] }))
       (left_root s t t₁ t₂ kind root m j child list owned own c q p take_q take_p) write_root)

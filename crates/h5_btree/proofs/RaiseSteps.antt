@@ -2,10 +2,11 @@
 -- are met.
 use Rattle.std.proofs.Common.{◌≡◌, ◌≢◌, ℕ, zero, suc, ◌+◌, ◌<◌, ◌≤◌, List, [], ◌∷◌, ◌++◌, length, refl, sym, ap, ◌∙◌, subst, arith, ◌==◌}
 use Rattle.std.specs.List.{list_any, insert, AllByRecursion}
-use Rattle.h5_bytes.specs.Bytes.{undefined}
+use Rattle.std.proofs.lemmas.Bool.{or_right}
+use Rattle.h5_bytes.specs.Bytes.{undefined_address}
 use Rattle.h5_model.specs.Format.Rows.{Node, nodes}
 use Rattle.h5_model.specs.Format.Nodes.{Kind, IsNode, entries_in, node_at, node_block, node_bytes, node_length, node_of, reading_of, tree_blocks}
-use Rattle.h5_model.proofs.RowLaws.{all_listed, at_listed, same_number, later_of}
+use Rattle.h5_model.proofs.RowLaws.{all_listed, at_listed, same_number}
 use Rattle.h5_space.specs.Space.{Space}
 use Rattle.h5_space.specs.Moves.{Moves}
 use Rattle.h5_space.specs.Whole.{IsApart}
@@ -26,18 +27,18 @@ module _ (t t₁ t₂ t₃ t₄ u : Space) (kind : Kind) (own : List ℕ) (root 
     (formed : AllByRecursion (λ at. IsNode kind (node_bytes t.bytes kind at)) own)
     (filled : (n : ℕ) → Listed own n → n ≢ root → 1 ≤ entries_in (node_bytes t.bytes kind n))
     (take_q : Moves t t₁ [] (node_block kind q ∷ [])) (take_p : Moves t₁ t₂ [] (node_block kind p ∷ []))
-    (write_p : IsRewritten t₂ t₃ kind p (record { level = (node_at t.bytes kind root).level; left = undefined; right = q; keys = keys_p; children = xs }))
-    (write_q : IsRewritten t₃ t₄ kind q (record { level = (node_at t.bytes kind root).level; left = p; right = undefined; keys = keys_q; children = ys }))
-    (write_root : IsRewritten t₄ u kind root (record { level = suc (node_at t.bytes kind root).level; left = undefined; right = undefined; keys = keys; children = p ∷ q ∷ [] }))
+    (write_p : IsRewritten t₂ t₃ kind p (record { level = (node_at t.bytes kind root).level; left = undefined_address; right = q; keys = keys_p; children = xs }))
+    (write_q : IsRewritten t₃ t₄ kind q (record { level = (node_at t.bytes kind root).level; left = p; right = undefined_address; keys = keys_q; children = ys }))
+    (write_root : IsRewritten t₄ u kind root (record { level = suc (node_at t.bytes kind root).level; left = undefined_address; right = undefined_address; keys = keys; children = p ∷ q ∷ [] }))
     (joined : xs ++ ys ≡ insert (node_at t.bytes kind root).children j child) (some : 1 ≤ length xs) (more : 1 ≤ length ys) where
   abbrev all : List ℕ
   all = p ∷ q ∷ own
 
   among : (n : ℕ) → Listed own n → Listed (q ∷ own) n
-  among n at = later_of (q == n) (list_any (λ m. m == n) own) at
+  among n at = or_right (q == n) (list_any (λ m. m == n) own) at
 
   among_all : (n : ℕ) → Listed (q ∷ own) n → Listed all n
-  among_all n at = later_of (p == n) (list_any (λ m. m == n) (q ∷ own)) at
+  among_all n at = or_right (p == n) (list_any (λ m. m == n) (q ∷ own)) at
 
   is_q : Listed (q ∷ own) q
   is_q = rw (same_number q) refl
@@ -135,9 +136,9 @@ others_filled s t kind root (suc m) j child list owned own c is n at other =
 pub climb_raise : (s t t₁ t₂ t₃ t₄ u : Space) (kind : Kind) (root m j child p q : ℕ) (xs ys list owned own : List ℕ) (keys keys_p keys_q : List (List ℕ))
     (c : IsClimbing s t kind root m root [] j child list owned own) → m < 15
     → Moves t t₁ [] (node_block kind q ∷ []) → Moves t₁ t₂ [] (node_block kind p ∷ [])
-    → IsRewritten t₂ t₃ kind p (record { level = (node_at t.bytes kind root).level; left = undefined; right = q; keys = keys_p; children = xs })
-    → IsRewritten t₃ t₄ kind q (record { level = (node_at t.bytes kind root).level; left = p; right = undefined; keys = keys_q; children = ys })
-    → IsRewritten t₄ u kind root (record { level = suc (node_at t.bytes kind root).level; left = undefined; right = undefined; keys = keys; children = p ∷ q ∷ [] })
+    → IsRewritten t₂ t₃ kind p (record { level = (node_at t.bytes kind root).level; left = undefined_address; right = q; keys = keys_p; children = xs })
+    → IsRewritten t₃ t₄ kind q (record { level = (node_at t.bytes kind root).level; left = p; right = undefined_address; keys = keys_q; children = ys })
+    → IsRewritten t₄ u kind root (record { level = suc (node_at t.bytes kind root).level; left = undefined_address; right = undefined_address; keys = keys; children = p ∷ q ∷ [] })
     → xs ++ ys ≡ insert (node_at t.bytes kind root).children j child → 1 ≤ length xs → 1 ≤ length ys
     → IsChildPut s u kind root (suc m) list owned (nodes (reading_of u.bytes kind (p ∷ q ∷ own)) (suc m) (root ∷ []))
 climb_raise s t t₁ t₂ t₃ t₄ u kind root m j child p q xs ys list owned own keys keys_p keys_q c low take_q take_p write_p write_q write_root joined some more =

@@ -1,7 +1,7 @@
 -- Where a removal ends, and where it goes on to the node above.
 use Rattle.std.proofs.Common.{◌≡◌, ◌≢◌, ℕ, suc, ◌+◌, ◌^◌, ◌<◌, List, [], ◌∷◌, length, refl, sym, ap, ◌∙◌, subst, arith}
 use Rattle.std.specs.List.{remove}
-use Rattle.h5_bytes.specs.Bytes.{undefined}
+use Rattle.h5_bytes.specs.Bytes.{undefined_address}
 use Rattle.h5_bytes.specs.Blocks.{cover, holds}
 use Rattle.h5_model.specs.Format.Rows.{Node, first_or_undefined}
 use Rattle.h5_model.specs.Format.Nodes.{Kind, node_at, node_length, reading_of, tree_blocks}
@@ -57,15 +57,15 @@ emptied s t u kind root m i list owned own c one r =
     let low = top s t kind root m root [] i list owned own c in
     let none = out s t kind root m root [] i list owned own c in
     let same = same_p s t kind root m root [] i list owned own c in
-    let left : old.left ≡ undefined
-    = ap (λ (n : Node). n.left) (sym same) ∙ left_here V m root c.over.front c.over.back low none c.over.row ∙ ap (last_of undefined) c.over.above.1 in
-    let right : old.right ≡ undefined
+    let left : old.left ≡ undefined_address
+    = ap (λ (n : Node). n.left) (sym same) ∙ left_here V m root c.over.front c.over.back low none c.over.row ∙ ap (last_of undefined_address) c.over.above.1 in
+    let right : old.right ≡ undefined_address
     = ap (λ (n : Node). n.right) (sym same) ∙ right_here V m root c.over.front c.over.back low none c.over.row ∙ ap first_or_undefined c.over.above.2 in
     let gone : remove old.children i ≡ [] = remove_alone old.children i one (place_p s t kind root m root [] i list owned own c) in
     let keys = remove old.keys i in
     let by_left = subst (λ (l : ℕ). IsRewritten t u kind root (record { level = 0; left = l; right = old.right; keys = keys; children = remove old.children i })) left r in
-    let by_right = subst (λ (n : ℕ). IsRewritten t u kind root (record { level = 0; left = undefined; right = n; keys = keys; children = remove old.children i })) right by_left in
-    let all = subst (λ (xs : List ℕ). IsRewritten t u kind root (record { level = 0; left = undefined; right = undefined; keys = keys; children = xs })) gone by_right in
+    let by_right = subst (λ (n : ℕ). IsRewritten t u kind root (record { level = 0; left = undefined_address; right = n; keys = keys; children = remove old.children i })) right by_left in
+    let all = subst (λ (xs : List ℕ). IsRewritten t u kind root (record { level = 0; left = undefined_address; right = undefined_address; keys = keys; children = xs })) gone by_right in
     (shrink_emptied s t u kind root m i list owned own c (ap (λ (n : Node). length n.children) same ∙ one) all).0
 
 pub taken_emptied : (s t u : Space) (kind : Kind) (root m : ℕ) (step : Step) (list owned own : List ℕ)
@@ -88,8 +88,8 @@ taken_emptied s t u kind root m step list owned own c one r =
 module _ (s t t₁ t₂ u : Space) (kind : Kind) (root m : ℕ) (step next : Step) (above : List Step) (list owned own : List ℕ)
     (c : IsShrinking s t kind root m step.node (next ∷ above) step.place list owned own) (one : length (node_at t.bytes kind step.node).children ≡ 1)
     (l r : ℕ) (el : l ≡ (node_at t.bytes kind step.node).left) (er : r ≡ (node_at t.bytes kind step.node).right)
-    (w₁ : l ≢ undefined → IsRewritten t t₁ kind l (record (node_at t.bytes kind l) { right = r })) (n₁ : l ≡ undefined → t₁ ≡ t)
-    (w₂ : r ≢ undefined → IsRewritten t₁ t₂ kind r (record (node_at t₁.bytes kind r) { left = l })) (n₂ : r ≡ undefined → t₂ ≡ t₁)
+    (w₁ : l ≢ undefined_address → IsRewritten t t₁ kind l (record (node_at t.bytes kind l) { right = r })) (n₁ : l ≡ undefined_address → t₁ ≡ t)
+    (w₂ : r ≢ undefined_address → IsRewritten t₁ t₂ kind r (record (node_at t₁.bytes kind r) { left = l })) (n₂ : r ≡ undefined_address → t₂ ≡ t₁)
     (bytes : u.bytes ≡ t₂.bytes) (given : (x : ℕ) → cover x u.free ≡ cover x t₂.free + holds x step.node (node_length kind)) where
   write_left : MayBeWritten t t₁ kind own (node_at t.bytes kind step.node).left (record (node_at t.bytes kind (node_at t.bytes kind step.node).left) { right = (node_at t.bytes kind step.node).right })
   write_left = subst (λ (a : ℕ). MayBeWritten t t₁ kind own a (record (node_at t.bytes kind a) { right = (node_at t.bytes kind step.node).right })) el

@@ -1,6 +1,6 @@
 -- A removal on its way up, as the code goes: what it may read and write at a node, and what it has made then.
 use Rattle.std.proofs.Common.{◌≡◌, ◌≢◌, ◌⊎◌, inl, inr, get_or, ℕ, suc, ◌+◌, ◌^◌, ◌<◌, ◌≤◌, List, [], ◌∷◌, ◌++◌, length, refl, sym, ap, ◌∙◌, subst, arith}
-use Rattle.h5_bytes.specs.Bytes.{undefined}
+use Rattle.h5_bytes.specs.Bytes.{undefined_address}
 use Rattle.h5_bytes.specs.Blocks.{holds, cover}
 use Rattle.h5_bytes.proofs.BlockLaws.{holds-le}
 use Rattle.h5_model.specs.Format.Rows.{Node, IsRow}
@@ -22,15 +22,15 @@ use Rattle.h5_btree.proofs.UnlinkSteps.{MayBeWritten, maybe_apart, maybe_others,
 use Rattle.h5_btree.proofs.RewriteSteps.{may_be_written, may_be_spends}
 
 -- the neighbour to the left is a node of the tree, or there is none
-left_there : (t : Space) (kind : Kind) (own : List ℕ) (m p : ℕ) (front back : List ℕ) → m < 16 → IsNoNode (reading_of t.bytes kind own) undefined
-    → IsRow (reading_of t.bytes kind own) m undefined (front ++ p ∷ back) → Listed own p
-    → ((node_at t.bytes kind p).left ≡ undefined) ⊎ Listed own (node_at t.bytes kind p).left
+left_there : (t : Space) (kind : Kind) (own : List ℕ) (m p : ℕ) (front back : List ℕ) → m < 16 → IsNoNode (reading_of t.bytes kind own) undefined_address
+    → IsRow (reading_of t.bytes kind own) m undefined_address (front ++ p ∷ back) → Listed own p
+    → ((node_at t.bytes kind p).left ≡ undefined_address) ⊎ Listed own (node_at t.bytes kind p).left
 left_there t kind own m p front back top out row is =
     let V = reading_of t.bytes kind own in
     go front refl (ap (λ (n : Node). n.left) (sym (owned_at (node_at t.bytes kind) own p is))) where
       go : (f : List ℕ) → front ≡ f → (node_at t.bytes kind p).left ≡ (reading_of t.bytes kind own p).left
-          → ((node_at t.bytes kind p).left ≡ undefined) ⊎ Listed own (node_at t.bytes kind p).left
-      go [] e left = inl (left ∙ left_here (reading_of t.bytes kind own) m p front back top out row ∙ ap (last_of undefined) e)
+          → ((node_at t.bytes kind p).left ≡ undefined_address) ⊎ Listed own (node_at t.bytes kind p).left
+      go [] e left = inl (left ∙ left_here (reading_of t.bytes kind own) m p front back top out row ∙ ap (last_of undefined_address) e)
       go (x ∷ xs) e left =
           let V = reading_of t.bytes kind own in
           let long : suc (length xs) ≡ length front = sym (ap (λ (f : List ℕ). length f) e) in
@@ -44,7 +44,7 @@ module _ (s t : Space) (kind : Kind) (root m p : ℕ) (way : List Step) (i : ℕ
   pub top : m < 16
   top = let h = c.high in omega (arith, h)
 
-  pub out : IsNoNode (reading_of t.bytes kind own) undefined
+  pub out : IsNoNode (reading_of t.bytes kind own) undefined_address
   out = undefined_free t kind own c.apart c.short
 
   pub own_p : Listed own p
@@ -65,36 +65,36 @@ module _ (s t : Space) (kind : Kind) (root m p : ℕ) (way : List Step) (i : ℕ
   pub entry_p : i < entries_in (node_bytes t.bytes kind p)
   entry_p = let l = length-children kind (node_bytes t.bytes kind p) (node_at t.bytes kind p) refl in let h = place_p in omega (arith, l, h)
 
-  pub left_p : ((node_at t.bytes kind p).left ≡ undefined) ⊎ Listed own (node_at t.bytes kind p).left
+  pub left_p : ((node_at t.bytes kind p).left ≡ undefined_address) ⊎ Listed own (node_at t.bytes kind p).left
   left_p = left_there t kind own m p c.over.front c.over.back top out c.over.row own_p
 
-  pub right_p : ((node_at t.bytes kind p).right ≡ undefined) ⊎ Listed own (node_at t.bytes kind p).right
+  pub right_p : ((node_at t.bytes kind p).right ≡ undefined_address) ⊎ Listed own (node_at t.bytes kind p).right
   right_p = (right_known t kind own m p c.over.front c.over.back top out c.over.row own_p).0
 
-  pub not_both_sides : (node_at t.bytes kind p).left ≡ (node_at t.bytes kind p).right → (node_at t.bytes kind p).left ≡ undefined
+  pub not_both_sides : (node_at t.bytes kind p).left ≡ (node_at t.bytes kind p).right → (node_at t.bytes kind p).left ≡ undefined_address
   not_both_sides = (left_known t kind own m p c.over.front c.over.back top out c.over.row own_p).1
 
-  listed_of : (n : ℕ) → (n ≡ undefined) ⊎ Listed own n → n ≢ undefined → Listed own n
+  listed_of : (n : ℕ) → (n ≡ undefined_address) ⊎ Listed own n → n ≢ undefined_address → Listed own n
   listed_of n known there = elim known [ inl e ↦ absurd (there e) | inr listed ↦ listed ]
 
   module _ (l r : ℕ) (el : l ≡ (node_at t.bytes kind p).left) (er : r ≡ (node_at t.bytes kind p).right) where
-    left_l : (l ≡ undefined) ⊎ Listed own l
-    left_l = subst (λ (n : ℕ). (n ≡ undefined) ⊎ Listed own n) (sym el) left_p
+    left_l : (l ≡ undefined_address) ⊎ Listed own l
+    left_l = subst (λ (n : ℕ). (n ≡ undefined_address) ⊎ Listed own n) (sym el) left_p
 
-    right_r : (r ≡ undefined) ⊎ Listed own r
-    right_r = subst (λ (n : ℕ). (n ≡ undefined) ⊎ Listed own n) (sym er) right_p
+    right_r : (r ≡ undefined_address) ⊎ Listed own r
+    right_r = subst (λ (n : ℕ). (n ≡ undefined_address) ⊎ Listed own n) (sym er) right_p
 
-    pub inside_left : l ≢ undefined → l + node_length kind ≤ length t.bytes
+    pub inside_left : l ≢ undefined_address → l + node_length kind ≤ length t.bytes
     inside_left there = inside_of_apart t kind own c.apart l (listed_of l left_l there)
 
-    pub form_left : l ≢ undefined → IsNode kind (node_bytes t.bytes kind l)
+    pub form_left : l ≢ undefined_address → IsNode kind (node_bytes t.bytes kind l)
     form_left there = at_listed (λ at. IsNode kind (node_bytes t.bytes kind at)) own l c.formed (listed_of l left_l there)
 
-    two : r ≢ undefined → r ≢ l
+    two : r ≢ undefined_address → r ≢ l
     two there same = there (same ∙ el ∙ not_both_sides (sym el ∙ sym same ∙ er))
 
     -- the neighbour to the left is written
-    module _ (t₁ : Space) (w₁ : l ≢ undefined → IsRewritten t t₁ kind l (record (node_at t.bytes kind l) { right = r })) (n₁ : l ≡ undefined → t₁ ≡ t) where
+    module _ (t₁ : Space) (w₁ : l ≢ undefined_address → IsRewritten t t₁ kind l (record (node_at t.bytes kind l) { right = r })) (n₁ : l ≡ undefined_address → t₁ ≡ t) where
       pub first : MayBeWritten t t₁ kind own l (record (node_at t.bytes kind l) { right = r })
       first = may_be_written t t₁ kind own l (record (node_at t.bytes kind l) { right = r }) c.apart c.short left_l w₁ n₁
 
@@ -107,18 +107,18 @@ module _ (s t : Space) (kind : Kind) (root m p : ℕ) (way : List Step) (i : ℕ
       short₁ : length t₁.bytes < 2 ^ 64
       short₁ = let g = spends₁.grown in omega (arith, g, c.short)
 
-      same_right : r ≢ undefined → node_bytes t₁.bytes kind r ≡ node_bytes t.bytes kind r
+      same_right : r ≢ undefined_address → node_bytes t₁.bytes kind r ≡ node_bytes t.bytes kind r
       same_right there = maybe_others t t₁ kind own l (record (node_at t.bytes kind l) { right = r }) c.apart first r (listed_of r right_r there) (two there)
 
-      pub inside_right : r ≢ undefined → r + node_length kind ≤ length t₁.bytes
+      pub inside_right : r ≢ undefined_address → r + node_length kind ≤ length t₁.bytes
       inside_right there = inside_of_apart t₁ kind own apart₁ r (listed_of r right_r there)
 
-      pub form_right : r ≢ undefined → IsNode kind (node_bytes t₁.bytes kind r)
+      pub form_right : r ≢ undefined_address → IsNode kind (node_bytes t₁.bytes kind r)
       form_right there = subst (IsNode kind) (sym (same_right there)) (at_listed (λ at. IsNode kind (node_bytes t.bytes kind at)) own r c.formed (listed_of r right_r there))
 
       -- and the one to the right
-      module _ (t₂ : Space) (w₂ : r ≢ undefined → IsRewritten t₁ t₂ kind r (record (node_at t₁.bytes kind r) { left = l })) (n₂ : r ≡ undefined → t₂ ≡ t₁) where
-        w₂' : r ≢ undefined → IsRewritten t₁ t₂ kind r (record (node_at t.bytes kind r) { left = l })
+      module _ (t₂ : Space) (w₂ : r ≢ undefined_address → IsRewritten t₁ t₂ kind r (record (node_at t₁.bytes kind r) { left = l })) (n₂ : r ≡ undefined_address → t₂ ≡ t₁) where
+        w₂' : r ≢ undefined_address → IsRewritten t₁ t₂ kind r (record (node_at t.bytes kind r) { left = l })
         w₂' there = subst (λ (b : List ℕ). IsRewritten t₁ t₂ kind r (record (node_of kind b) { left = l })) (same_right there) (w₂ there)
 
         pub second : MayBeWritten t₁ t₂ kind own r (record (node_at t.bytes kind r) { left = l })

@@ -1,5 +1,5 @@
 -- Keys give way where they are looked for, and no key is hit elsewhere: so all have given way.
-use Rattle.std.proofs.Common.{◌≡◌, ◌⊎◌, inl, inr, ℕ, zero, suc, ◌+◌, ◌==◌, ◌&&◌, ◌||◌, Bool, true, false, List, [], ◌∷◌, Option, Some, None, length, map, take, refl, sym, ap, ◌∙◌, subst, arith}
+use Rattle.std.proofs.Common.{◌≡◌, ◌⊎◌, inl, inr, ℕ, zero, suc, ◌+◌, ◌==◌, ◌&&◌, ◌||◌, Bool, true, false, List, [], ◌∷◌, Option, Some, map, take, refl, sym, ap, ◌∙◌, subst, arith}
 use Rattle.std.specs.List.{AllByRecursion, list_any, slice_get}
 use Rattle.std.proofs.lemmas.List.{length-map}
 use Rattle.h5_model.specs.Format.Rows.{Node, Reading}
@@ -7,7 +7,7 @@ use Rattle.h5_model.specs.Format.Nodes.{Kind, node_at}
 use Rattle.h5_model.proofs.RowLaws.{at_listed}
 use Rattle.h5_space.specs.Space.{Space}
 use Rattle.h5_btree.specs.Looked.{AreHitsLooked, IsLookedBelow, IsUnhitBelow, looks_below}
-use Rattle.h5_btree.specs.Retired.{AreRetiredBelow, AreRetiredFrom, IsNodeRetired, IsRetiring, IsSubtree, KeepsRetired, keys_below}
+use Rattle.h5_btree.specs.Retired.{AreRetiredBelow, AreRetiredFrom, IsRetiring, IsSubtree, KeepsRetired, keys_below}
 use Rattle.h5_btree.specs.declared.way.Step.{Step}
 use Rattle.h5_btree.proofs.KeyedOwn.{keys_count}
 use Rattle.h5_btree.proofs.RetiredKeys.{none_retired}

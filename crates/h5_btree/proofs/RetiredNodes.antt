@@ -2,14 +2,14 @@
 use Rattle.std.proofs.Common.{◌≡◌, ◌≢◌, ℕ, zero, suc, ◌≤◌, ◌==◌, Bool, true, false, List, [], ◌∷◌, ◌++◌, length, map, refl, sym, ap, ap₂, ◌∙◌, subst, arith}
 use Rattle.std.specs.Prelude.{if◌then◌else◌}
 use Rattle.std.specs.List.{AllByRecursion, flat_map, list_any}
-use Rattle.h5_bytes.proofs.BlockLaws.{all_append}
+use Rattle.h5_bytes.proofs.BlockLaws.{all_append, all_so}
 use Rattle.h5_model.specs.Format.Rows.{Node, Reading, blank}
 use Rattle.h5_model.specs.Format.Nodes.{Kind, IsNode, HasTree, entries_in, node_at, node_bytes, node_of, reading_of, tree_blocks}
 use Rattle.h5_model.proofs.RowLaws.{all_listed, at_listed}
 use Rattle.h5_space.specs.Space.{Space}
 use Rattle.h5_space.specs.Moves.{Moves}
 use Rattle.h5_space.specs.Whole.{IsApart}
-use Rattle.h5_space.proofs.MovesLaws.{moves_none, moves_then}
+use Rattle.h5_space.proofs.MovesLaws.{moves_then}
 use Rattle.h5_btree.specs.Climb.{KeepsRows}
 use Rattle.h5_btree.specs.Insertion.{Owns}
 use Rattle.h5_btree.specs.Retired.{StandsUnder, IsSubtree, keys_below}
@@ -20,10 +20,6 @@ use Rattle.h5_btree.proofs.SplitSteps.{apart_then, written_moves, written_others
 use Rattle.h5_btree.proofs.WayRows.{AreRows-keyed, leaves-keyed, nodes-keyed}
 
 -- ---- lists
-
-pub all_with : {X : Type 0} (P Q : X → Type 0) (xs : List X) → ((x : X) → P x → Q x) → AllByRecursion P xs → AllByRecursion Q xs
-all_with P Q [] f all = tt
-all_with P Q (x ∷ xs) f all = (f x all.0, all_with P Q xs f all.1)
 
 pub flat_same : (f g : ℕ → List (List ℕ)) (xs : List ℕ) → AllByRecursion (λ x. f x ≡ g x) xs → flat_map f xs ≡ flat_map g xs
 flat_same f g [] all = refl
@@ -48,12 +44,12 @@ module _ (P : List ℕ → Type 0) (V : Reading) (keys : ℕ → List (List ℕ)
   under_named zero at is = at_listed (λ at'. AllByRecursion P (keys at')) list at named is
   under_named (suc height) at is =
       all_flat P (keys_below V keys height) (V at).children
-      (all_with (IsSubtree V owned list height) (λ c. AllByRecursion P (keys_below V keys height c)) (V at).children (under_named height) is.2)
+      (all_so (IsSubtree V owned list height) (λ c. AllByRecursion P (keys_below V keys height c)) (V at).children (under_named height) is.2)
 
   pub lists_named : (level at : ℕ) → IsSubtree V owned list (suc level) at → AllByRecursion (AllByRecursion P) (map (keys_below V keys level) (V at).children)
   lists_named level at is =
       all_mapped (AllByRecursion P) (keys_below V keys level) (V at).children
-      (all_with (IsSubtree V owned list level) (λ c. AllByRecursion P (keys_below V keys level c)) (V at).children (under_named level) is.2)
+      (all_so (IsSubtree V owned list level) (λ c. AllByRecursion P (keys_below V keys level c)) (V at).children (under_named level) is.2)
 
 -- ---- keys alone have changed
 
@@ -65,13 +61,6 @@ pub record IsKeyed (s t : Space) (kind : Kind) (owned : List ℕ) : Type 0 where
 pub keyed_apart : (s t : Space) (kind : Kind) (owned : List ℕ) → IsApart (tree_blocks kind owned) s.free (length s.bytes) → IsKeyed s t kind owned
     → IsApart (tree_blocks kind owned) t.free (length t.bytes)
 keyed_apart s t kind owned apart k = apart_then s t (tree_blocks kind owned) (tree_blocks kind owned) k.moves apart
-
-pub keyed_none : (s : Space) (kind : Kind) (owned : List ℕ) → AllByRecursion (λ n. IsNode kind (node_bytes s.bytes kind n)) owned → IsKeyed s s kind owned
-keyed_none s kind owned formed = record {
-  nodes = λ n listed. ((node_at s.bytes kind n).keys, refl);
-  formed = formed;
-  moves = moves_none s (tree_blocks kind owned);
-}
 
 -- one node more is written
 module _ (s t u : Space) (kind : Kind) (owned : List ℕ) (apart : IsApart (tree_blocks kind owned) s.free (length s.bytes)) (k : IsKeyed s t kind owned) (at : ℕ) (listed : Owns owned at)
@@ -122,7 +111,7 @@ module _ (s t : Space) (kind : Kind) (owned list : List ℕ) (apart : IsApart (t
       at_listed (λ n. IsNode kind (node_bytes t.bytes kind n)) owned at k.formed is.0,
     ),
     subst (AllByRecursion (StandsUnder stands t.bytes kind height)) (sym (keyed_children at is.0))
-        (all_with (IsSubtree V owned list height) (StandsUnder stands t.bytes kind height) (V at).children (keyed_under stands all height) is.2),
+        (all_so (IsSubtree V owned list height) (StandsUnder stands t.bytes kind height) (V at).children (keyed_under stands all height) is.2),
   )
 
   -- the items below are the same
@@ -132,13 +121,13 @@ module _ (s t : Space) (kind : Kind) (owned list : List ℕ) (apart : IsApart (t
     keyed_below (suc height) at is =
         ap (flat_map (keys_below W now height)) (keyed_children at is.0)
         ∙ flat_same (keys_below W now height) (keys_below V was height) (V at).children
-        (all_with (IsSubtree V owned list height) (λ c. keys_below W now height c ≡ keys_below V was height c) (V at).children (keyed_below height) is.2)
+        (all_so (IsSubtree V owned list height) (λ c. keys_below W now height c ≡ keys_below V was height c) (V at).children (keyed_below height) is.2)
 
     pub keyed_lists : (level at : ℕ) → IsSubtree V owned list (suc level) at → map (keys_below W now level) (W at).children ≡ map (keys_below V was level) (V at).children
     keyed_lists level at is =
         ap (map (keys_below W now level)) (keyed_children at is.0)
         ∙ map_same (keys_below W now level) (keys_below V was level) (V at).children
-        (all_with (IsSubtree V owned list level) (λ c. keys_below W now level c ≡ keys_below V was level c) (V at).children (keyed_below level) is.2)
+        (all_so (IsSubtree V owned list level) (λ c. keys_below W now level c ≡ keys_below V was level c) (V at).children (keyed_below level) is.2)
 
   -- it is the same tree
   pub keyed_tree : (root level : ℕ) → HasTree s.bytes kind root level owned list → HasTree t.bytes kind root level owned list

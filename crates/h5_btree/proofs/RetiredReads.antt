@@ -7,7 +7,7 @@ use Rattle.std.proofs.lemmas.Grind.{flat_map-append}
 use Rattle.h5_model.specs.Format.Rows.{Reading}
 use Rattle.h5_model.specs.Format.Nodes.{Kind, node_at}
 use Rattle.h5_btree.specs.Held.{IsNodeThere}
-use Rattle.h5_btree.specs.Retired.{IsKeyBefore, IsLastOf, StandsUnder, keys_below, lowest_key}
+use Rattle.h5_btree.specs.Retired.{IsKeyBefore, IsLastOf, StandsUnder, keys_below}
 
 drop_back : (xs : List ℕ) (i c : ℕ) → slice_get xs i ≡ Some c → drop i xs ≡ c ∷ drop (suc i) xs
 drop_back [] zero c is = cc
@@ -72,9 +72,6 @@ module _ (f : ℕ → List (List ℕ)) (children : List ℕ) (keys : List (List 
 
   pub before_none : (key : List ℕ) → IsLastOf (f child) None → key ≡ get_or keys j [] → IsKeyBefore (map f children) keys i key
   before_none key none is = subst (λ (n : ℕ). IsKeyBefore (map f children) keys n key) (sym more) (inl (got_map f children j child got ∙ none, is))
-
-pub before_first : (lists : List (List (List ℕ))) (keys : List (List ℕ)) (i : ℕ) → i ≡ 0 → IsKeyBefore lists keys i lowest_key
-before_first lists keys i first = subst (λ (n : ℕ). IsKeyBefore lists keys n lowest_key) (sym first) refl
 
 -- what is so of all below a node's children is so of all below it
 pub below_node : (V : Reading) (keys : ℕ → List (List ℕ)) (height low at : ℕ) (P : List (List ℕ) → Type 0) → height ≡ suc low → P (flat_map (keys_below V keys low) (V at).children)

@@ -2,7 +2,7 @@
 use Rattle.std.proofs.Common.{◌≡◌, ◌≢◌, ◌⊎◌, inl, inr, ℕ, zero, suc, ◌+◌, ◌<◌, Bool, false, List, [], ◌∷◌, ◌++◌, Some, length, map, take, refl, sym, ap, ◌∙◌, subst, arith, add-one}
 use Rattle.std.specs.Prelude.{slice_set}
 use Rattle.std.specs.List.{AllByRecursion, slice_get}
-use Rattle.h5_bytes.proofs.BlockLaws.{all_append}
+use Rattle.h5_bytes.proofs.BlockLaws.{all_append, all_so}
 use Rattle.h5_model.specs.Format.Rows.{Node, Reading}
 use Rattle.h5_model.specs.Format.Nodes.{Kind, node_at, node_of, tree_blocks}
 use Rattle.h5_model.proofs.RowLaws.{all_listed, at_listed}
@@ -15,7 +15,7 @@ use Rattle.h5_btree.proofs.ClimbSteps.{all_from, at_or}
 use Rattle.h5_btree.proofs.RewriteSteps.{rewritten_then}
 use Rattle.h5_btree.proofs.RetiredKeys.{ArePartly, Unhit, partly_more, retired_unhit, unhit_same}
 use Rattle.h5_btree.proofs.RetiredReads.{all_got}
-use Rattle.h5_btree.proofs.RetiredNodes.{IsKeyed, all_with, keyed_lists, keyed_more, keyed_under, lists_named, node_other}
+use Rattle.h5_btree.proofs.RetiredNodes.{IsKeyed, keyed_lists, keyed_more, keyed_under, lists_named, node_other}
 
 pub all_two : (P Q R : ℕ → Type 0) → ((x : ℕ) → P x → Q x → R x) → (xs : List ℕ) → AllByRecursion P xs → AllByRecursion Q xs → AllByRecursion R xs
 all_two P Q R f [] ps qs = tt
@@ -60,10 +60,10 @@ module _ (hit : List ℕ → Bool) (stands : List ℕ → ℕ → Type 0) (keys_
 
     -- what stands at the bottom stands there still
     pub retiring_stands : AllByRecursion (stands t.bytes) list
-    retiring_stands = all_with (λ at. stands t.bytes at × (keys_at t.bytes at ≡ keys_at s.bytes at)) (stands t.bytes) list (λ at is. is.0) (r.start.stays t r.moves)
+    retiring_stands = all_so (λ at. stands t.bytes at × (keys_at t.bytes at ≡ keys_at s.bytes at)) (stands t.bytes) list (λ at is. is.0) (r.start.stays t r.moves)
 
     pub retiring_same : AllByRecursion (λ at. keys_at t.bytes at ≡ keys_at s.bytes at) list
-    retiring_same = all_with (λ at. stands t.bytes at × (keys_at t.bytes at ≡ keys_at s.bytes at)) (λ at. keys_at t.bytes at ≡ keys_at s.bytes at) list (λ at is. is.1) (r.start.stays t r.moves)
+    retiring_same = all_so (λ at. stands t.bytes at × (keys_at t.bytes at ≡ keys_at s.bytes at)) (λ at. keys_at t.bytes at ≡ keys_at s.bytes at) list (λ at is. is.1) (r.start.stays t r.moves)
 
     pub retiring_under : (height at : ℕ) → IsSubtree V owned list height at → StandsUnder (stands t.bytes) t.bytes kind height at
     retiring_under = keyed_under s t kind owned list r.start.apart retiring_keyed (stands t.bytes) retiring_stands
@@ -86,7 +86,7 @@ module _ (hit : List ℕ → Bool) (stands : List ℕ → ℕ → Type 0) (keys_
 
       pub partly_under : StandsUnder (stands u.bytes) u.bytes kind (suc m) at
       partly_under = keyed_under s u kind owned list r.start.apart partly (stands u.bytes)
-          (all_with (λ c. stands u.bytes c × (keys_at u.bytes c ≡ keys_at s.bytes c)) (stands u.bytes) list (λ c is. is.0) stay) (suc m) at under
+          (all_so (λ c. stands u.bytes c × (keys_at u.bytes c ≡ keys_at s.bytes c)) (stands u.bytes) list (λ c is. is.0) stay) (suc m) at under
 
       abbrev lists_then : List (List (List ℕ))
       lists_then = map (keys_below (node_at t.bytes kind) (keys_at t.bytes) m) (node_at t.bytes kind at).children
@@ -97,7 +97,7 @@ module _ (hit : List ℕ → Bool) (stands : List ℕ → ℕ → Type 0) (keys_
       partly_lists : lists_now ≡ lists_then
       partly_lists =
           keyed_lists s u kind owned list r.start.apart partly (keys_at s.bytes) (keys_at u.bytes)
-          (all_with (λ c. stands u.bytes c × (keys_at u.bytes c ≡ keys_at s.bytes c)) (λ c. keys_at u.bytes c ≡ keys_at s.bytes c) list (λ c is. is.1) stay) m at under
+          (all_so (λ c. stands u.bytes c × (keys_at u.bytes c ≡ keys_at s.bytes c)) (λ c. keys_at u.bytes c ≡ keys_at s.bytes c) list (λ c is. is.1) stay) m at under
           ∙ sym (keyed_lists s t kind owned list r.start.apart retiring_keyed (keys_at s.bytes) (keys_at t.bytes) retiring_same m at under)
 
       -- one key more

@@ -2,8 +2,8 @@
 use Rattle.std.proofs.Common.{◌≡◌, ℕ, zero, suc, ◌≤◌, Bool, true, false, List, [], ◌∷◌, ◌++◌, length, map, refl, sym, ap, ◌∙◌, subst, arith}
 use Rattle.std.specs.Prelude.{⊤}
 use Rattle.std.specs.List.{AllByRecursion, flat_map}
-use Rattle.h5_bytes.specs.Bytes.{undefined}
-use Rattle.h5_bytes.proofs.BlockLaws.{all_append, all_left, all_right}
+use Rattle.h5_bytes.specs.Bytes.{undefined_address}
+use Rattle.h5_bytes.proofs.BlockLaws.{all_append, all_left, all_right, all_so}
 use Rattle.h5_model.specs.Format.Rows.{Node, Reading, next_row, AreRows, leaves, nodes}
 use Rattle.h5_model.specs.Format.Nodes.{Kind, HasTree, node_at, reading_of}
 use Rattle.h5_model.proofs.RowLaws.{all_listed}
@@ -17,7 +17,7 @@ use Rattle.h5_btree.proofs.KeyedOwn.{keys_count}
 use Rattle.h5_btree.proofs.KeyedRetires.{IsRetired, tree_retires}
 use Rattle.h5_btree.proofs.KeyedTrees.{row_levels}
 use Rattle.h5_btree.proofs.RetiredKeys.{retired_all}
-use Rattle.h5_btree.proofs.RetiredNodes.{all_with, lists_named, flat_same, keyed_tree, map_same}
+use Rattle.h5_btree.proofs.RetiredNodes.{lists_named, flat_same, keyed_tree, map_same}
 use Rattle.h5_btree.proofs.RetiredSteps.{all_two, node_unhit, retiring_keyed}
 use Rattle.h5_btree.proofs.TreeReadings.{owned_at}
 
@@ -39,9 +39,9 @@ module _ (V : Reading) (owned list : List ℕ) (Y : Reading) (own : (n : ℕ) �
 
   under_rows : (m : ℕ) (row : List ℕ) → AreRows Y m row → AllByRecursion (Owns owned) (nodes Y m row) → AllByRecursion (Owns list) (leaves Y m row)
       → AllByRecursion (IsSubtree V owned list (suc m)) row
-  under_rows zero row rows owns stand = over 0 row (row_levels Y 0 undefined row rows) owns stand
+  under_rows zero row rows owns stand = over 0 row (row_levels Y 0 undefined_address row rows) owns stand
   under_rows (suc m) row rows owns stand =
-      over (suc m) row (row_levels Y (suc m) undefined row rows.0) (all_left (Owns owned) row (nodes Y m (next_row Y row)) owns)
+      over (suc m) row (row_levels Y (suc m) undefined_address row rows.0) (all_left (Owns owned) row (nodes Y m (next_row Y row)) owns)
       (under_rows m (next_row Y row) rows.1 (all_right (Owns owned) row (nodes Y m (next_row Y row)) owns) stand)
 
   -- each of them, at some height
@@ -50,10 +50,10 @@ module _ (V : Reading) (owned list : List ℕ) (Y : Reading) (own : (n : ℕ) �
 
   under_nodes : (m : ℕ) (row : List ℕ) → AreRows Y m row → AllByRecursion (Owns owned) (nodes Y m row) → AllByRecursion (Owns list) (leaves Y m row)
       → AllByRecursion IsSomewhere (nodes Y m row)
-  under_nodes zero row rows owns stand = all_with (IsSubtree V owned list 1) IsSomewhere row (λ n is. (0, is)) (under_rows zero row rows owns stand)
+  under_nodes zero row rows owns stand = all_so (IsSubtree V owned list 1) IsSomewhere row (λ n is. (0, is)) (under_rows zero row rows owns stand)
   under_nodes (suc m) row rows owns stand =
       all_append IsSomewhere row (nodes Y m (next_row Y row))
-      (all_with (IsSubtree V owned list (suc (suc m))) IsSomewhere row (λ n is. (suc m, is)) (under_rows (suc m) row rows owns stand))
+      (all_so (IsSubtree V owned list (suc (suc m))) IsSomewhere row (λ n is. (suc m, is)) (under_rows (suc m) row rows owns stand))
       (under_nodes m (next_row Y row) rows.1 (all_right (Owns owned) row (nodes Y m (next_row Y row)) owns) stand)
 
   -- what is so of each node from the root down is so of all nodes, row by row
@@ -67,11 +67,11 @@ module _ (V : Reading) (owned list : List ℕ) (Y : Reading) (own : (n : ℕ) �
 
     rows_retired : (m : ℕ) (row : List ℕ) → AllByRecursion (Owns owned) (nodes Y m row) → AllByRecursion (AreRetiredBelow hit keys_at s t kind (suc m)) row
         → AllByRecursion (IsNodeRetired hit keys_at s t kind) (nodes Y m row)
-    rows_retired zero row owns all = all_with (AreRetiredBelow hit keys_at s t kind 1) (IsNodeRetired hit keys_at s t kind) row (λ n is. is.0) all
+    rows_retired zero row owns all = all_so (AreRetiredBelow hit keys_at s t kind 1) (IsNodeRetired hit keys_at s t kind) row (λ n is. is.0) all
     rows_retired (suc m) row owns all =
         let mine = all_left (Owns owned) row (nodes Y m (next_row Y row)) owns in
         all_append (IsNodeRetired hit keys_at s t kind) row (nodes Y m (next_row Y row))
-        (all_with (AreRetiredBelow hit keys_at s t kind (suc (suc m))) (IsNodeRetired hit keys_at s t kind) row (λ n is. is.0) all)
+        (all_so (AreRetiredBelow hit keys_at s t kind (suc (suc m))) (IsNodeRetired hit keys_at s t kind) row (λ n is. is.0) all)
         (rows_retired m (next_row Y row) (all_right (Owns owned) row (nodes Y m (next_row Y row)) owns) (down (suc m) row mine all))
 
 -- ---- a tree in an image
@@ -126,14 +126,14 @@ module _ (s : Space) (kind : Kind) (root level : ℕ) (owned list : List ℕ) (h
     items_below (suc m) c is =
         ap (λ (o : Node). flat_map (items_under Y bottom m) o.children) (read c is.0)
         ∙ flat_same (items_under Y bottom m) (keys_below V keys (suc m)) (V c).children
-        (all_with (IsSubtree V owned list (suc m)) (λ d. items_under Y bottom m d ≡ keys_below V keys (suc m) d) (V c).children (items_below m) is.2)
+        (all_so (IsSubtree V owned list (suc m)) (λ d. items_under Y bottom m d ≡ keys_below V keys (suc m) d) (V c).children (items_below m) is.2)
 
     lists_same : (h n : ℕ) → IsSubtree V owned list (suc h) n → lists_below Y bottom h (Y n) ≡ map (keys_below V keys h) (V n).children
     lists_same zero n is = ap (λ (o : Node). map keys o.children) (read n is.0)
     lists_same (suc h) n is =
         ap (λ (o : Node). map (items_under Y bottom h) o.children) (read n is.0)
         ∙ map_same (items_under Y bottom h) (keys_below V keys (suc h)) (V n).children
-        (all_with (IsSubtree V owned list (suc h)) (λ d. items_under Y bottom h d ≡ keys_below V keys (suc h) d) (V n).children (items_below h) is.2)
+        (all_so (IsSubtree V owned list (suc h)) (λ d. items_under Y bottom h d ≡ keys_below V keys (suc h) d) (V n).children (items_below h) is.2)
 
 -- Nothing may stand beside a key: keys that give way do so whatever their order is.
 abbrev pub no_sides : Sides (List ℕ) (List ℕ)

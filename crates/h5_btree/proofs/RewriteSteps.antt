@@ -1,6 +1,6 @@
 -- Writes of one node, one after another; and of a node that may be there.
 use Rattle.std.proofs.Common.{◌≡◌, ◌≢◌, ◌⊎◌, inl, inr, ℕ, ◌+◌, ◌^◌, ◌<◌, List, [], ◌∷◌, length, refl, sym, ap, ◌∙◌, subst, arith}
-use Rattle.h5_bytes.specs.Bytes.{undefined}
+use Rattle.h5_bytes.specs.Bytes.{undefined_address}
 use Rattle.h5_model.specs.Format.Rows.{Node}
 use Rattle.h5_model.specs.Format.Nodes.{Kind, entries_in, node_at, node_block, node_bytes, tree_blocks}
 use Rattle.h5_space.specs.Space.{Space}
@@ -35,7 +35,7 @@ rewritten_count s t kind at node r =
 
 -- a node is written unless it stands at the undefined address, which is so where it is none of the tree's
 module _ (t u : Space) (kind : Kind) (own : List ℕ) (n : ℕ) (node : Node) (apart : IsApart (tree_blocks kind own) t.free (length t.bytes)) (short : length t.bytes < 2 ^ 64)
-    (known : (n ≡ undefined) ⊎ Listed own n) (written : n ≢ undefined → IsRewritten t u kind n node) (none : n ≡ undefined → u ≡ t) where
+    (known : (n ≡ undefined_address) ⊎ Listed own n) (written : n ≢ undefined_address → IsRewritten t u kind n node) (none : n ≡ undefined_address → u ≡ t) where
   pub may_be_written : MayBeWritten t u kind own n node
   may_be_written = record {
     written = λ listed. written (λ e. let i = inside_of_apart t kind own apart n listed in absurd (omega (arith, e, i, short)));

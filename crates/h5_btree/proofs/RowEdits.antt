@@ -2,7 +2,7 @@
 use Rattle.std.proofs.Common.{◌≡◌, ◌≢◌, ℕ, zero, suc, ◌+◌, ◌-◌, ◌<◌, List, [], ◌∷◌, ◌++◌, length, get_or, refl, sym, ap, ◌∙◌, subst, arith}
 use Rattle.std.proofs.lemmas.List.{append_assoc, length-append, get_or-append-add, places}
 use Rattle.std.proofs.lemmas.List.Concat.{flat_map-append}
-use Rattle.h5_bytes.specs.Bytes.{undefined}
+use Rattle.h5_bytes.specs.Bytes.{undefined_address}
 use Rattle.h5_model.specs.Format.Rows.{Node, Reading, next_row, first_or_undefined, IsRow}
 use Rattle.h5_model.proofs.RowLaws.{Agree, next_row-same, IsRow-same}
 use Rattle.h5_btree.specs.Climb.{IsNoNode}
@@ -51,11 +51,11 @@ last_at left x [] = refl
 last_at left x (y ∷ ys) = last_at x y ys
 
 -- a row of level l, in which p stands behind front and before back
-module _ (V : Reading) (l p : ℕ) (front back : List ℕ) (low : l < 16) (out : IsNoNode V undefined) (row : IsRow V l undefined (front ++ p ∷ back)) where
+module _ (V : Reading) (l p : ℕ) (front back : List ℕ) (low : l < 16) (out : IsNoNode V undefined_address) (row : IsRow V l undefined_address (front ++ p ∷ back)) where
   abbrev whole_row : List ℕ
   whole_row = front ++ p ∷ back
 
-  apart_from_undefined : (V undefined).level ≢ l
+  apart_from_undefined : (V undefined_address).level ≢ l
   apart_from_undefined e = omega (arith, e, low, out)
 
   p_place : get_or whole_row (length front) 0 ≡ p
@@ -74,22 +74,22 @@ module _ (V : Reading) (l p : ℕ) (front back : List ℕ) (low : l < 16) (out :
   differ : (i j : ℕ) → i < j → j < length whole_row → get_or whole_row i 0 ≢ get_or whole_row j 0
   differ i j less high same =
       let d : i + suc (j - suc i) ≡ j = omega (arith, less) in
-      twice V l undefined whole_row i (j - suc i) apart_from_undefined row (omega (arith, d, high)) (same ∙ ap (λ (n : ℕ). get_or whole_row n 0) (sym d))
+      twice V l undefined_address whole_row i (j - suc i) apart_from_undefined row (omega (arith, d, high)) (same ∙ ap (λ (n : ℕ). get_or whole_row n 0) (sym d))
 
   level_at : (i : ℕ) → i < length whole_row → (V (get_or whole_row i 0)).level ≡ l
-  level_at i less = (row_at V l undefined whole_row i row less).0
+  level_at i less = (row_at V l undefined_address whole_row i row less).0
 
   pub level_here : (V p).level ≡ l
   level_here = subst (λ (n : ℕ). (V n).level ≡ l) p_place (level_at (length front) (omega (arith, long)))
 
   pub right_here : (V p).right ≡ first_or_undefined back
-  right_here = go front undefined row where
+  right_here = go front undefined_address row where
     go : (xs : List ℕ) (left : ℕ) → IsRow V l left (xs ++ p ∷ back) → (V p).right ≡ first_or_undefined back
     go [] left is = is.2
     go (x ∷ xs) left is = go xs x is.3
 
-  pub left_here : (V p).left ≡ last_of undefined front
-  left_here = go front undefined row where
+  pub left_here : (V p).left ≡ last_of undefined_address front
+  left_here = go front undefined_address row where
     go : (xs : List ℕ) (left : ℕ) → IsRow V l left (xs ++ p ∷ back) → (V p).left ≡ last_of left xs
     go [] left is = is.1
     go (x ∷ xs) left is = go xs x is.3
@@ -125,7 +125,7 @@ module _ (V : Reading) (l p : ℕ) (front back : List ℕ) (low : l < 16) (out :
   front_not_right i less same = go back refl where
     go : (b : List ℕ) → back ≡ b → ⊥
     go [] none =
-        let end : get_or front i 0 ≡ undefined = same ∙ right_here ∙ ap first_or_undefined none in
+        let end : get_or front i 0 ≡ undefined_address = same ∙ right_here ∙ ap first_or_undefined none in
         apart_from_undefined (ap (λ (n : ℕ). (V n).level) (sym end) ∙ front_level i less)
     go (c ∷ cs) some =
         let bl : 0 < length back = omega (arith, ap (λ (b : List ℕ). length b) some) in
@@ -146,12 +146,12 @@ module _ (V : Reading) (l p : ℕ) (front back : List ℕ) (low : l < 16) (out :
   back_not_left i less same = go front refl where
     go : (f : List ℕ) → front ≡ f → ⊥
     go [] none =
-        let end : get_or back i 0 ≡ undefined = same ∙ left_here ∙ ap (last_of undefined) none in
+        let end : get_or back i 0 ≡ undefined_address = same ∙ left_here ∙ ap (last_of undefined_address) none in
         apart_from_undefined (ap (λ (n : ℕ). (V n).level) (sym end) ∙ back_level i less)
     go (x ∷ xs) some =
         let fl : length front ≡ suc (length xs) = ap (λ (f : List ℕ). length f) some in
         let at_x : get_or front (length xs) 0 ≡ (V p).left
-        = ap (λ (f : List ℕ). get_or f (length xs) 0) some ∙ sym (last_at undefined x xs) ∙ sym (left_here ∙ ap (last_of undefined) some) in
+        = ap (λ (f : List ℕ). get_or f (length xs) 0) some ∙ sym (last_at undefined_address x xs) ∙ sym (left_here ∙ ap (last_of undefined_address) some) in
         front_back (length xs) i (omega (arith, fl)) less (at_x ∙ sym same)
 
   -- nor is one before p, before that neighbour
@@ -162,7 +162,7 @@ module _ (V : Reading) (l p : ℕ) (front back : List ℕ) (low : l < 16) (out :
     go (x ∷ xs) some =
         let fl : length front ≡ suc (length xs) = ap (λ (f : List ℕ). length f) some in
         let at_x : get_or front (length xs) 0 ≡ (V p).left
-        = ap (λ (f : List ℕ). get_or f (length xs) 0) some ∙ sym (last_at undefined x xs) ∙ sym (left_here ∙ ap (last_of undefined) some) in
+        = ap (λ (f : List ℕ). get_or f (length xs) 0) some ∙ sym (last_at undefined_address x xs) ∙ sym (left_here ∙ ap (last_of undefined_address) some) in
         front_apart i (length xs) (omega (arith, fl, less)) (omega (arith, fl)) (same ∙ sym at_x)
 
   -- the neighbour to the left is the last of front, where there is one
@@ -172,7 +172,7 @@ module _ (V : Reading) (l p : ℕ) (front back : List ℕ) (low : l < 16) (out :
     go [] none = absurd (omega (arith, last, ap (λ (f : List ℕ). length f) none))
     go (x ∷ xs) some =
         let at : i ≡ length xs = omega (arith, last, ap (λ (f : List ℕ). length f) some) in
-        ap (λ (f : List ℕ). get_or f i 0) some ∙ ap (λ (k : ℕ). get_or (x ∷ xs) k 0) at ∙ sym (last_at undefined x xs) ∙ sym (left_here ∙ ap (last_of undefined) some)
+        ap (λ (f : List ℕ). get_or f i 0) some ∙ ap (λ (k : ℕ). get_or (x ∷ xs) k 0) at ∙ sym (last_at undefined_address x xs) ∙ sym (left_here ∙ ap (last_of undefined_address) some)
 
 -- ---- rows, by the nodes beside the one that is split or goes
 

@@ -2,13 +2,14 @@
 -- premises of a step of the climb are met.
 use Rattle.std.proofs.Common.{◌≡◌, ◌≢◌, ◌⊎◌, get_or, inl, inr, ℕ, suc, ◌^◌, ◌<◌, ◌≤◌, List, [], ◌∷◌, ◌++◌, length, refl, sym, ap, ◌∙◌, subst, arith, append-nil, Bool, true, false, ◌==◌}
 use Rattle.std.specs.List.{list_any, insert, AllByRecursion}
+use Rattle.std.proofs.lemmas.Bool.{or_right}
 use Rattle.h5_bytes.specs.Blocks.{holds}
 use Rattle.h5_bytes.specs.declared.Block.{Block}
 use Rattle.h5_bytes.proofs.BlockLaws.{holds_in, holds-le}
-use Rattle.h5_bytes.specs.Bytes.{undefined}
+use Rattle.h5_bytes.specs.Bytes.{undefined_address}
 use Rattle.h5_model.specs.Format.Rows.{Node, IsRow, first_or_undefined}
 use Rattle.h5_model.specs.Format.Nodes.{Kind, IsNode, entries_in, node_at, node_block, node_bytes, node_length, node_of, reading_of, tree_blocks}
-use Rattle.h5_model.proofs.RowLaws.{all_listed, at_listed, same_number, later_of}
+use Rattle.h5_model.proofs.RowLaws.{all_listed, at_listed, same_number}
 use Rattle.h5_space.specs.Space.{Space}
 use Rattle.h5_space.specs.Moves.{Moves}
 use Rattle.h5_space.specs.Whole.{IsApart}
@@ -85,7 +86,7 @@ module _ (t t₁ t₂ t₃ u : Space) (kind : Kind) (own : List ℕ) (p q j chil
   new = taken_new t t₁ kind own q apart take_q
 
   among : (n : ℕ) → Listed own n → Listed all n
-  among n own_n = later_of (q == n) (list_any (λ m. m == n) own) own_n
+  among n own_n = or_right (q == n) (list_any (λ m. m == n) own) own_n
 
   is_q : Listed all q
   is_q = rw (same_number q) refl
@@ -184,15 +185,15 @@ module _ (t t₁ t₂ t₃ u : Space) (kind : Kind) (own : List ℕ) (p q j chil
       )
 
 -- the neighbour to the right is a node of the tree, or there is none
-pub right_known : (t : Space) (kind : Kind) (own : List ℕ) (m p : ℕ) (front back : List ℕ) → m < 16 → IsNoNode (reading_of t.bytes kind own) undefined
-    → IsRow (reading_of t.bytes kind own) m undefined (front ++ p ∷ back) → Listed own p
-    → (((node_at t.bytes kind p).right ≡ undefined) ⊎ Listed own (node_at t.bytes kind p).right) × ((node_at t.bytes kind p).right ≡ p → p ≡ undefined)
+pub right_known : (t : Space) (kind : Kind) (own : List ℕ) (m p : ℕ) (front back : List ℕ) → m < 16 → IsNoNode (reading_of t.bytes kind own) undefined_address
+    → IsRow (reading_of t.bytes kind own) m undefined_address (front ++ p ∷ back) → Listed own p
+    → (((node_at t.bytes kind p).right ≡ undefined_address) ⊎ Listed own (node_at t.bytes kind p).right) × ((node_at t.bytes kind p).right ≡ p → p ≡ undefined_address)
 right_known t kind own m p front back top out row is =
     let V = reading_of t.bytes kind own in
     let same : (node_at t.bytes kind p).right ≡ (V p).right = ap (λ (n : Node). n.right) (sym (owned_at (node_at t.bytes kind) own p is)) in
     by_back back refl (same ∙ right_here V m p front back top out row) where
       by_back : (b : List ℕ) → back ≡ b → (node_at t.bytes kind p).right ≡ first_or_undefined b
-          → (((node_at t.bytes kind p).right ≡ undefined) ⊎ Listed own (node_at t.bytes kind p).right) × ((node_at t.bytes kind p).right ≡ p → p ≡ undefined)
+          → (((node_at t.bytes kind p).right ≡ undefined_address) ⊎ Listed own (node_at t.bytes kind p).right) × ((node_at t.bytes kind p).right ≡ p → p ≡ undefined_address)
       by_back [] e right = (inl right, λ same. sym same ∙ right)
       by_back (c ∷ cs) e right =
           let V = reading_of t.bytes kind own in

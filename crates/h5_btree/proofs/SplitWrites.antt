@@ -1,7 +1,7 @@
 -- A split by the writes that the code makes: the climb goes on, the two halves say what was written, and the nodes above stay.
 use Rattle.std.proofs.Common.{◌≡◌, ◌≢◌, inl, inr, ℕ, suc, ◌^◌, ◌<◌, ◌≤◌, List, [], ◌∷◌, ◌++◌, length, sym, ap, ◌∙◌, subst, arith, false, ◌==◌}
 use Rattle.std.specs.List.{list_any, insert, AllByRecursion}
-use Rattle.h5_bytes.specs.Bytes.{undefined}
+use Rattle.h5_bytes.specs.Bytes.{undefined_address}
 use Rattle.h5_model.specs.Format.Rows.{Node}
 use Rattle.h5_model.specs.Format.Nodes.{Kind, entries_in, node_at, node_block, node_bytes, node_of}
 use Rattle.h5_space.specs.Space.{Space}
@@ -20,7 +20,7 @@ module _ (s t t₁ t₂ t₃ u : Space) (kind : Kind) (root m p : ℕ) (step : S
     (write_q : IsRewritten t₁ t₂ kind q (record { level = (node_at t.bytes kind p).level; left = p; right = (node_at t.bytes kind p).right; keys = keys_q; children = ys }))
     (write_p : IsRewritten t₂ t₃ kind p (record (node_at t.bytes kind p) { right = q; keys = keys; children = xs }))
     (r : ℕ) (er : r ≡ (node_at t.bytes kind p).right)
-    (w : r ≢ undefined → IsRewritten t₃ u kind r (record (node_at t₃.bytes kind r) { left = q })) (none : r ≡ undefined → u ≡ t₃)
+    (w : r ≢ undefined_address → IsRewritten t₃ u kind r (record (node_at t₃.bytes kind r) { left = q })) (none : r ≡ undefined_address → u ≡ t₃)
     (joined : xs ++ ys ≡ insert (node_at t.bytes kind p).children j child) (some : 1 ≤ length xs) (more : 1 ≤ length ys) where
   abbrev next : ℕ
   next = (node_at t.bytes kind p).right
@@ -28,7 +28,7 @@ module _ (s t t₁ t₂ t₃ u : Space) (kind : Kind) (root m p : ℕ) (step : S
   write_next : Listed own next → IsRewritten t₃ u kind next (record (node_at t.bytes kind next) { left = q })
   write_next listed =
       let i = inside_of_apart t kind own c.apart next listed in
-      let there : r ≢ undefined = λ e. absurd (omega (arith, sym er ∙ e, i, c.short)) in
+      let there : r ≢ undefined_address = λ e. absurd (omega (arith, sym er ∙ e, i, c.short)) in
       subst (λ (n : ℕ). IsRewritten t₃ u kind n (record (node_at t.bytes kind n) { left = q })) er
       (subst (λ (b : List ℕ). IsRewritten t₃ u kind r (record (node_of kind b) { left = q }))
       (bytes_r s t kind root m p (step ∷ way) j child list owned own c t₁ q taken t₂ _ write_q t₃ _ write_p r er there) (w there))

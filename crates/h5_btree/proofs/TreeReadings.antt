@@ -3,7 +3,7 @@
 use Rattle.std.proofs.Common.{◌≡◌, ◌≢◌, ℕ, zero, suc, ◌<◌, ◌≤◌, List, [], ◌∷◌, ◌++◌, refl, sym, ap, ◌∙◌, subst, arith, Bool, true, false, ◌==◌, ◌^◌}
 use Rattle.std.specs.Prelude.{if◌then◌else◌}
 use Rattle.std.specs.List.{list_any, insert, AllByRecursion}
-use Rattle.h5_bytes.specs.Bytes.{undefined}
+use Rattle.h5_bytes.specs.Bytes.{undefined_address}
 use Rattle.h5_bytes.specs.Blocks.{Inside}
 use Rattle.h5_model.specs.Format.Rows.{Node, Reading, blank, only, next_row, IsRow, AreRows, nodes}
 use Rattle.h5_model.specs.Format.Nodes.{Kind, IsNode, HasTree, entries_in, node_at, node_bytes, reading_of, tree_blocks}
@@ -28,13 +28,13 @@ module _ (f : ℕ → Node) (owned : List ℕ) where
   free_of_none n none = rw none (omega arith)
 
 -- no node of a tree that lies in an image stands at the undefined address
-pub undefined_is_none : (kind : Kind) (owned : List ℕ) (end : ℕ) → end < 2 ^ 64 → Inside end (tree_blocks kind owned) → list_any (λ m. m == undefined) owned ≡ false
+pub undefined_is_none : (kind : Kind) (owned : List ℕ) (end : ℕ) → end < 2 ^ 64 → Inside end (tree_blocks kind owned) → list_any (λ m. m == undefined_address) owned ≡ false
 undefined_is_none kind [] end low inside = refl
-undefined_is_none kind (n ∷ owned) end low inside = go (n == undefined) refl (undefined_is_none kind owned end low inside.1) where
-  go : (b : Bool) → (n == undefined) ≡ b → list_any (λ m. m == undefined) owned ≡ false → list_any (λ m. m == undefined) (n ∷ owned) ≡ false
+undefined_is_none kind (n ∷ owned) end low inside = go (n == undefined_address) refl (undefined_is_none kind owned end low inside.1) where
+  go : (b : Bool) → (n == undefined_address) ≡ b → list_any (λ m. m == undefined_address) owned ≡ false → list_any (λ m. m == undefined_address) (n ∷ owned) ≡ false
   go false e rest = rw (e, rest) refl
   go true e rest =
-      let same : n ≡ undefined = equal_number n undefined e in
+      let same : n ≡ undefined_address = equal_number n undefined_address e in
       absurd (omega (arith, same, inside.0, low))
 
 -- ---- an edit, node by node
@@ -93,9 +93,9 @@ module _ (f g : ℕ → Node) (owned own : List ℕ) where
   -- the root is split
   pub raises_in : (root j child p q : ℕ) (xs ys : List ℕ) (keys keys_p keys_q : List (List ℕ)) → Listed owned root → Listed own root → Listed own p → Listed own q
       → xs ++ ys ≡ insert (f root).children j child
-      → g root ≡ record { level = suc (f root).level; left = undefined; right = undefined; keys = keys; children = p ∷ q ∷ [] }
-      → g p ≡ record { level = (f root).level; left = undefined; right = q; keys = keys_p; children = xs }
-      → g q ≡ record { level = (f root).level; left = p; right = undefined; keys = keys_q; children = ys }
+      → g root ≡ record { level = suc (f root).level; left = undefined_address; right = undefined_address; keys = keys; children = p ∷ q ∷ [] }
+      → g p ≡ record { level = (f root).level; left = undefined_address; right = q; keys = keys_p; children = xs }
+      → g q ≡ record { level = (f root).level; left = p; right = undefined_address; keys = keys_q; children = ys }
       → ((n : ℕ) → Listed owned n → n ≢ root → Listed own n × (g n ≡ f n))
       → (r : RaisesRoot V W root j child) × (r.p ≡ p) × (r.q ≡ q)
   raises_in root j child p q xs ys keys keys_p keys_q was is is_p is_q joined at_root at_p at_q others =
@@ -110,9 +110,9 @@ module _ (f g : ℕ → Node) (owned own : List ℕ) where
           keys_p = keys_p;
           keys_q = keys_q;
           at_root = owned_at g own root is ∙ at_root
-              ∙ ap (λ (n : Node). record { level = suc n.level; left = undefined; right = undefined; keys = keys; children = p ∷ q ∷ [] }) (sym here);
-          at_p = owned_at g own p is_p ∙ at_p ∙ ap (λ (n : Node). record { level = n.level; left = undefined; right = q; keys = keys_p; children = xs }) (sym here);
-          at_q = owned_at g own q is_q ∙ at_q ∙ ap (λ (n : Node). record { level = n.level; left = p; right = undefined; keys = keys_q; children = ys }) (sym here);
+              ∙ ap (λ (n : Node). record { level = suc n.level; left = undefined_address; right = undefined_address; keys = keys; children = p ∷ q ∷ [] }) (sym here);
+          at_p = owned_at g own p is_p ∙ at_p ∙ ap (λ (n : Node). record { level = n.level; left = undefined_address; right = q; keys = keys_p; children = xs }) (sym here);
+          at_q = owned_at g own q is_q ∙ at_q ∙ ap (λ (n : Node). record { level = n.level; left = p; right = undefined_address; keys = keys_q; children = ys }) (sym here);
           others = λ n low other.
               let listed = owned_of_level f owned n low in
               let o = others n listed other in
@@ -161,9 +161,9 @@ all_join P [] ys a b = b
 all_join P (x ∷ xs) ys a b = (a.0, all_join P xs ys a.1 b)
 
 pub levels_of : (V : Reading) (level : ℕ) (row : List ℕ) → level < 16 → AreRows V level row → AllByRecursion (λ n. (V n).level < 16) (nodes V level row)
-levels_of V zero row low are = levels_of_row V 0 undefined row low are
+levels_of V zero row low are = levels_of_row V 0 undefined_address row low are
 levels_of V (suc level) row low are =
-    all_join (λ n. (V n).level < 16) row (nodes V level (next_row V row)) (levels_of_row V (suc level) undefined row low are.0)
+    all_join (λ n. (V n).level < 16) row (nodes V level (next_row V row)) (levels_of_row V (suc level) undefined_address row low are.0)
     (levels_of V level (next_row V row) (omega (arith, low)) are.1)
 
 -- what holds of each owned node holds of those that stand in rows

@@ -4,7 +4,7 @@ use Rattle.std.specs.Prelude.{if◌then◌else◌}
 use Rattle.std.specs.List.{list_any, AllByRecursion}
 use Rattle.h5_bytes.specs.Blocks.{holds, cover}
 use Rattle.h5_bytes.proofs.BlockLaws.{holds_in, holds-le}
-use Rattle.h5_bytes.specs.Bytes.{undefined}
+use Rattle.h5_bytes.specs.Bytes.{undefined_address}
 use Rattle.h5_model.specs.Format.Rows.{Node, IsRow, first_or_undefined}
 use Rattle.h5_model.specs.Format.Nodes.{Kind, IsNode, entries_in, node_at, node_block, node_bytes, node_length, node_of, reading_of, tree_blocks}
 use Rattle.h5_model.proofs.RowLaws.{all_listed, at_listed}
@@ -184,24 +184,24 @@ module _ (t t₁ t₂ u : Space) (kind : Kind) (own : List ℕ) (p : ℕ) (apart
       (λ not_r. keeps_bytes t.bytes u.bytes kind n (others n at not_p not_l not_r)))
 
 -- the neighbour to the left is another node or none; and it is not the neighbour to the right
-pub left_known : (t : Space) (kind : Kind) (own : List ℕ) (m p : ℕ) (front back : List ℕ) → m < 16 → IsNoNode (reading_of t.bytes kind own) undefined
-    → IsRow (reading_of t.bytes kind own) m undefined (front ++ p ∷ back) → Listed own p
-    → ((node_at t.bytes kind p).left ≡ p → p ≡ undefined) × ((node_at t.bytes kind p).left ≡ (node_at t.bytes kind p).right → (node_at t.bytes kind p).left ≡ undefined)
+pub left_known : (t : Space) (kind : Kind) (own : List ℕ) (m p : ℕ) (front back : List ℕ) → m < 16 → IsNoNode (reading_of t.bytes kind own) undefined_address
+    → IsRow (reading_of t.bytes kind own) m undefined_address (front ++ p ∷ back) → Listed own p
+    → ((node_at t.bytes kind p).left ≡ p → p ≡ undefined_address) × ((node_at t.bytes kind p).left ≡ (node_at t.bytes kind p).right → (node_at t.bytes kind p).left ≡ undefined_address)
 left_known t kind own m p front back top out row is =
     let V = reading_of t.bytes kind own in
     let left : (node_at t.bytes kind p).left ≡ (V p).left = ap (λ (n : Node). n.left) (sym (owned_at (node_at t.bytes kind) own p is)) in
     let right : (node_at t.bytes kind p).right ≡ (V p).right = ap (λ (n : Node). n.right) (sym (owned_at (node_at t.bytes kind) own p is)) in
     (by_front front refl left, by_back back refl left right)
   where
-    by_front : (f : List ℕ) → front ≡ f → (node_at t.bytes kind p).left ≡ (reading_of t.bytes kind own p).left → (node_at t.bytes kind p).left ≡ p → p ≡ undefined
-    by_front [] e left same = sym same ∙ left ∙ left_here (reading_of t.bytes kind own) m p front back top out row ∙ ap (last_of undefined) e
+    by_front : (f : List ℕ) → front ≡ f → (node_at t.bytes kind p).left ≡ (reading_of t.bytes kind own p).left → (node_at t.bytes kind p).left ≡ p → p ≡ undefined_address
+    by_front [] e left same = sym same ∙ left ∙ left_here (reading_of t.bytes kind own) m p front back top out row ∙ ap (last_of undefined_address) e
     by_front (x ∷ xs) e left same =
         let long : suc (length xs) ≡ length front = sym (ap (λ (f : List ℕ). length f) e) in
         let last = front_last (reading_of t.bytes kind own) m p front back top out row (length xs) long in
         absurd (front_other (reading_of t.bytes kind own) m p front back top out row (length xs) (omega (arith, long)) (last ∙ sym left ∙ same))
 
     by_back : (b : List ℕ) → back ≡ b → (node_at t.bytes kind p).left ≡ (reading_of t.bytes kind own p).left → (node_at t.bytes kind p).right ≡ (reading_of t.bytes kind own p).right
-        → (node_at t.bytes kind p).left ≡ (node_at t.bytes kind p).right → (node_at t.bytes kind p).left ≡ undefined
+        → (node_at t.bytes kind p).left ≡ (node_at t.bytes kind p).right → (node_at t.bytes kind p).left ≡ undefined_address
     by_back [] e left right same = same ∙ right ∙ right_here (reading_of t.bytes kind own) m p front back top out row ∙ ap first_or_undefined e
     by_back (c ∷ cs) e left right same =
         let long : 0 < length back = omega (arith, ap (λ (xs : List ℕ). length xs) e) in

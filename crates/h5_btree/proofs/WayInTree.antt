@@ -1,7 +1,7 @@
 -- The way that was found in a tree, by the rows that it passes: so an edit at its end can begin.
 use Rattle.std.proofs.Common.{◌≡◌, ℕ, zero, suc, ◌^◌, ◌<◌, Bool, List, [], ◌∷◌, ◌++◌, length, slice_index, refl, sym, ap, ◌∙◌, arith, subst, append-nil}
 use Rattle.std.proofs.lemmas.List.{append_assoc}
-use Rattle.h5_bytes.specs.Bytes.{undefined}
+use Rattle.h5_bytes.specs.Bytes.{undefined_address}
 use Rattle.h5_model.specs.Format.Rows.{Node, Reading, IsRow, AreRows}
 use Rattle.h5_model.specs.Format.Nodes.{Kind, HasTree, node_at, reading_of, tree_blocks}
 use Rattle.h5_space.specs.Space.{Space}
@@ -15,7 +15,7 @@ use Rattle.h5_btree.proofs.TreeReadings.{owned_at, owned_of_level}
 use Rattle.h5_btree.proofs.WayRows.{way_root, way_down, rows_down}
 use Rattle.h5_btree.proofs.ClimbSteps.{undefined_free}
 
-module _ (image : List ℕ) (kind : Kind) (owned : List ℕ) (root : ℕ) (behind : List ℕ → Bool) (out : IsNoNode (reading_of image kind owned) undefined) where
+module _ (image : List ℕ) (kind : Kind) (owned : List ℕ) (root : ℕ) (behind : List ℕ → Bool) (out : IsNoNode (reading_of image kind owned) undefined_address) where
   abbrev V : Reading
   V = reading_of image kind owned
 
@@ -23,9 +23,9 @@ module _ (image : List ℕ) (kind : Kind) (owned : List ℕ) (root : ℕ) (behin
   abbrev IsFound : List Step → List Step → Type 0
   IsFound way above =
       (step : Step) × (rest : List Step) × (front : List ℕ) × (back : List ℕ) × (way ++ above ≡ step ∷ rest) × IsWay V 0 root rest step.node front back
-      × IsRow V 0 undefined (front ++ step.node ∷ back) × (step.place < length (V step.node).children)
+      × IsRow V 0 undefined_address (front ++ step.node ∷ back) × (step.place < length (V step.node).children)
 
-  same_there : (level at : ℕ) (f bk : List ℕ) → level < 16 → IsRow V level undefined (f ++ at ∷ bk) → V at ≡ node_at image kind at
+  same_there : (level at : ℕ) (f bk : List ℕ) → level < 16 → IsRow V level undefined_address (f ++ at ∷ bk) → V at ≡ node_at image kind at
   same_there level at f bk low row =
       owned_at (node_at image kind) owned at (owned_of_level (node_at image kind) owned at (let l = level_here V level at f bk low out row in omega (arith, l, low)))
 

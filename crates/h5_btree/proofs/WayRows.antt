@@ -3,9 +3,9 @@ use Rattle.std.proofs.Common.{◌≡◌, ℕ, zero, suc, ◌+◌, ◌<◌, ◌�
 use Rattle.std.specs.List.{insert, remove}
 use Rattle.std.proofs.lemmas.List.Concat.{flat_map-append}
 use Rattle.std.proofs.lemmas.List.Edits.{insert-append_left, insert-append_right, remove-append_left, remove-append_right}
-use Rattle.h5_bytes.specs.Bytes.{undefined}
+use Rattle.h5_bytes.specs.Bytes.{undefined_address}
 use Rattle.h5_model.specs.Format.Rows.{Reading, next_row, row_below, IsRow, AreRows, leaves, nodes}
-use Rattle.h5_btree.specs.Climb.{IsBelow, IsWay, IsTreeOf, LacksChild, IsOver, KeepsRows}
+use Rattle.h5_btree.specs.Climb.{IsBelow, IsWay, IsTreeOf, KeepsRows}
 use Rattle.h5_btree.specs.declared.way.Step.{Step}
 use Rattle.h5_btree.proofs.ClimbLaws.{row_here, whole}
 
@@ -54,33 +54,12 @@ remove_below V front back a i low =
     ∙ ap (λ (k : ℕ). next_row V front ++ remove ((V a).children ++ next_row V back) k) (omega arith)
     ∙ ap (λ (xs : List ℕ). next_row V front ++ xs) (remove-append_left (V a).children (next_row V back) i low)
 
--- a node of level 0 at the end of a way: what the tree has at the bottom, and what an edit there is to make of it
-module _ (V : Reading) (root p : ℕ) (way : List Step) (front back : List ℕ) (w : IsWay V 0 root way p front back) (row : IsRow V 0 undefined (front ++ p ∷ back)) where
+-- a node of level 0 at the end of a way: what the tree has at the bottom
+module _ (V : Reading) (root p : ℕ) (way : List Step) (front back : List ℕ) (w : IsWay V 0 root way p front back) (row : IsRow V 0 undefined_address (front ++ p ∷ back)) where
   pub leaves_here : IsTreeOf V (length way) root (next_row V (front ++ p ∷ back))
   leaves_here =
       let z : length way + 0 ≡ length way = omega arith in
       subst (λ (l : ℕ). IsTreeOf V l root (next_row V (front ++ p ∷ back))) z (whole V 0 root way p front back w row)
-
-  pub lacks_start : (j child : ℕ) → j ≤ length (V p).children
-      → LacksChild V 0 root p way j child (insert (next_row V (front ++ p ∷ back)) (length (next_row V front) + j) child)
-  lacks_start j child low = record {
-    front = front;
-    back = back;
-    above = w;
-    row = row;
-    place = low;
-    under = sym (insert_below V front back p j child low);
-  }
-
-  pub over_start : (i : ℕ) → i < length (V p).children → IsOver V 0 root p way i (remove (next_row V (front ++ p ∷ back)) (length (next_row V front) + i))
-  over_start i low = record {
-    front = front;
-    back = back;
-    above = w;
-    row = row;
-    place = low;
-    under = sym (remove_below V front back p i low);
-  }
 
 -- ---- where keys alone are others, the rows are the same
 
@@ -94,9 +73,9 @@ module _ (V W : Reading) (same : KeepsRows V W) where
   IsRow-keyed level left (n ∷ row) is = rw (same n).1 (is.0, is.1, is.2, IsRow-keyed level n row is.3)
 
   pub AreRows-keyed : (level : ℕ) (row : List ℕ) → AreRows V level row → AreRows W level row
-  AreRows-keyed zero row are = IsRow-keyed 0 undefined row are
+  AreRows-keyed zero row are = IsRow-keyed 0 undefined_address row are
   AreRows-keyed (suc level) row are =
-      (IsRow-keyed (suc level) undefined row are.0, rw (next_row-keyed row) (AreRows-keyed level (next_row V row) are.1))
+      (IsRow-keyed (suc level) undefined_address row are.0, rw (next_row-keyed row) (AreRows-keyed level (next_row V row) are.1))
 
   row_below-keyed : (level : ℕ) (row : List ℕ) → row_below W level row ≡ row_below V level row
   row_below-keyed zero row = refl

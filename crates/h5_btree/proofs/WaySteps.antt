@@ -1,7 +1,7 @@
 -- The nodes on a way that ends in a tree: they are the tree's, so they lie in the image and have their form.
 use Rattle.std.proofs.Common.{◌≡◌, ℕ, zero, suc, ◌+◌, ◌<◌, ◌≤◌, List, [], ◌∷◌, length, take, get_or, sym, ◌∙◌, subst, arith, refl}
 use Rattle.std.specs.List.{AllByRecursion, remove}
-use Rattle.h5_bytes.specs.Bytes.{undefined}
+use Rattle.h5_bytes.specs.Bytes.{undefined_address}
 use Rattle.h5_bytes.specs.declared.Block.{Block}
 use Rattle.h5_model.specs.Format.Rows.{Node}
 use Rattle.h5_model.specs.Format.Nodes.{Kind, IsNode, entries_in, node_at, node_bytes, node_length, reading_of}
@@ -41,7 +41,7 @@ abbrev pub IsStep : Space → Kind → Step → Type 0
 IsStep s kind step = (step.node + node_length kind ≤ length s.bytes) × IsNode kind (node_bytes s.bytes kind step.node)
 
 module _ (s : Space) (kind : Kind) (root level : ℕ) (way : List Step) (owned list : List ℕ) (k : ℕ) (e : EndsInTree s kind root level way owned list k) where
-  out : IsNoNode (reading_of s.bytes kind owned) undefined
+  out : IsNoNode (reading_of s.bytes kind owned) undefined_address
   out = undefined_free s kind owned e.apart e.short
 
   pub ends_shrinks : IsShrinking s s kind root 0 e.step.node e.above e.step.place (remove list k) owned owned

@@ -3,7 +3,7 @@ use Rattle.std.proofs.Common.{◌≡◌, ◌≢◌, ℕ, zero, suc, ◌+◌, ◌
 use Rattle.std.specs.Prelude.{⊤, nat_le, slice_set, if◌then◌else◌}
 use Rattle.std.proofs.lemmas.Bool.Decides.{nat_tests}
 use Rattle.std.specs.List.{AllByRecursion}
-use Rattle.h5_bytes.specs.Bytes.{undefined}
+use Rattle.h5_bytes.specs.Bytes.{undefined_address}
 use Rattle.h5_bytes.specs.Blocks.{cover}
 use Rattle.h5_bytes.specs.declared.Block.{Block}
 use Rattle.h5_model.specs.Format.Rows.{Node, Reading}
@@ -15,7 +15,7 @@ use Rattle.h5_btree.specs.Climb.{IsNoNode, IsWay}
 use Rattle.h5_btree.specs.Insertion.{Owns}
 use Rattle.h5_btree.specs.Removal.{EndsInTree}
 use Rattle.h5_btree.specs.Rewritten.{IsRewritten}
-use Rattle.h5_btree.specs.Widened.{AreWidened, IsWidened, end_at, ends_along, way_blocks, widened}
+use Rattle.h5_btree.specs.Widened.{AreWidened, IsWidened, end_at, ends_along, way_blocks, widened_node}
 use Rattle.h5_btree.specs.declared.way.Step.{Step}
 use Rattle.h5_btree.specs.declared.widening.End.{End}
 use Rattle.h5_btree.proofs.RowEdits.{level_here}
@@ -69,7 +69,7 @@ rising_different V m [] rising = tt
 rising_different V m (step ∷ way) rising = (above_other V (suc m) step.node way (omega (arith, rising.0)) rising.1, rising_different V (suc m) way rising.1)
 
 module _ (s : Space) (kind : Kind) (root level : ℕ) (way : List Step) (owned list : List ℕ) (k : ℕ) (e : EndsInTree s kind root level way owned list k) where
-  out : IsNoNode (reading_of s.bytes kind owned) undefined
+  out : IsNoNode (reading_of s.bytes kind owned) undefined_address
   out = undefined_free s kind owned e.apart e.short
 
   rising_on : (m : ℕ) (steps : List Step) (a : ℕ) (front back : List ℕ) → length steps + m < 16 → IsWay (reading_of s.bytes kind owned) m root steps a front back
@@ -119,12 +119,12 @@ module _ (old now new : List ℕ) (kind : Kind) (low high : List ℕ) where
 
   pub widened_more : (way : List Step) (ends : List End) (i : ℕ) (d : Step) (none : End) → i < length way → i < length ends → AreDifferent way
       → AllByRecursion (λ (step : Step). step.node ≢ (get_or way i d).node → node_at new kind step.node ≡ node_at now kind step.node) way
-      → node_at new kind (get_or way i d).node ≡ widened (get_or ends i none) low high (node_at now kind (get_or way i d).node)
+      → node_at new kind (get_or way i d).node ≡ widened_node (get_or ends i none) low high (node_at now kind (get_or way i d).node)
       → AreWidened old now kind way (take i ends) low high → AreWidened old new kind way (take (suc i) ends) low high
   widened_more [] ends i d none on within different others here is = absurd (omega (arith, on))
   widened_more (step ∷ way) [] i d none on within different others here is = absurd (omega (arith, within))
   widened_more (step ∷ way) (end ∷ ends) zero d none on within different others here is = (
-    here ∙ ap (widened end low high) is.0,
+    here ∙ ap (widened_node end low high) is.0,
     widened_stays way []
         (all_apply (λ (other : Step). other.node ≢ step.node) (λ (other : Step). node_at new kind other.node ≡ node_at now kind other.node) way others.1 different.0) is.1,
   )
@@ -162,7 +162,7 @@ widened_start s kind way low high = record {
 
 pub widened_on : (s t u : Space) (kind : Kind) (root level : ℕ) (way : List Step) (owned list : List ℕ) (k : ℕ) → EndsInTree t kind root level way owned list k
     → (ends : List End) (i : ℕ) (d : Step) (none : End) (low high : List ℕ) → i < length way → i < length ends
-    → IsRewritten t u kind (get_or way i d).node (widened (get_or ends i none) low high (node_at t.bytes kind (get_or way i d).node))
+    → IsRewritten t u kind (get_or way i d).node (widened_node (get_or ends i none) low high (node_at t.bytes kind (get_or way i d).node))
     → IsWidened s t kind way (take i ends) low high → IsWidened s u kind way (take (suc i) ends) low high
 widened_on s t u kind root level way owned list k e ends i d none low high on within r is = record {
   keys = widened_more s.bytes t.bytes u.bytes kind low high way ends i d none on within (way_different t kind root level way owned list k e)
@@ -180,7 +180,7 @@ pub both_ends : (s t u : Space) (kind : Kind) (at : ℕ) (end : End) (low high :
     → IsRewritten t u kind at (record (node_at t.bytes kind at) {
       keys = if end.last then slice_set (node_at t.bytes kind at).keys (length (node_at t.bytes kind at).children) high else (node_at t.bytes kind at).keys;
     })
-    → IsRewritten s u kind at (widened end low high (node_at s.bytes kind at))
+    → IsRewritten s u kind at (widened_node end low high (node_at s.bytes kind at))
 both_ends s t u kind at end low high first second =
     rewritten_then s t u kind at _ _ first
     (subst (λ (n : Node). IsRewritten t u kind at (record n { keys = if end.last then slice_set n.keys (length n.children) high else n.keys })) first.says second)

@@ -2,7 +2,7 @@
 -- where it is full, so that its new half comes in above; or a child goes from a node, which goes itself where it has no other.
 use Rattle.std.specs.Prelude.{◌≡◌, ◌≢◌, ℕ, zero, suc, ◌<◌, ◌≤◌, List, [], ◌∷◌, ◌++◌, length, take, drop, slice_index}
 use Rattle.std.specs.List.{insert, remove}
-use Rattle.h5_bytes.specs.Bytes.{undefined}
+use Rattle.h5_bytes.specs.Bytes.{undefined_address}
 use Rattle.h5_model.specs.Format.Rows.{Reading, next_row, IsRow, AreRows, leaves}
 use Rattle.h5_btree.specs.declared.way.Step.{Step}
 
@@ -17,7 +17,7 @@ pub record IsBelow (V : Reading) (m p i a : ℕ) (front back f bk : List ℕ) : 
   pub child : slice_index (V p).children i ≡ a
   pub fronts : front ≡ next_row V f ++ take i (V p).children
   pub backs : back ≡ drop (suc i) (V p).children ++ next_row V bk
-  pub row : IsRow V (suc m) undefined (f ++ p ∷ bk)
+  pub row : IsRow V (suc m) undefined_address (f ++ p ∷ bk)
 
 -- the way from the node a of level m up to the root: each node on it with the place of the one below
 abbrev pub IsWay : Reading → ℕ → ℕ → List Step → ℕ → List ℕ → List ℕ → Type 0
@@ -39,7 +39,7 @@ pub record LacksChild (V : Reading) (m root p : ℕ) (way : List Step) (j child 
   pub front : List ℕ
   pub back : List ℕ
   pub above : IsWay V m root way p front back
-  pub row : IsRow V m undefined (front ++ p ∷ back)
+  pub row : IsRow V m undefined_address (front ++ p ∷ back)
   pub place : j ≤ length (V p).children
   pub under : AreUnder V m (next_row V front ++ (insert (V p).children j child ++ next_row V back)) list
 
@@ -48,7 +48,7 @@ pub record IsOver (V : Reading) (m root p : ℕ) (way : List Step) (i : ℕ) (li
   pub front : List ℕ
   pub back : List ℕ
   pub above : IsWay V m root way p front back
-  pub row : IsRow V m undefined (front ++ p ∷ back)
+  pub row : IsRow V m undefined_address (front ++ p ∷ back)
   pub place : i < length (V p).children
   pub under : AreUnder V m (next_row V front ++ (remove (V p).children i ++ next_row V back)) list
 
@@ -91,9 +91,9 @@ pub record RaisesRoot (V W : Reading) (root j child : ℕ) : Type 0 where
   pub keys : List (List ℕ)
   pub keys_p : List (List ℕ)
   pub keys_q : List (List ℕ)
-  pub at_root : W root ≡ record { level = suc (V root).level; left = undefined; right = undefined; keys = keys; children = p ∷ q ∷ [] }
-  pub at_p : W p ≡ record { level = (V root).level; left = undefined; right = q; keys = keys_p; children = xs }
-  pub at_q : W q ≡ record { level = (V root).level; left = p; right = undefined; keys = keys_q; children = ys }
+  pub at_root : W root ≡ record { level = suc (V root).level; left = undefined_address; right = undefined_address; keys = keys; children = p ∷ q ∷ [] }
+  pub at_p : W p ≡ record { level = (V root).level; left = undefined_address; right = q; keys = keys_p; children = xs }
+  pub at_q : W q ≡ record { level = (V root).level; left = p; right = undefined_address; keys = keys_q; children = ys }
   pub others : (n : ℕ) → (V n).level < 16 → n ≢ root → W n ≡ V n
 
 -- a node goes: its neighbours name each other
@@ -105,7 +105,7 @@ pub record Unlinks (V W : Reading) (p : ℕ) : Type 0 where
 -- a root without children is at level 0
 pub record EmptiesRoot (W : Reading) (root : ℕ) : Type 0 where
   pub keys : List (List ℕ)
-  pub node : W root ≡ record { level = 0; left = undefined; right = undefined; keys = keys; children = [] }
+  pub node : W root ≡ record { level = 0; left = undefined_address; right = undefined_address; keys = keys; children = [] }
 
 -- keys alone are others
 abbrev pub KeepsRows : Reading → Reading → Type 0

@@ -1,7 +1,7 @@
 -- A removal on its way up a tree, in an image (File Format Specification 3.0, section III.A.1).
 use Rattle.std.specs.Prelude.{◌≡◌, ◌≢◌, ◌⊎◌, ℕ, ◌+◌, ◌^◌, ◌<◌, ◌≤◌, List, ◌∷◌, ◌++◌, length}
 use Rattle.std.specs.List.{AllByRecursion, remove}
-use Rattle.h5_bytes.specs.Bytes.{undefined}
+use Rattle.h5_bytes.specs.Bytes.{undefined_address}
 use Rattle.h5_model.specs.Format.Rows.{Node, next_row, IsRow}
 use Rattle.h5_model.specs.Format.Nodes.{Kind, IsNode, HasTree, entries_in, node_at, node_bytes, reading_of, tree_blocks}
 use Rattle.h5_space.specs.Space.{Space}
@@ -74,7 +74,7 @@ pub record EndsInTree (s : Space) (kind : Kind) (root level : ℕ) (way : List S
   pub front : List ℕ
   pub back : List ℕ
   pub leads : IsWay (reading_of s.bytes kind owned) 0 root above step.node front back
-  pub row : IsRow (reading_of s.bytes kind owned) 0 undefined (front ++ step.node ∷ back)
+  pub row : IsRow (reading_of s.bytes kind owned) 0 undefined_address (front ++ step.node ∷ back)
   pub place : step.place < length (reading_of s.bytes kind owned step.node).children
   pub number : k ≡ length (next_row (reading_of s.bytes kind owned) front) + step.place
 

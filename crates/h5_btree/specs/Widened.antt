@@ -22,8 +22,8 @@ ends_along V behind stay [] = []
 ends_along V behind stay (step ∷ way) = end_at V behind (stay == 0) step ∷ ends_along V behind (stay - 1) way
 
 -- a node whose first key is this low one, and whose last key is this high one, where these ends say so
-abbrev pub widened : End → List ℕ → List ℕ → Node → Node
-widened end low high node = record node {
+abbrev pub widened_node : End → List ℕ → List ℕ → Node → Node
+widened_node end low high node = record node {
   keys = let keys = if end.first then slice_set node.keys 0 low else node.keys in
       if end.last then slice_set keys (length node.children) high else keys;
 }
@@ -33,7 +33,7 @@ abbrev pub AreWidened : List ℕ → List ℕ → Kind → List Step → List En
 AreWidened old new kind [] ends low high = ⊤
 AreWidened old new kind (step ∷ way) [] low high = (node_at new kind step.node ≡ node_at old kind step.node) × AreWidened old new kind way [] low high
 AreWidened old new kind (step ∷ way) (end ∷ ends) low high =
-    (node_at new kind step.node ≡ widened end low high (node_at old kind step.node)) × AreWidened old new kind way ends low high
+    (node_at new kind step.node ≡ widened_node end low high (node_at old kind step.node)) × AreWidened old new kind way ends low high
 
 -- the blocks of the nodes on a way
 abbrev pub way_blocks : Kind → List Step → List Block

@@ -29,5 +29,5 @@ abbrev pub with_field : List ℕ → ℕ → ℕ → ℕ → List ℕ
 with_field bytes at size x = with_part at (little_bytes size x) bytes
 
 -- the undefined address: eight bytes of ones
-abbrev pub undefined : ℕ
-undefined = 2 ^ 64 - 1
+abbrev pub undefined_address : ℕ
+undefined_address = 2 ^ 64 - 1

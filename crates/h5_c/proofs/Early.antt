@@ -23,13 +23,13 @@ made_as : {P Q : Fixed → Type 0} {R S : Unmade → Type 0} → ((t : Fixed) �
 made_as holds refused None test is = refused NoSuchType is
 made_as holds refused (Some t) test is = by_test (holds t) (refused WrongRoom) (test t) is
 
-there_as : {P Q : Store → Type 0} {R S : Unmade → Type 0} → ((s : Store) → P s → Q s) → ((u : Unmade) → R u → S u) → (store : Option Store) → IsStorageThere store P R
+there_as : {P Q : Store (List ℕ) → Type 0} {R S : Unmade → Type 0} → ((s : Store (List ℕ)) → P s → Q s) → ((u : Unmade) → R u → S u) → (store : Option (Store (List ℕ))) → IsStorageThere store P R
     → IsStorageThere store Q S
 there_as holds refused None is = refused NoSuchType is
 there_as holds refused (Some s) is = holds s is
 
-array_made_as : {P Q : Fixed → Store → Type 0} {R S : Unmade → Type 0} → ((t : Fixed) (s : Store) → P t s → Q t s) → ((u : Unmade) → R u → S u)
-    → (fixed : Option Fixed) (fill : List ℕ) (store : Option Store) → IsArrayMadeWith fixed fill store P R → IsArrayMadeWith fixed fill store Q S
+array_made_as : {P Q : Fixed → Store (List ℕ) → Type 0} {R S : Unmade → Type 0} → ((t : Fixed) (s : Store (List ℕ)) → P t s → Q t s) → ((u : Unmade) → R u → S u)
+    → (fixed : Option Fixed) (fill : List ℕ) (store : Option (Store (List ℕ))) → IsArrayMadeWith fixed fill store P R → IsArrayMadeWith fixed fill store Q S
 array_made_as {P} {Q} {R} {S} holds refused fixed fill store =
     made_as {P = λ t. IsStorageThere store (P t) R} {Q = λ t. IsStorageThere store (Q t) S} {R = R} {S = S} (λ t. there_as {P = P t} {Q = Q t} {R = R} {S = S} (holds t) refused store) refused fixed (is_one fill)
 
@@ -62,7 +62,7 @@ module _ (before after : Held) (status : ℕ) where
       in
       made_as gives (λ v no. absurd (let both = sym is ∙ no in cc)) fixed (is_whole bytes) asked
 
-  module _ (path dims maxima fill : List ℕ) (fixed : Option Fixed) (store : Option Store) (made : Result Spec Unmade)
+  module _ (path dims maxima fill : List ℕ) (fixed : Option Fixed) (store : Option (Store (List ℕ))) (made : Result Spec Unmade)
       (asked : IsArrayMadeWith fixed fill store (λ t s. IsMadeOf (given_array t dims maxima s fill) made) (λ v. made ≡ Err v)) where
     pub uncreated : (u : Unmade) → made ≡ Err u → after ≡ before → status ≡ number_of u
         → IsArrayMadeWith fixed fill store (λ t s. HasMadeAndEdited before (creating path t dims maxima s fill) after status) (λ v. IsRefusedEarly before after (number_of v) status)
@@ -73,7 +73,7 @@ module _ (before after : Held) (status : ℕ) where
     pub created : (spec : Spec) → made ≡ Ok spec → HasEdited before (CreateDataset path spec) after status
         → IsArrayMadeWith fixed fill store (λ t s. HasMadeAndEdited before (creating path t dims maxima s fill) after status) (λ v. IsRefusedEarly before after (number_of v) status)
     created spec is edited =
-        let gives = λ (t : Fixed) (s : Store) (of : IsMadeOf (given_array t dims maxima s fill) made).
+        let gives = λ (t : Fixed) (s : Store (List ℕ)) (of : IsMadeOf (given_array t dims maxima s fill) made).
         inl (subst (λ (x : Spec). HasEdited before (CreateDataset path x) after status) (subst (IsMadeOf (given_array t dims maxima s fill)) is of) edited)
         in
         array_made_as gives (λ v no. absurd (let both = sym is ∙ no in cc)) fixed fill store asked

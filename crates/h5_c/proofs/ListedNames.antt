@@ -6,22 +6,22 @@ use Rattle.h5_model.specs.Edits.EditFaults.{fault_number}
 use Rattle.h5_model.specs.declared.edit_fault.EditFault.{EditFault}
 use Rattle.h5_model.specs.declared.edit_fault.EditFault.TheVariants.{NoMemory}
 use Rattle.h5_query.specs.Place.{IsNumber, IsNoObject}
-use Rattle.h5_c.specs.Asked.{HasAttributesListed, HasListed, HasNumber, ended}
+use Rattle.h5_c.specs.Asked.{HasAttributesListed, HasListed, HasNumber, names_with_ends}
 use Rattle.h5_c.specs.declared.held.Held.{Held}
 
 module _ (before after : Held) (path : List ℕ) (kept : after.session ≡ before.session) where
   module _ (file : FileState) (same : file ≡ before.session.file) where
     -- the names are told
-    pub links_listed : (names told : List (List ℕ)) → HasLinksNamed file.tree path names → told ≡ names → after.text.items ≡ ended told → HasListed before path after 0
+    pub links_listed : (names told : List (List ℕ)) → HasLinksNamed file.tree path names → told ≡ names → after.text.items ≡ names_with_ends told → HasListed before path after 0
     links_listed names told named are text = record {
       session = kept;
-      listed = record { answer = Ok names; status_is = refl; says = (subst (λ (f : FileState). HasLinksNamed f.tree path names) same named, text ∙ ap ended are) };
+      listed = record { answer = Ok names; status_is = refl; says = (subst (λ (f : FileState). HasLinksNamed f.tree path names) same named, text ∙ ap names_with_ends are) };
     }
 
-    pub attributes_listed : (names told : List (List ℕ)) → HasAttributeNames file.tree path names → told ≡ names → after.text.items ≡ ended told → HasAttributesListed before path after 0
+    pub attributes_listed : (names told : List (List ℕ)) → HasAttributeNames file.tree path names → told ≡ names → after.text.items ≡ names_with_ends told → HasAttributesListed before path after 0
     attributes_listed names told named are text = record {
       session = kept;
-      listed = record { answer = Ok names; status_is = refl; says = (subst (λ (f : FileState). HasAttributeNames f.tree path names) same named, text ∙ ap ended are) };
+      listed = record { answer = Ok names; status_is = refl; says = (subst (λ (f : FileState). HasAttributeNames f.tree path names) same named, text ∙ ap names_with_ends are) };
     }
 
     -- memory was refused for the text of names that were found

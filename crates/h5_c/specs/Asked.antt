@@ -11,8 +11,8 @@ use Rattle.h5_model.specs.Tree.Objects.{Tree, Attribute}
 use Rattle.h5_model.specs.declared.edit_fault.EditFault.{EditFault}
 use Rattle.h5_query.specs.declared.kind.Kind.{Kind}
 use Rattle.h5_query.specs.declared.kind.Kind.TheVariants as kind
-use Rattle.h5_query.specs.declared.kind.StoreKind.{StoreKind}
-use Rattle.h5_query.specs.declared.kind.StoreKind.TheVariants as store
+use Rattle.h5_model.specs.declared.dataset.Store.{Store}
+use Rattle.h5_model.specs.declared.dataset.Store.TheVariants as store
 use Rattle.h5_c.specs.Status.{HasStatus}
 use Rattle.h5_c.specs.Calls.{IsCopied}
 use Rattle.h5_c.specs.declared.ask.About.{About}
@@ -20,8 +20,8 @@ use Rattle.h5_c.specs.declared.given.CType.{CType}
 use Rattle.h5_c.specs.declared.held.Held.{Held}
 
 -- each name, followed by a zero byte
-abbrev pub ended : List (List ℕ) → List ℕ
-ended = flat_map (λ (name : List ℕ). name ++ 0 ∷ [])
+abbrev pub names_with_ends : List (List ℕ) → List ℕ
+names_with_ends = flat_map (λ (name : List ℕ). name ++ 0 ∷ [])
 
 pub record IsType (t : Fixed) (of : CType) : Type 0 where
   pub size : of.size ≡ t.size
@@ -29,19 +29,19 @@ pub record IsType (t : Fixed) (of : CType) : Type 0 where
   pub big : of.big ≡ t.big
 
 -- 1 compact, 2 contiguous, 3 in chunks, of which the sizes are told too; all else stays
-abbrev pub IsStorageTold : StoreKind → About → About → Type 0
+abbrev pub IsStorageTold : Store (List ℕ) → About → About → Type 0
 IsStorageTold store.Compact old new = new ≡ record old { storage = 1 }
 IsStorageTold store.Contiguous old new = new ≡ record old { storage = 2 }
 IsStorageTold (store.Chunked sizes) old new = (new ≡ record old { storage = 3; chunks = new.chunks }) × (take (length sizes) new.chunks ≡ sizes)
 
 -- the form of storage by its number
-abbrev pub IsStorageNumber : StoreKind → About → Type 0
+abbrev pub IsStorageNumber : Store (List ℕ) → About → Type 0
 IsStorageNumber store.Compact about = about.storage ≡ 1
 IsStorageNumber store.Contiguous about = about.storage ≡ 2
 IsStorageNumber (store.Chunked sizes) about = (about.storage ≡ 3) × (take (length sizes) about.chunks ≡ sizes)
 
 -- 1 a group, 2 an array of this type, these sizes and maxima, this storage and this fill, 3 a soft link
-pub record IsArrayTold (t : Fixed) (dims maxima : List ℕ) (stored : StoreKind) (fill : ℤ) (about : About) : Type 0 where
+pub record IsArrayTold (t : Fixed) (dims maxima : List ℕ) (stored : Store (List ℕ)) (fill : ℤ) (about : About) : Type 0 where
   pub kind : about.kind ≡ 2
   pub of : IsType t about.of
   pub rank : about.rank ≡ length dims
@@ -65,12 +65,12 @@ HasNumber tree path old new = HasStatus fault_number (λ (n : ℕ). IsNumber tre
 -- the text is the names; a refusal leaves the session and its text as they were
 pub record HasListed (before : Held) (path : List ℕ) (after : Held) (status : ℕ) : Type 0 where
   pub session : after.session ≡ before.session
-  pub listed : HasStatus fault_number (λ (names : List (List ℕ)). HasLinksNamed before.session.file.tree path names × (after.text.items ≡ ended names))
+  pub listed : HasStatus fault_number (λ (names : List (List ℕ)). HasLinksNamed before.session.file.tree path names × (after.text.items ≡ names_with_ends names))
       (λ e. IsListRefused before.session.file.tree path e × (after.text ≡ before.text)) status
 
 pub record HasAttributesListed (before : Held) (path : List ℕ) (after : Held) (status : ℕ) : Type 0 where
   pub session : after.session ≡ before.session
-  pub listed : HasStatus fault_number (λ (names : List (List ℕ)). HasAttributeNames before.session.file.tree path names × (after.text.items ≡ ended names))
+  pub listed : HasStatus fault_number (λ (names : List (List ℕ)). HasAttributeNames before.session.file.tree path names × (after.text.items ≡ names_with_ends names))
       (λ e. IsUnlisted before.session.file.tree path e × (after.text ≡ before.text)) status
 
 -- the text of a soft link is told, or memory was refused for it; anything else is none. A refusal leaves the text as it was

@@ -9,7 +9,7 @@ use Rattle.h5_file.specs.Repacked.{IsRepackRefused}
 use Rattle.h5_file.specs.Session.{SessionState, IsSessionEdited, IsSessionRepacked, without_views}
 use Rattle.h5_file.specs.State.{created_state}
 use Rattle.h5_model.specs.Edits.EditFaults.{fault_number}
-use Rattle.h5_model.specs.Faults.Breaches.{cut}
+use Rattle.h5_model.specs.Faults.Breaches.{up_to_end}
 use Rattle.h5_model.specs.declared.edit_fault.EditFault.{EditFault}
 use Rattle.h5_model.specs.declared.edits.Edit.{Edit}
 use Rattle.h5_model.specs.declared.open_fault.Cause.TheVariants as cause
@@ -43,7 +43,7 @@ HasCreated is_open held =
 
 -- the file that the bytes are up to their end of file address
 pub record IsFileOf (bytes : List ℕ) (file : FileState) : Type 0 where
-  pub image : file.image ≡ cut bytes
+  pub image : file.image ≡ up_to_end bytes
   pub free : file.free ≡ []
   pub sound : IsSound file
   pub numbers : file.next ≡ len file.tree

@@ -57,27 +57,27 @@ abbrev pub maximum_of : ℕ → Option ℕ
 maximum_of m = if m == 18446744073709551615 then None else Some m
 
 -- a form of storage as C names it: 1 compact, 2 contiguous, 3 in chunks of these sizes
-abbrev pub store_of_number : ℕ → List ℕ → Option Store
+abbrev pub store_of_number : ℕ → List ℕ → Option (Store (List ℕ))
 store_of_number n chunks =
     if n == 1 then Some stored.Compact else if n == 2 then Some stored.Contiguous else if n == 3 then Some (stored.Chunked chunks) else None
 
 -- there is such a form, and the list of its chunk sizes was made or memory was refused; or there is no such form
-abbrev pub IsStoreMade : Option Store → Result Store Unmade → Type 0
+abbrev pub IsStoreMade : Option (Store (List ℕ)) → Result (Store (List ℕ)) Unmade → Type 0
 IsStoreMade None made = made ≡ Err unmade.NoSuchType
 IsStoreMade (Some store) made = IsMadeOf store made
 
 -- an array of this type, these sizes and maxima, this storage and this fill
-abbrev pub given_array : Fixed → List ℕ → List ℕ → Store → List ℕ → Spec
+abbrev pub given_array : Fixed → List ℕ → List ℕ → Store (List ℕ) → List ℕ → Spec
 given_array t dims maxima store fill = record { fixed = t; dims = dims; maxima = map maximum_of maxima; store = store; fill = value_of t fill }
 
 -- the edit that creates it
-abbrev pub creating : List ℕ → Fixed → List ℕ → List ℕ → Store → List ℕ → Edit
+abbrev pub creating : List ℕ → Fixed → List ℕ → List ℕ → Store (List ℕ) → List ℕ → Edit
 creating path t dims maxima store fill = CreateDataset path (given_array t dims maxima store fill)
 
-abbrev pub IsStorageThere : Option Store → (Store → Type 0) → (Unmade → Type 0) → Type 0
+abbrev pub IsStorageThere : Option (Store (List ℕ)) → (Store (List ℕ) → Type 0) → (Unmade → Type 0) → Type 0
 IsStorageThere None holds refused = refused unmade.NoSuchType
 IsStorageThere (Some store) holds refused = holds store
 
 -- what holds where there is such a type and such a storage, and the fill is one value; else what holds for the reason why not
-abbrev pub IsArrayMadeWith : Option Fixed → List ℕ → Option Store → (Fixed → Store → Type 0) → (Unmade → Type 0) → Type 0
+abbrev pub IsArrayMadeWith : Option Fixed → List ℕ → Option (Store (List ℕ)) → (Fixed → Store (List ℕ) → Type 0) → (Unmade → Type 0) → Type 0
 IsArrayMadeWith fixed fill store holds refused = IsMadeWith fixed (is_one fill) (λ t. IsStorageThere store (holds t) refused) refused

@@ -20,9 +20,9 @@ abbrev pub heap : Heap.the_row.Denot
 heap = record { memory = record { seal = tt } }
 
 -- the right to free the block of a value of this type
-abbrev pub freed : Ty → Ptr → Fml
-freed = ghosts.dealloc_token heap
+abbrev pub free_right : Ty → Ptr → Fml
+free_right = ghosts.dealloc_token heap
 
 abbrev pub slot_owns : Bool → Ptr → InSlot → Fml
-slot_owns true p x = box_owns freed the_row p x
+slot_owns true p x = box_owns free_right the_row p x
 slot_owns false p x = ftrue

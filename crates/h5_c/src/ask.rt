@@ -1,7 +1,7 @@
 //! What stands at a path, with its attributes.
 
 ghost use Rattle.std.specs.Prelude.{◌≡◌, ◌∷◌, [], ◌++◌, IfOk, OnOk, true, false, length, map, take};
-ghost use Rattle.h5_c.specs.Asked.{HasAttributeBytes, HasAttributesListed, HasLinkText, HasListed, HasNumber, HasTold, HasToldAttribute, IsStorageTold, IsAbout, IsType, ended};
+ghost use Rattle.h5_c.specs.Asked.{HasAttributeBytes, HasAttributesListed, HasLinkText, HasListed, HasNumber, HasTold, HasToldAttribute, IsStorageTold, IsAbout, IsType, names_with_ends};
 ghost use Rattle.h5_c.specs.Calls.{IsKeptOpen};
 
 use crate::given::{CHUNKED, COMPACT, CONTIGUOUS, CType};
@@ -9,7 +9,7 @@ use crate::held::Held;
 use crate::room::copy;
 use crate::slot::Slot;
 use crate::status::{DONE, NO_MEMORY, NOT_A_SOFT_LINK, WRONG_STATE};
-use h5_file::{Dims, Fixed, Kind, LinkNames, StoreKind};
+use h5_file::{Dims, Fixed, Kind, LinkNames, Store};
 use h5_types::encode;
 use std::alloc::{AllocError, Global};
 
@@ -62,13 +62,13 @@ fn tell_type(fixed: &Fixed, of: &mut CType)
 }
 
 /// Tells how cells are stored.
-fn tell_storage(store: &StoreKind, about: &mut About)
+fn tell_storage(store: &Store<Dims>, about: &mut About)
     ensures { IsStorageTold store.now about.old about.new }
 {
     match store {
-        StoreKind::Compact => about.storage = COMPACT,
-        StoreKind::Contiguous => about.storage = CONTIGUOUS,
-        StoreKind::Chunked(sizes) => {
+        Store::Compact => about.storage = COMPACT,
+        Store::Contiguous => about.storage = CONTIGUOUS,
+        Store::Chunked(sizes) => {
             let _rank = tell_sizes(sizes, &mut about.chunks);
             about.storage = CHUNKED;
         }
@@ -101,7 +101,7 @@ fn tell_kind(kind: &Kind<'_>, about: &mut About)
 
 /// The names in a group, each followed by a zero byte.
 fn ended_links(alloc: Global, names: LinkNames<'_>) -> Result<Vec<u8>, AllocError>
-    ensures { IfOk result (λ text. text.items ≡ ended names.entry) }
+    ensures { IfOk result (λ text. text.items ≡ names_with_ends names.entry) }
 {
     let mut text = Vec::new(alloc);
     for name in names {
@@ -112,7 +112,7 @@ fn ended_links(alloc: Global, names: LinkNames<'_>) -> Result<Vec<u8>, AllocErro
 
 /// The names, each followed by a zero byte.
 fn ended_names(alloc: Global, names: &[&[u8]]) -> Result<Vec<u8>, AllocError>
-    ensures { IfOk result (λ text. text.items ≡ ended (map (λ name. name.now) names.now)) }
+    ensures { IfOk result (λ text. text.items ≡ names_with_ends (map (λ name. name.now) names.now)) }
 {
     let room = names.iter().fold(0, |room: usize, name| {
         room.saturating_add(name.len()).saturating_add(1)

@@ -129,7 +129,7 @@ pub(crate) fn attr_spec(
 }
 
 /// A form of storage, as C names it.
-fn storage_named(alloc: Global, storage: u32, chunks: &[u32]) -> Result<Store, Unmade>
+fn storage_named(alloc: Global, storage: u32, chunks: &[u32]) -> Result<Store<Items<u32>>, Unmade>
     ensures { IsStoreMade (store_of_number storage chunks.now) result }
 {
     match storage {

@@ -6,7 +6,7 @@ use Rattle.std.proofs.lemmas.Grind.{flat_map-append}
 use Rattle.std.proofs.lemmas.Option.{get_or_from_slice_get}
 use Rattle.std.specs.FinMap.{values}
 use Rattle.std.specs.List.{AllByRecursion, filter, zip}
-use Rattle.h5_bytes.specs.Bytes.{undefined}
+use Rattle.h5_bytes.specs.Bytes.{undefined_address}
 use Rattle.h5_model.specs.Format.Chunks.{IsChunkOrdered, chunks_at, chunks_in, offsets_in}
 use Rattle.h5_model.specs.Format.Nodes.{HasTree, Kind, node_at}
 use Rattle.h5_model.specs.Format.Reached.{Shape, level_at, shape_kind}
@@ -210,7 +210,7 @@ module _ (image : List ℕ) (shape : Shape) (root : ℕ) (read : AreChunksRead i
 
     level_is : (own at).level ≡ level
     level_is =
-        row_level own level undefined at (row_below own d (root ∷ []))
+        row_level own level undefined_address at (row_below own d (root ∷ []))
         (row_is own level (row_below own d (root ∷ [])) (rows_below own d level height (root ∷ []) levels (tree_rows image kind root height owned leaves has))) there
 
     chunk_node : IsChunkNode image shape level at

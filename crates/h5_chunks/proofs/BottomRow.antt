@@ -3,7 +3,7 @@ use Rattle.std.proofs.Common.{◌≡◌, ◌≢◌, ℕ, zero, suc, ◌+◌, ◌
 use Rattle.std.proofs.lemmas.Bool.{cases_lt}
 use Rattle.std.proofs.lemmas.List.{get_or_append_left, get_or-append-add, length-append}
 use Rattle.std.proofs.Math.Seq.{drop-append-add}
-use Rattle.h5_bytes.specs.Bytes.{undefined}
+use Rattle.h5_bytes.specs.Bytes.{undefined_address}
 use Rattle.h5_model.specs.Format.Rows.{Reading, AreRows, IsRow, next_row, nodes, row_below}
 use Rattle.h5_laws.proofs.Rows.{row_level}
 use Rattle.h5_laws.proofs.Subtrees.{index_in}
@@ -21,14 +21,14 @@ module _ (V : Reading) where
   pub bottom_begins : (level : ℕ) (row : List ℕ) (k : ℕ) → AreRows V level row → BeginsAt (nodes V level row) k → drop k (nodes V level row) ≡ row_below V level row
   bottom_begins zero row zero are begins = refl
   bottom_begins zero row (suc k) are begins =
-      absurd (begins.above 0 (omega arith) (level_at_place 0 undefined row 0 are (omega (arith, begins.few))))
+      absurd (begins.above 0 (omega arith) (level_at_place 0 undefined_address row 0 are (omega (arith, begins.few))))
   bottom_begins (suc level) row k are begins =
       let next : List ℕ = next_row V row in
       let rest : List ℕ = nodes V level next in
       let long : length (row ++ rest) ≡ length row + length rest = length-append row rest in
       let past : length row ≤ k = elim (cases_lt k (length row)) [
         | inl low ↦
-            let up : (V (get_or row k 0)).level ≡ suc level = level_at_place (suc level) undefined row k are.0 low in
+            let up : (V (get_or row k 0)).level ≡ suc level = level_at_place (suc level) undefined_address row k are.0 low in
             let down : (V (get_or (row ++ rest) k 0)).level ≡ 0 = begins.here (omega (arith, low, long)) in
             let same : get_or (row ++ rest) k 0 ≡ get_or row k 0 = get_or_append_left row rest 0 k low in
             let bad : suc level ≡ 0 = sym up ∙ sym (ap (λ (n : ℕ). (V n).level) same) ∙ down in absurd (omega (arith, bad))

@@ -9,17 +9,15 @@ use Rattle.std.specs.List.{AllByRecursion}
 use Rattle.h5_bytes.specs.Blocks.{Inside, block, cover, holds}
 use Rattle.h5_bytes.specs.declared.Block.{Block}
 use Rattle.h5_bytes.proofs.BlockLaws.{all_right, cover-append, holds-le, holds_in}
-use Rattle.h5_model.specs.Format.Chunks.{Chunks}
 use Rattle.h5_model.specs.Format.Rows.{Reading, leaves}
 use Rattle.h5_model.specs.Format.Nodes.{node_at, tree_blocks}
 use Rattle.h5_model.specs.Format.Reached.{Shape, shape_kind}
 use Rattle.h5_model.specs.Format.Superblock.{chunk_k, superblock_length}
-use Rattle.h5_model.proofs.KLaws.{same_chunk}
 use Rattle.h5_space.specs.Space.{Space}
 use Rattle.h5_btree.specs.Descent.{IsWayTo}
 use Rattle.h5_btree.specs.declared.way.Step.{Step}
 use Rattle.h5_chunks.specs.Bushy.{IsBushy, IsBushyBelow, is_low_level}
-use Rattle.h5_chunks.specs.Edited.{AreChunksApart, CanBeStored, HasChunksNow, IsFullAt}
+use Rattle.h5_chunks.specs.Edited.{AreChunksApart, CanBeStored, IsFullAt}
 use Rattle.h5_chunks.specs.Told.{addresses_told, chunk_nodes_told}
 use Rattle.h5_chunks.specs.Way.{chunk_behind}
 use Rattle.h5_chunks.proofs.BushyNodes.{bushy_leaves, least_leaves, least_power}
@@ -141,9 +139,3 @@ never_full s shape root low offsets chunks storable short is_low bushy full =
     let many = chunks_many s shape root chunks some low power wide (subst (λ (l : ℕ). IsBushyBelow V k low l root) full.high bushy) in
     let same : length (addresses_told s.bytes shape root) ≡ length (leaves V 15 (root ∷ [])) = ap (λ (l : ℕ). length (leaves V l (root ∷ []))) full.high in
     omega (arith, few, many, same, short)
-
--- so it stays after each chunk that is stored
-pub never_full_now : (old new : Space) (shape : Shape) (root low : ℕ) (chunks : Chunks) (offsets : List ℕ) → HasChunksNow old new shape root chunks → CanBeStored shape
-    → length new.bytes ≤ 2 ^ 31 → is_low_level (chunk_k old.bytes) low ≡ true → IsBushy new.bytes shape root low → IsFullAt new.bytes shape root offsets → ⊥
-never_full_now old new shape root low chunks offsets now storable short is_low bushy full =
-    never_full new shape root low offsets now.stand storable short (ap (λ k. is_low_level k low) (same_chunk new.bytes old.bytes now.k) ∙ is_low) bushy full

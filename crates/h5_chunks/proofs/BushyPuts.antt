@@ -5,7 +5,7 @@ use Rattle.std.specs.Prelude.{if◌then◌else◌}
 use Rattle.std.specs.List.{AllByRecursion, insert, remove}
 use Rattle.std.proofs.lemmas.List.{length-drop, length-take-le, take-append-drop}
 use Rattle.std.proofs.lemmas.List.Edits.{length-insert}
-use Rattle.h5_bytes.specs.Bytes.{undefined}
+use Rattle.h5_bytes.specs.Bytes.{undefined_address}
 use Rattle.h5_bytes.proofs.BlockLaws.{all_append, all_left, all_right}
 use Rattle.h5_model.specs.Format.Rows.{Node, Reading, IsRow, next_row}
 use Rattle.h5_model.specs.Format.Nodes.{Kind, HasTree, node_at, reading_of}
@@ -22,7 +22,7 @@ use Rattle.h5_btree.specs.Widened.{AreWidened}
 use Rattle.h5_btree.specs.declared.way.Step.{Step}
 use Rattle.h5_btree.specs.declared.widening.End.{End}
 use Rattle.h5_btree.proofs.ClimbSteps.{at_or}
-use Rattle.h5_btree.proofs.KeyedClimb.{left_least}
+use Rattle.h5_btree.proofs.HalfLists.{left_bounds}
 use Rattle.h5_btree.proofs.KeyedGrown.{insert_behind}
 use Rattle.h5_btree.proofs.KeyedOff.{off_is, off_out, off_steps}
 use Rattle.h5_btree.proofs.KeyedOwn.{all_stand}
@@ -92,7 +92,7 @@ module _ (s t : Space) (kind : Kind) (root level : ℕ) (way : List Step) (owned
       bushy_same V Y kind.k low level root (λ n there. ap (λ (o : Node). o.children)
       (read_same s.bytes kind root level owned list e.tree n (subst (In n) (sym all) there))) is
 
-  there : (m p : ℕ) (f bk : List ℕ) → m ≤ level → IsRow Y m undefined (f ++ p ∷ bk) → Y p ≡ V p
+  there : (m p : ℕ) (f bk : List ℕ) → m ≤ level → IsRow Y m undefined_address (f ++ p ∷ bk) → Y p ≡ V p
   there m p f bk deep row =
       let top = e.tree.low in
       let out = off_out s t kind root level way owned list number e others address address all_same in
@@ -180,7 +180,7 @@ module _ (s t : Space) (kind : Kind) (root level : ℕ) (way : List Step) (owned
     halves m j c l r ns full place all left right =
         let n = left_count kind.k j in
         let all_ns : List ℕ = insert ns j c in
-        let half = left_least kind.k j in
+        let half = left_bounds kind.k j in
         let least = least_low kind.k low m some in
         let long = length-insert ns j c place in
         let count_l : length (W l).children ≡ n = ap (λ (xs : List ℕ). length xs) left ∙ length-take-le n all_ns (omega (arith, half.1, long, full, some)) in
@@ -201,7 +201,7 @@ module _ (s t : Space) (kind : Kind) (root level : ℕ) (way : List Step) (owned
     IsDone = (Below W level root × ((W root).level ≡ (V root).level)) ⊎ (Below W (suc level) root × ((W root).level ≡ suc (V root).level))
 
     climbs : (above : List Step) (m p j : ℕ) (keys : List ℕ) (c : ℕ) (f bk : List ℕ) → length above + m ≡ level → IsWay Y m root above p f bk
-        → IsRow Y m undefined (f ++ p ∷ bk) → IsOffWay Y W address address m above → IsPutAlong s.bytes t.bytes kind p above j keys c → j ≤ length (Y p).children
+        → IsRow Y m undefined_address (f ++ p ∷ bk) → IsOffWay Y W address address m above → IsPutAlong s.bytes t.bytes kind p above j keys c → j ≤ length (Y p).children
         → AllBushy W m (insert (Y p).children j c) → IsDone
     climbs [] m p j keys c f bk sum w row beside (inl come) place all =
         let deep : m ≡ level = omega (arith, sum) in

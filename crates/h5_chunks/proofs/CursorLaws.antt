@@ -1,9 +1,8 @@
 -- A cursor of a tree of chunks stays one where the bytes of the tree's nodes stay, and K.
-use Rattle.std.proofs.Common.{◌≡◌, ℕ, List, [], ◌∷◌, length, map, Option, Some, None, sym, ap, ◌∙◌, subst}
+use Rattle.std.proofs.Common.{◌≡◌, ℕ, List, [], ◌∷◌, length, Option, Some, None, sym, ap, ◌∙◌, subst}
 use Rattle.std.specs.FinMap.{values}
 use Rattle.std.specs.List.{Contains}
-use Rattle.h5_bytes.specs.Blocks.{IsKept, Keeps, block}
-use Rattle.h5_bytes.proofs.BlockLaws.{all_left}
+use Rattle.h5_bytes.specs.Blocks.{Keeps}
 use Rattle.h5_model.specs.Format.Nodes.{HasTree, Kind, chunk_kind, node_at, reading_of, tree_blocks}
 use Rattle.h5_model.specs.Format.Reached.{Shape, level_at, shape_kind}
 use Rattle.h5_model.specs.Format.Rows.{Reading, row_below}
@@ -16,7 +15,7 @@ use Rattle.h5_laws.proofs.Subtrees.{all_agree}
 use Rattle.h5_btree.specs.declared.way.Step.{Step}
 use Rattle.h5_chunks.specs.Cursor.{IsCursor}
 use Rattle.h5_chunks.specs.Read.{AreChunksRead}
-use Rattle.h5_chunks.specs.Told.{chunk_blocks_told, chunks_told}
+use Rattle.h5_chunks.specs.Told.{chunks_told}
 
 abbrev bottom_row : List ℕ → Kind → ℕ → List ℕ
 bottom_row image kind root = row_below (node_at image kind) (level_at image kind root) (root ∷ [])
@@ -48,10 +47,3 @@ module _ (old new : List ℕ) (shape : Shape) (root : ℕ) (k : chunk_k new ≡ 
     pub cursor_stays : (cursor : Option Step) → IsCursor old shape root cursor → IsCursor new shape root cursor
     cursor_stays None is = tt
     cursor_stays (Some step) is = subst (λ (row : List ℕ). Contains row step.node) (sym bottom_stays) is
-
-  -- where those of all blocks stay
-  pub cursor-same : Keeps old new (chunk_blocks_told old shape root) → (cursor : Option Step) → IsCursor old shape root cursor → IsCursor new shape root cursor
-  cursor-same kept =
-      cursor_stays
-      (all_left (IsKept old new) (tree_blocks (shape_kind old shape) (read.stored).owned) (map (λ (at : ℕ). block at shape.bytes) (values (chunks_told old shape root)))
-      (subst (Keeps old new) (read.stored).laid kept))

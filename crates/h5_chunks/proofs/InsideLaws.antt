@@ -1,7 +1,8 @@
 -- Whether an index is inside an extent, as a test and as a fact.
-use Rattle.std.proofs.Common.{◌≡◌, ℕ, ◌+◌, ◌<◌, List, [], ◌∷◌, Bool, true, false, get_or, length, refl, subst, arith}
+use Rattle.std.proofs.Common.{◌≡◌, ℕ, ◌+◌, ◌<◌, List, [], ◌∷◌, true, false, get_or, length, refl, subst, arith}
 use Rattle.std.proofs.lemmas.Bool.Decides.{nat_tests}
-use Rattle.std.specs.Prelude.{◌&&◌, nat_lt}
+use Rattle.std.specs.Prelude.{nat_lt}
+use Rattle.std.proofs.lemmas.Bool.{and_parts, false_from_ne_true}
 use Rattle.h5_model.specs.Format.Chunks.{offsets_in}
 use Rattle.h5_model.specs.Tree.Places.{IsInside, is_inside}
 use Rattle.h5_chunks.proofs.OffsetLaws.{offset_at, zip_at, zip_from}
@@ -20,16 +21,9 @@ inside_of [] [] h = tt
 inside_of [] (i ∷ is) h = absurd (cc)
 inside_of (d ∷ ds) [] h = absurd (cc)
 inside_of (d ∷ ds) (i ∷ is) h =
-    let split = both (nat_lt i d) (is_inside ds is) h in
+    let split = and_parts (nat_lt i d) (is_inside ds is) h in
     let own : nat_lt i d ≡ true = split.0 in
-    (grind (arith, nat_tests), inside_of ds is split.1) where
-      both : (b c : Bool) → (b && c) ≡ true → (b ≡ true) × (c ≡ true)
-      both true c h = (refl, h)
-      both false c h = absurd (cc)
-
-false_of : (b : Bool) → (b ≡ true → ⊥) → b ≡ false
-false_of true never = absurd (never refl)
-false_of false _ = refl
+    (grind (arith, nat_tests), inside_of ds is split.1)
 
 -- ---- the offsets of a key
 
@@ -44,7 +38,7 @@ module _ (sizes key : List ℕ) where
       subst (λ (n : ℕ). Below (get_or sizes d 0) (offset_at sizes key n)) same (each d low)))
 
   pub key_outside : (d : ℕ) → d < length sizes → (offset_at sizes key d < get_or sizes d 0 → ⊥) → is_inside sizes (offsets_in (length sizes) key) ≡ false
-  key_outside d low out = false_of _ (λ is.
+  key_outside d low out = false_from_ne_true _ (λ is.
       let same : 0 + d ≡ d = omega arith in
       out (subst (λ (n : ℕ). Below (get_or sizes d 0) (offset_at sizes key n)) same
       (zip_at Below (offset_at sizes key) 0 sizes d (inside_of sizes (offsets_in (length sizes) key) is) low)))

@@ -1,7 +1,7 @@
 -- Keys one behind another, as rows of bytes (File Format Specification 3.0, section III.A.1).
 use Rattle.std.proofs.Common.{◌≡◌, ℕ, zero, suc, ◌+◌, ◌*◌, ◌/◌, ◌%◌, ◌<◌, ◌≤◌, List, [], ◌∷◌, ◌++◌, length, map, take, drop, get_or, refl, sym, ap, ◌∙◌, subst, arith, Bool, true, false, cond}
 use Rattle.std.proofs.lemmas.List.{length-append, length-drop, length-map, get_or-map, map-append, drop-drop, drop-append-le, take-append-le, take_all}
-use Rattle.std.proofs.lemmas.Nat.{div-add-mod', div-mul-add, div_below}
+use Rattle.std.proofs.lemmas.Nat.{div-add-mod', div-mul-add}
 use Rattle.std.proofs.Math.Nat.{mul-le-mul_right, mul-mod_left}
 use Rattle.std.specs.Prelude.{slice_index_or}
 use Rattle.std.specs.List.{AllByRecursion}
@@ -9,9 +9,6 @@ use Rattle.h5_bytes.proofs.BlockLaws.{all_append}
 use Rattle.h5_model.specs.Format.Chunks.{offsets_in}
 use Rattle.h5_btree.proofs.OrderLaws.Elements.{all_at}
 use Rattle.h5_chunks.specs.Lists.{AreKeysOf, IsKeyOf, key_length, keys_in, rows}
-
-div_small : (n k : ℕ) → n < k → n / k ≡ 0
-div_small n k low = let under : n / k < 1 = div_below n k 1 (omega (arith, low)) (omega (arith, low)) in omega (arith, under)
 
 -- ---- rows
 
@@ -43,11 +40,6 @@ module _ (long : ℕ) where
 module _ (rank : ℕ) where
   abbrev long : ℕ
   long = key_length rank
-
-  pub keys_none : (bytes : List ℕ) → length bytes < long → keys_in rank bytes ≡ []
-  keys_none bytes few =
-      let none : length bytes / long ≡ 0 = div_small (length bytes) long few in
-      ap (λ n. rows long n bytes) none
 
   pub length-keys : (bytes : List ℕ) → length (keys_in rank bytes) ≡ length bytes / long
   length-keys bytes = length-rows long (length bytes / long) bytes
@@ -100,14 +92,7 @@ module _ (rank : ℕ) where
     pub offsets_more : map (offsets_in rank) (keys_in rank (bytes ++ key)) ≡ map (offsets_in rank) (keys_in rank bytes) ++ offsets_in rank key ∷ []
     offsets_more = ap (map (offsets_in rank)) keys_more ∙ map-append (offsets_in rank) (keys_in rank bytes) (key ∷ [])
 
--- no key, and a key more
-pub no_keys : (rank bytes : ℕ) → rank ≤ 32 → AreKeysOf rank bytes []
-no_keys rank bytes few = record {
-  few = few;
-  whole = let none : 0 ≡ 0 * key_length rank = omega arith in ap (λ n. n % key_length rank) none ∙ mul-mod_left 0 (key_length rank);
-  each = subst (AllByRecursion (IsKeyOf rank bytes)) (sym (keys_none rank [] (omega arith))) tt;
-}
-
+-- a key more
 pub key_more : (rank bytes : ℕ) (keys key : List ℕ) → AreKeysOf rank bytes keys → IsKeyOf rank bytes key → AreKeysOf rank bytes (keys ++ key)
 key_more rank bytes keys key are one = record {
   few = are.few;

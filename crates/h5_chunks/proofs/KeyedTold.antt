@@ -3,7 +3,7 @@
 use Rattle.std.proofs.Common.{◌≡◌, ℕ, zero, suc, ◌+◌, ◌*◌, ◌<◌, ◌≤◌, List, [], ◌∷◌, ◌++◌, length, get_or, map, refl, sym, ap, ◌∙◌, subst, arith}
 use Rattle.std.specs.List.{AllByRecursion, zip}
 use Rattle.std.proofs.lemmas.List.FromFn.{map-range_with_len_more}
-use Rattle.h5_bytes.specs.Bytes.{number_at, undefined}
+use Rattle.h5_bytes.specs.Bytes.{number_at, undefined_address}
 use Rattle.h5_bytes.proofs.BlockLaws.{all_so}
 use Rattle.h5_model.specs.Format.Rows.{Node, Reading, row_below}
 use Rattle.h5_model.specs.Format.Nodes.{HasTree, Kind, node_at, reading_of}
@@ -104,7 +104,7 @@ module _ (kind : Kind) (image : List ℕ) (shape : Shape) (root level : ℕ) (ow
   at_bottom n there zero_level =
       let place = row_of V level n (root ∷ []) (subst (In n) (owned_is image kind root level owned list has) there) in
       let rows = rows_below V place.0 place.1 level (root ∷ []) place.2 (tree_rows image kind root level owned list has) in
-      let here = row_level V place.1 undefined n (row_below V place.0 (root ∷ [])) (row_is V place.1 (row_below V place.0 (root ∷ [])) rows) place.3 in
+      let here = row_level V place.1 undefined_address n (row_below V place.0 (root ∷ [])) (row_is V place.1 (row_below V place.0 (root ∷ [])) rows) place.3 in
       let last : place.0 ≡ level = let sum = place.2 in omega (arith, sum, here, zero_level) in
       subst (λ (d : ℕ). In n (row_below V d (root ∷ []))) last place.3
 
@@ -113,7 +113,7 @@ module _ (kind : Kind) (image : List ℕ) (shape : Shape) (root level : ℕ) (ow
 
   pub bottom_level : (n : ℕ) → In n bottom → (V n).level ≡ 0
   bottom_level n there =
-      row_level V 0 undefined n bottom (row_is V 0 bottom (rows_below V level 0 level (root ∷ []) (omega arith) (tree_rows image kind root level owned list has))) there
+      row_level V 0 undefined_address n bottom (row_is V 0 bottom (rows_below V level 0 level (root ∷ []) (omega arith) (tree_rows image kind root level owned list has))) there
 
   -- IT IS IN ORDER where each node is, and the nodes of level 0 have keys of chunks
   pub to_order : AllByRecursion (λ at. IsOrderedBy (rising_chunk_sides (length shape.sizes)) (node_at image kind) (chunk_lists (length shape.sizes))

@@ -2,7 +2,7 @@
 use Rattle.std.proofs.Common.{◌≡◌, ℕ, zero, suc, ◌+◌, ◌≤◌, List, [], ◌∷◌, length, map, inl, inr, refl, sym, ap, subst, arith}
 use Rattle.std.specs.List.{AllByRecursion, flat_map}
 use Rattle.std.proofs.lemmas.List.{length-append}
-use Rattle.h5_bytes.specs.Bytes.{undefined}
+use Rattle.h5_bytes.specs.Bytes.{undefined_address}
 use Rattle.h5_model.specs.Format.Rows.{Reading, row_below}
 use Rattle.h5_model.specs.Format.Nodes.{HasTree, node_at, node_bytes}
 use Rattle.h5_model.specs.Format.Chunks.{IsChunkOrdered, chunks_in}
@@ -65,7 +65,7 @@ module _ (image : List ℕ) (shape : Shape) (root level : ℕ) (owned addresses 
       let place = row_of V level at (root ∷ []) (subst (In at) (owned_is image (shape_kind image shape) root level owned addresses has) there) in
       let rows = tree_rows image (shape_kind image shape) root level owned addresses has in
       let here : (V at).level ≡ place.1
-      = row_level V place.1 undefined at (row_below V place.0 (root ∷ []))
+      = row_level V place.1 undefined_address at (row_below V place.0 (root ∷ []))
       (row_is V place.1 (row_below V place.0 (root ∷ [])) (rows_below V place.0 place.1 level (root ∷ []) place.2 rows)) place.3 in
       let lists = lists_below V (chunk_lists rank) (V at).level (V at) in
       let some = subst (λ (l : ℕ). AllByRecursion (λ (xs : List (List ℕ × ℕ)). 1 ≤ length xs) (lists_below V (chunk_lists rank) l (V at))) (sym here)

@@ -16,7 +16,6 @@ pub mod ChunkThere
 pub mod EndOfWay
 pub mod ToldLaws
 pub mod CursorLaws
-pub mod ShapeLaws
 pub mod InsideLaws
 pub mod HeldLaws
 pub mod BehindLaws

@@ -5,7 +5,7 @@ use Rattle.std.specs.Ordering.{nat_cmp}
 use Rattle.std.specs.Cmp.Lexicographic.{slice_cmp}
 use Rattle.std.specs.FinMap.{empty, from_sorted, is_sorted}
 use Rattle.std.proofs.lemmas.List.{nil_from_length}
-use Rattle.h5_bytes.specs.Bytes.{number_at, part, undefined}
+use Rattle.h5_bytes.specs.Bytes.{number_at, part, undefined_address}
 use Rattle.h5_bytes.specs.Blocks.{block, cover, holds}
 use Rattle.h5_bytes.specs.declared.Block.{Block}
 use Rattle.h5_bytes.proofs.BlockLaws.{holds-inner}
@@ -46,11 +46,11 @@ head_counts : entries_in empty_head ≡ 0
 unfolding number_at
 head_counts = refl
 
-head_left : number_at empty_head 8 8 ≡ undefined
+head_left : number_at empty_head 8 8 ≡ undefined_address
 unfolding number_at
 head_left = refl
 
-head_right : number_at empty_head 16 8 ≡ undefined
+head_right : number_at empty_head 16 8 ≡ undefined_address
 unfolding number_at
 head_right = refl
 
@@ -91,10 +91,10 @@ module _ (t : Space) (shape : Shape) (at : ℕ) (inside : at + node_length (shap
   level_0 : node.level ≡ 0
   level_0 = sym (level_is kind bytes node refl) ∙ level_same kind empty_head bytes front
 
-  left : node.left ≡ undefined
+  left : node.left ≡ undefined_address
   left = sym (left_is kind bytes node refl) ∙ left_same empty_head bytes siblings ∙ head_left
 
-  right : node.right ≡ undefined
+  right : node.right ≡ undefined_address
   right = sym (right_is kind bytes node refl) ∙ right_same empty_head bytes siblings ∙ head_right
 
   alone : node.children ≡ []
@@ -108,7 +108,7 @@ module _ (t : Space) (shape : Shape) (at : ℕ) (inside : at + node_length (shap
     low = omega arith;
     formed = (form, tt);
     filled = λ high. absurd (omega (arith, high));
-    rows = subst (λ (n : Node). (n.level ≡ 0) × (n.left ≡ undefined) × (n.right ≡ undefined) × Unit {0}) (sym read) (level_0, left, right, tt);
+    rows = subst (λ (n : Node). (n.level ≡ 0) × (n.left ≡ undefined_address) × (n.right ≡ undefined_address) × Unit {0}) (sym read) (level_0, left, right, tt);
     owns = refl;
     all = sym (append-nil (V at).children ∙ ap (λ (n : Node). n.children) read ∙ alone);
   }

@@ -2,7 +2,7 @@
 use Rattle.std.proofs.Common.{◌≡◌, ℕ, ◌+◌, ◌≤◌, List, [], ◌∷◌, ◌++◌, length, map, inl, inr, refl, sym, ap, ◌∙◌, subst, arith}
 use Rattle.std.specs.Prelude.{◌⊎◌}
 use Rattle.std.specs.List.{AllByRecursion, Contains}
-use Rattle.h5_bytes.specs.Bytes.{undefined}
+use Rattle.h5_bytes.specs.Bytes.{undefined_address}
 use Rattle.h5_bytes.specs.Blocks.{Inside}
 use Rattle.h5_bytes.specs.declared.Block.{Block}
 use Rattle.h5_bytes.proofs.BlockLaws.{all_left}
@@ -10,7 +10,7 @@ use Rattle.h5_model.specs.Format.Rows.{AreRows, Reading, row_below, nodes}
 use Rattle.h5_model.specs.Format.Nodes.{node_at, node_block, tree_blocks}
 use Rattle.h5_model.specs.Format.Chunks.{IsChunkOrdered, chunks_at, chunks_in}
 use Rattle.h5_model.specs.Format.Links.{Before}
-use Rattle.h5_model.specs.Format.Reached.{Named, named, ChunkNode, Shape, shape_kind, level_at}
+use Rattle.h5_model.specs.Format.Reached.{Named, naming_of, ChunkNode, Shape, shape_kind, level_at}
 use Rattle.h5_model.specs.Faults.TreeFaults.{ChunksDescend, ChunkOrderBreach}
 use Rattle.h5_model.specs.declared.open_fault.Cause.{Cause}
 use Rattle.h5_model.specs.declared.open_fault.Cause.TheVariants.{KeyOrder}
@@ -53,7 +53,7 @@ module _ (image : List ℕ) (shape : Shape) (root : ℕ) (owned addresses : List
   descend_level : (at : ℕ) → ChunksDescend image shape root at → (V at).level ≡ 0
   descend_level at descend =
       let rows = tree_rows image (shape_kind image shape) root t.level owned addresses t.tree in
-      row_level V 0 undefined at (row_below V t.level (root ∷ []))
+      row_level V 0 undefined_address at (row_below V t.level (root ∷ []))
       (row_is V 0 (row_below V t.level (root ∷ [])) (rows_below V t.level 0 t.level (root ∷ []) (omega arith) rows)) (descend_bottom at descend)
 
   -- ---- the nodes of level 0
@@ -93,7 +93,7 @@ module _ (image : List ℕ) (shape : Shape) (root : ℕ) (owned addresses : List
         (all_left IsInside (tree_blocks (shape_kind image shape) owned) (map (leaf_block image (OfChunks shape)) addresses) inside)
         (in_map (node_block (shape_kind image shape)) at owned there) in
         let level = reached_level image shape root t.level (tree_rows image (shape_kind image shape) root t.level owned addresses t.tree) top by.0 by.1 at depth by.2 in
-        (named by.0 (ChunkNode shape root by.1) at depth, by.2, refl, (block, breach by.1 level))
+        (naming_of by.0 (ChunkNode shape root by.1) at depth, by.2, refl, (block, breach by.1 level))
 
     pub order_refused : (cause : Cause) (address : ℕ) → IsChunkOrderRefused image shape root owned cause address → IsFault image cause address
     order_refused KeyOrder address (inl (there, breaks)) = at_node address (in_contains address owned there) (λ l level. inl breaks)

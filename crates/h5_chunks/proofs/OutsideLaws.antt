@@ -1,5 +1,5 @@
 -- Chunks that hold no cell of an extent are taken out one by one; those that hold one are left.
-use Rattle.std.proofs.Common.{◌≡◌, ℕ, ◌+◌, ◌<◌, ◌&&◌, List, [], ◌∷◌, ◌++◌, length, map, take, get_or, refl, sym, ap, ap₂, ◌∙◌, subst, Bool, true, false, cond, not, Option, Some, None, IsSome, inl}
+use Rattle.std.proofs.Common.{◌≡◌, ℕ, ◌+◌, ◌<◌, List, [], ◌∷◌, ◌++◌, length, map, take, get_or, refl, sym, ap, ap₂, ◌∙◌, subst, Bool, true, false, cond, not, Option, Some, None, IsSome, inl}
 use Rattle.std.specs.Prelude.{T}
 use Rattle.std.specs.Ordering.{nat_cmp, eq_by_cmp, is_lt}
 use Rattle.std.specs.Cmp.{Equal-is, tied_itself}
@@ -11,11 +11,13 @@ use Rattle.std.proofs.lemmas.List.Elements.{filter-append}
 use Rattle.std.specs.List.{filter}
 use Rattle.std.specs.FinMap.Entries.{below_all, find-append}
 use Rattle.std.specs.FinMap.{from_sorted}
+use Rattle.std.proofs.lemmas.Bool.{not-true}
 use Rattle.h5_model.specs.Format.Chunks.{Chunks}
 use Rattle.h5_model.specs.Tree.Places.{is_inside}
 use Rattle.h5_model.proofs.ReachLaws.{halves}
 use Rattle.h5_laws.proofs.Lists.{In, in_right}
 use Rattle.h5_laws.proofs.Maps.{get_of_entry, true_of}
+use Rattle.h5_laws.proofs.Numbered.{joined}
 use Rattle.h5_chunks.specs.Lists.{offsets_of_outer, offsets_outside}
 
 abbrev order_same : (x y : List ℕ) → slice_cmp nat_cmp x y ≡ Equal → x ≡ y
@@ -34,10 +36,6 @@ alike test q x tied = ap test (sym (order_same q x tied))
 pub get_kept : (m : Chunks) (test : List ℕ → Bool) (q : List ℕ) → get (retain_keys m test) q ≡ cond (test q) (get m q) None
 get_kept m test q = get-retain_keys m test q (alike test q)
 
-both_so : (b c : Bool) → T b → T c → T (b && c)
-both_so true c on so = so
-both_so false c on so = absurd on
-
 -- offsets below others and one more are below the others, and below that one
 below_each : (x k : List ℕ) (v : ℕ) (es : List (List ℕ × ℕ)) → T (below_all (slice_cmp nat_cmp) x (es ++ (k, v) ∷ []))
     → T (below_all (slice_cmp nat_cmp) x es) × (is_lt (slice_cmp nat_cmp x k) ≡ true)
@@ -45,7 +43,7 @@ below_each x k v [] below = (tt, true_of _ (halves _ _ below).0)
 below_each x k v (e ∷ es) below =
     let parts : T (is_lt (slice_cmp nat_cmp x e.0)) × T (below_all (slice_cmp nat_cmp) x (es ++ (k, v) ∷ [])) = halves _ _ below in
     let rest = below_each x k v es parts.1 in
-    (both_so _ _ parts.0 rest.0, rest.1)
+    (joined _ _ parts.0 rest.0, rest.1)
 
 -- offsets are none of those that are below them
 other_below : (x k : List ℕ) → is_lt (slice_cmp nat_cmp x k) ≡ true → is_same k x ≡ false
@@ -65,7 +63,7 @@ before_last k v (e ∷ es) sorted =
     let parts : T (below_all (slice_cmp nat_cmp) e.0 (es ++ (k, v) ∷ [])) × T (is_sorted (slice_cmp nat_cmp) (es ++ (k, v) ∷ [])) = halves _ _ sorted in
     let below = below_each e.0 k v es parts.0 in
     let rest = before_last k v es parts.1 in
-    (both_so _ _ below.0 rest.0, ap (λ b. cond b (Some e.1) (find (slice_cmp nat_cmp) k es)) (other_below e.0 k below.1) ∙ rest.1)
+    (joined _ _ below.0 rest.0, ap (λ b. cond b (Some e.1) (find (slice_cmp nat_cmp) k es)) (other_below e.0 k below.1) ∙ rest.1)
 
 none_kept : (b : Bool) → ◌≡◌ {A = Option ℕ} (cond b None None) None
 none_kept true = refl
@@ -114,10 +112,7 @@ module _ (m : Chunks) (test : List ℕ → Bool) where
     inside_same = same_map nat_list_cmp_total order_same (retain_keys less test) (retain_keys m test) (λ q.
         get_kept less test q ∙ ap (λ o. cond (test q) o None) (get_less q) ∙ by_same q (is_same q offsets) refl ∙ sym (get_kept m test q)) where
           inside_not : test offsets ≡ false
-          inside_not = by_test (test offsets) outside where
-            by_test : (b : Bool) → not b ≡ true → b ≡ false
-            by_test true is = absurd (cc)
-            by_test false is = refl
+          inside_not = not-true (test offsets) outside
 
           by_same : (q : List ℕ) (b : Bool) → is_same q offsets ≡ b → cond (test q) (cond b None (get m q)) None ≡ cond (test q) (get m q) None
           by_same q false is = refl

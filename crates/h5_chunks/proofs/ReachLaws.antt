@@ -5,7 +5,7 @@ use Rattle.std.specs.Ordering.{nat_cmp, is_le, ordering_then}
 use Rattle.std.specs.declared.cmp.Ordering.{Ordering}
 use Rattle.std.specs.declared.cmp.Ordering.TheVariants.{Less, Equal, Greater}
 use Rattle.std.specs.Cmp.Lexicographic.{slice_cmp}
-use Rattle.std.proofs.lemmas.Bool.{or_left, or_right}
+use Rattle.std.proofs.lemmas.Bool.{or_left, or_right, or_parts}
 use Rattle.std.proofs.lemmas.Bool.Decides.{nat_tests}
 use Rattle.std.proofs.lemmas.List.{get_or_append_left}
 use Rattle.std.proofs.lemmas.List.FromFn.{get_or-map-range_with_len, length-map-range_with_len}
@@ -47,10 +47,6 @@ reaches_nowhere (n ∷ ns) (c ∷ cs) (o ∷ os) same long some within =
     ap₂ (λ p q. p || q) first
     (reaches_nowhere ns cs os (omega (arith, same)) (omega (arith, long)) (λ d low. some (suc d) (omega (arith, low))) (λ d low. within (suc d) (omega (arith, low))))
 
-neither : (p q : Bool) → (p || q) ≡ false → (p ≡ false) × (q ≡ false)
-neither true q none = absurd (cc)
-neither false q none = (refl, none)
-
 -- a chunk that reaches past the extent nowhere has its first cell inside
 pub reaches_not : (sizes chunk offsets : List ℕ) → length sizes ≡ length chunk → length offsets ≡ length chunk → ((d : ℕ) → d < length chunk → 1 ≤ get_or chunk d 0)
     → reaches_beyond sizes chunk offsets ≡ false → is_inside sizes offsets ≡ true
@@ -60,7 +56,7 @@ reaches_not [] (c ∷ cs) offsets same long some none = absurd (omega (arith, sa
 reaches_not (n ∷ ns) [] offsets same long some none = absurd (omega (arith, same))
 reaches_not (n ∷ ns) (c ∷ cs) [] same long some none = absurd (omega (arith, long))
 reaches_not (n ∷ ns) (c ∷ cs) (o ∷ os) same long some none =
-    let parts = neither (nat_lt n (o + c)) (reaches_beyond ns cs os) none in
+    let parts = or_parts (nat_lt n (o + c)) (reaches_beyond ns cs os) none in
     let one : 1 ≤ c = some 0 (omega arith) in
     let here : nat_lt n (o + c) ≡ false = parts.0 in
     let whole : o + c ≤ n = grind (arith, nat_tests, here) in

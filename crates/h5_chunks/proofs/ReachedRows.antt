@@ -2,13 +2,13 @@
 use Rattle.std.proofs.Common.{◌≡◌, ℕ, zero, suc, ◌+◌, ◌-◌, List, [], ◌∷◌, inl, inr, refl, sym, ap, ◌∙◌, subst, arith, false}
 use Rattle.std.specs.Prelude.{◌==◌, if◌then◌else◌, Some, None}
 use Rattle.std.proofs.lemmas.Bool.Decides.{nat_tests}
-use Rattle.h5_bytes.specs.Bytes.{undefined}
+use Rattle.h5_bytes.specs.Bytes.{undefined_address}
 use Rattle.h5_model.specs.Format.Rows.{Reading, AreRows, row_below}
 use Rattle.h5_model.specs.Format.Nodes.{group_kind, node_at, node_bytes, key_place, child_in}
 use Rattle.h5_model.specs.Format.Superblock.{internal_k}
 use Rattle.h5_model.specs.Format.Messages.{Message}
 use Rattle.h5_model.specs.Format.Layout.{InBlock, InChunks, InMessage}
-use Rattle.h5_model.specs.Format.Reached.{Named, named, Role, ObjectHeader, Continuation, GroupNode, SymbolNode, HeapHeader, Segment, Data, ChunkNode, Chunk, Reached, by_superblock, by_block, Names, FromMessage, FromHeader, FromNode, FromLayout, Shape, shape_kind, level_at}
+use Rattle.h5_model.specs.Format.Reached.{Named, naming_of, Role, ObjectHeader, Continuation, GroupNode, SymbolNode, HeapHeader, Segment, Data, ChunkNode, Chunk, Reached, by_superblock, by_block, Names, FromMessage, FromHeader, FromNode, FromLayout, Shape, shape_kind, level_at}
 use Rattle.h5_laws.proofs.Lists.{In, in_at}
 use Rattle.h5_laws.proofs.Rows.{row_is, row_level, rows_below}
 use Rattle.h5_laws.proofs.Subtrees.{child_below}
@@ -53,7 +53,7 @@ module _ (image : List ℕ) where
       let kind = group_kind (internal_k image) in
       let place = at + key_place kind i + kind.key_length in
       let child = child_in kind (node_bytes image kind at) i in
-      subst Placed (sym (is ∙ ap (λ (r : Role). named place r child depth) (inner_role level (SymbolNode root heap) (GroupNode root heap)))) tt
+      subst Placed (sym (is ∙ ap (λ (r : Role). naming_of place r child depth) (inner_role level (SymbolNode root heap) (GroupNode root heap)))) tt
 
   from_chunk_node : (depth : ℕ) (shape : Shape) (root at : ℕ) (y : Named) (level : ℕ) → InRow (ChunkNode shape root level) at
       → FromNode image (shape_kind image shape) (if level == 0 then Chunk shape.bytes else ChunkNode shape root (level - 1)) at depth y → Placed y
@@ -65,7 +65,7 @@ module _ (image : List ℕ) where
       let child = child_in kind (node_bytes image kind at) i in
       let count = length-children kind (node_bytes image kind at) (V at) refl in
       let there : In child (V at).children = in_at (V at).children i child (child_is kind (node_bytes image kind at) (V at) refl i (omega (arith, low, count))) in
-      subst Placed (sym (is ∙ ap (λ (r : Role). named place r child depth) (inner_role level (Chunk shape.bytes) (ChunkNode shape root))))
+      subst Placed (sym (is ∙ ap (λ (r : Role). naming_of place r child depth) (inner_role level (Chunk shape.bytes) (ChunkNode shape root))))
       (suc d, omega (arith, levels), child_below V d at child (root ∷ []) row there)
 
   step : (role : Role) (at depth : ℕ) (y : Named) → InRow role at → Names image role at depth y → Placed y
@@ -84,10 +84,10 @@ module _ (image : List ℕ) where
   placed (by_block {x = x} {y = y} reached names there) = step x.role x.at x.depth y (placed reached) names
 
   pub reached_level : (shape : Shape) (root level : ℕ) → AreRows (node_at image (shape_kind image shape)) level (root ∷ [])
-      → level_at image (shape_kind image shape) root ≡ level → (field l at depth : ℕ) → Reached image (named field (ChunkNode shape root l) at depth)
+      → level_at image (shape_kind image shape) root ≡ level → (field l at depth : ℕ) → Reached image (naming_of field (ChunkNode shape root l) at depth)
       → (node_at image (shape_kind image shape) at).level ≡ l
   reached_level shape root level rows top field l at depth reached =
       let V : Reading = node_at image (shape_kind image shape) in
       let here : InRow (ChunkNode shape root l) at = placed reached in
-      row_level V l undefined at (row_below V here.0 (root ∷ []))
+      row_level V l undefined_address at (row_below V here.0 (root ∷ []))
       (row_is V l (row_below V here.0 (root ∷ [])) (rows_below V here.0 l level (root ∷ []) (here.1 ∙ top) rows)) here.2

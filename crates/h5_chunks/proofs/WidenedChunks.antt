@@ -14,7 +14,7 @@ use Rattle.h5_space.specs.Space.{Space}
 use Rattle.h5_btree.specs.Insertion.{IsFullWay, KeepsEntries, Owns}
 use Rattle.h5_btree.specs.Keyed.{items_of_tree}
 use Rattle.h5_btree.specs.Removal.{EndsInTree}
-use Rattle.h5_btree.specs.Widened.{AreWidened, IsWidened, end_at, ends_along, way_blocks, widened}
+use Rattle.h5_btree.specs.Widened.{AreWidened, IsWidened, end_at, ends_along, way_blocks, widened_node}
 use Rattle.h5_btree.specs.declared.way.Step.{Step}
 use Rattle.h5_btree.proofs.ClimbSteps.{covers}
 use Rattle.h5_btree.proofs.KeyedEases.{IsEased, eased_sorted}
@@ -47,7 +47,7 @@ moves_wider s t kind owned way listed m = record {
 
 module _ (V : Reading) (new : List ℕ) (kind : Kind) (rank : ℕ) (offsets low high : List ℕ) where
   abbrev IsWide : Step → Type 0
-  IsWide step = node_at new kind step.node ≡ widened (end_at V (behind_at rank offsets) true step) low high (V step.node)
+  IsWide step = node_at new kind step.node ≡ widened_node (end_at V (behind_at rank offsets) true step) low high (V step.node)
 
 wide_each : (old new : List ℕ) (kind : Kind) (rank : ℕ) (offsets low high : List ℕ) (way : List Step)
     → AreWidened old new kind way (ends_along (node_at old kind) (behind_at rank offsets) 0 way) low high → AllByRecursion (IsWide (node_at old kind) new kind rank offsets low high) way
@@ -78,7 +78,7 @@ module _ (kind : Kind) (some : 1 ≤ kind.k) (s t : Space) (shape : Shape) (offs
   along : AreWidened s.bytes t.bytes kind (e.step ∷ e.above) (ends_along V (behind_at rank offsets) 1 (e.step ∷ e.above)) low high
   along = subst (λ (steps : List Step). AreWidened s.bytes t.bytes kind steps (ends_along V (behind_at rank offsets) 1 steps) low high) e.way_is wide.keys
 
-  first_wide : W (e.step).node ≡ widened (end_at V (behind_at rank offsets) false e.step) low high (V (e.step).node)
+  first_wide : W (e.step).node ≡ widened_node (end_at V (behind_at rank offsets) false e.step) low high (V (e.step).node)
   first_wide = along.0
 
   above_wide : AllByRecursion (IsWide V t.bytes kind rank offsets low high) e.above

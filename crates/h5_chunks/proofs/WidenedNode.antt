@@ -11,7 +11,7 @@ use Rattle.h5_model.proofs.TextOrder.{before_le, not_after_itself, not_after_tra
 use Rattle.h5_laws.specs.ChunkLadders.{rising_chunk_sides}
 use Rattle.h5_laws.proofs.ChunkLadders.{chunk_order}
 use Rattle.h5_btree.specs.Descent.{IsChildFor}
-use Rattle.h5_btree.specs.Widened.{widened}
+use Rattle.h5_btree.specs.Widened.{widened_node}
 use Rattle.h5_btree.proofs.KeyedEases.{GivesWay}
 use Rattle.h5_btree.proofs.EndKeys.{end_keys, first_gives, first_off, first_place, high_kept, high_key, high_stands, last_gives, last_on, last_place, low_kept, low_key, low_stands}
 use Rattle.h5_btree.proofs.KeyedEnds.{ends_give}
@@ -66,7 +66,7 @@ module _ (rank : ℕ) (offsets : List ℕ) (node : Node) (i : ℕ) (chosen : IsC
   abbrev pub high_now : List ℕ
   high_now = high_key (behind_at rank offsets) node i may_first low high
 
-  pub keys_now : (widened (record { first = first; last = last }) low high node).keys ≡ take i node.keys ++ low_now ∷ high_now ∷ drop (suc (suc i)) node.keys
+  pub keys_now : (widened_node (record { first = first; last = last }) low high node).keys ≡ take i node.keys ++ low_now ∷ high_now ∷ drop (suc (suc i)) node.keys
   keys_now = end_keys behind node i may_first low high chosen long
 
   falls : first ≡ true → NotAfter (all_offsets_in rank low) (all_offsets_in rank kk)

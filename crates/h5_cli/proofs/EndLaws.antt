@@ -8,9 +8,9 @@ use Rattle.h5_model.specs.Tree.Objects.{Tree}
 use Rattle.h5_model.specs.declared.edit_fault.EditFault.{EditFault}
 use Rattle.h5_model.specs.declared.edit_fault.EditFault.TheVariants.{BadPath}
 use Rattle.h5_model.specs.declared.edit_fault.EditFault.TheVariants as refusal
-use Rattle.h5_model.specs.Scripts.Answers.{dumped}
-use Rattle.h5_model.specs.Scripts.Lines.{unescaped}
-use Rattle.h5_model.specs.Tree.Paths.{located}
+use Rattle.h5_model.specs.Scripts.Answers.{dump_of}
+use Rattle.h5_model.specs.Scripts.Lines.{unescaped_text}
+use Rattle.h5_model.specs.Tree.Paths.{location_of}
 use Rattle.h5_script.specs.Dumped.{IsUndumped}
 use Rattle.h5_script.specs.DumpFaultType.TheVariants.{Refused}
 use Rattle.h5_script.specs.Opened.State.{FileState}
@@ -74,11 +74,11 @@ dump_cut tree path old new status (inr short) = subst (λ s. IsDumpTold tree pat
 
 -- the word stands for a path
 pub dump_ends : (file word : Text) (input left old new : Option (List ℕ)) (f : FileState) (path : List ℕ) (status : Status)
-    → IsSound f → unescaped word ≡ Some path → IsDumpTold f.tree path old new status → Ends (Some (WantDump file word)) input left old new status
+    → IsSound f → unescaped_text word ≡ Some path → IsDumpTold f.tree path old new status → Ends (Some (WantDump file word)) input left old new status
 dump_ends file word input left old new f path Done sound is told = record {
   file = f;
   sound = sound;
-  text = dumped f.tree path (located f.tree path);
+  text = dump_of f.tree path (location_of f.tree path);
   answer = (rw is told.accepted, rw is refl);
   printed = told.written;
 }
@@ -91,7 +91,7 @@ dump_ends file word input left old new f path NoMemory sound is told = tt
 
 -- the word stands for none
 pub bad_path_ends : (file word : Text) (input left old new : Option (List ℕ)) (f : FileState) (status : Status)
-    → IsSound f → unescaped word ≡ None → IsRefusalTold BadPath old new status → Ends (Some (WantDump file word)) input left old new status
+    → IsSound f → unescaped_text word ≡ None → IsRefusalTold BadPath old new status → Ends (Some (WantDump file word)) input left old new status
 bad_path_ends file word input left old new f Done sound is told = absurd told
 bad_path_ends file word input left old new f CommandRefused sound is told =
     record { file = f; sound = sound; text = refused_text BadPath; answer = (BadPath, rw is refl, refl); printed = told }

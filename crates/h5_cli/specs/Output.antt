@@ -5,12 +5,12 @@ use Rattle.std.specs.Option.{option_map_or}
 use Rattle.std.specs.Io.KnownBytes.{Appends}
 use Rattle.h5_args.specs.Words.{Text}
 use Rattle.h5_model.specs.Tree.Objects.{Tree}
-use Rattle.h5_model.specs.Tree.Paths.{located}
+use Rattle.h5_model.specs.Tree.Paths.{location_of}
 use Rattle.h5_model.specs.Edits.Refusal.{first_holding}
 use Rattle.h5_model.specs.Scripts.Reading.{path_rules}
-use Rattle.h5_model.specs.Scripts.Lines.{unescaped}
+use Rattle.h5_model.specs.Scripts.Lines.{unescaped_text}
 use Rattle.h5_model.specs.Scripts.Text.{list_text}
-use Rattle.h5_model.specs.Scripts.Answers.{dumped}
+use Rattle.h5_model.specs.Scripts.Answers.{dump_of}
 use Rattle.h5_model.specs.Edits.EditFaults.{refused_text}
 use Rattle.h5_model.specs.declared.edit_fault.EditFault.{EditFault}
 use Rattle.h5_model.specs.declared.edit_fault.EditFault.TheVariants.{BadPath}
@@ -35,11 +35,11 @@ pub record IsListed (old new : Option (List ℕ)) : Type 0 where
 
 -- why the word leads to nothing: it is of no form, or the lowest rule of a path that holds
 abbrev pub dump_fault : Tree → Text → Option EditFault
-dump_fault tree word = option_map_or (λ path. first_holding (path_rules tree path)) (unescaped word) (Some BadPath)
+dump_fault tree word = option_map_or (λ path. first_holding (path_rules tree path)) (unescaped_text word) (Some BadPath)
 
 -- what is printed of what the word leads to
 abbrev pub dump_output : Tree → Text → List ℕ
-dump_output tree word = option_map_or (λ path. dumped tree path (located tree path)) (unescaped word) []
+dump_output tree word = option_map_or (λ path. dump_of tree path (location_of tree path)) (unescaped_text word) []
 
 -- the text and the status: what stands there, or why nothing does
 abbrev pub IsDumpText : Tree → Text → List ℕ → Status → Type 0

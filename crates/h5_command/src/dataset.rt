@@ -58,7 +58,10 @@ pub(crate) fn type_from(word: &[u8]) -> Option<Fixed>
 }
 
 /// How a dataset is to be stored: `compact`, `contiguous`, or `chunked:` and the chunk sizes.
-pub(crate) fn store_from(alloc: Global, word: &[u8]) -> Result<Option<Store>, AllocError>
+pub(crate) fn store_from(
+    alloc: Global,
+    word: &[u8],
+) -> Result<Option<Store<Items<u32>>>, AllocError>
     ensures { IfOk result (λ store. store ≡ store_read word.now) }
 {
     if word == b"compact".as_slice() {

@@ -1,6 +1,6 @@
 //! Names and texts of a script, whose other bytes are written `\x` and two digits.
 ghost use Rattle.std.specs.Prelude.{◌≡◌, IfOk};
-ghost use Rattle.h5_model.specs.Scripts.Lines.{escape_from as escape_read, hex_from as hex_read, unescaped as unescaped_read};
+ghost use Rattle.h5_model.specs.Scripts.Lines.{escape_from as escape_read, hex_from as hex_read, unescaped_text as unescaped_read};
 ghost use Rattle.h5_model.specs.Scripts.Text.{is_plain as plain};
 
 use h5_model::Items;

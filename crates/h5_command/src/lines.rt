@@ -1,7 +1,7 @@
 //! Lines of a script, and what each asks for.
 ghost use Rattle.std.specs.Prelude.{◌≡◌, IfOk};
 ghost use Rattle.std.specs.List.{list_any};
-ghost use Rattle.h5_model.specs.Scripts.Lines.{asked as asked_by, is_empty_word, line_asks, words_ask};
+ghost use Rattle.h5_model.specs.Scripts.Lines.{command_in as asked_by, is_empty_word, line_asks, words_ask};
 ghost use Rattle.h5_command.specs.Commands.{Asks, command_of};
 ghost use Rattle.h5_command.specs.Words.{parts};
 

@@ -7,7 +7,7 @@ use Rattle.h5_text.specs.declared.streams.PrintFault.{PrintFault}
 use Rattle.h5_text.proofs.Printing.{printed_last, cut_last}
 use Rattle.h5_model.specs.Edits.Refusal.{first_holding}
 use Rattle.h5_model.specs.Scripts.Reading.{path_rules}
-use Rattle.h5_model.specs.Tree.Paths.{located}
+use Rattle.h5_model.specs.Tree.Paths.{location_of}
 use Rattle.std.proofs.Math.Nat.{mul_assoc, zero-div}
 use Rattle.std.proofs.lemmas.Nat.{div-mul-add}
 use Rattle.std.proofs.lemmas.List.{replicate-append-replicate}
@@ -17,8 +17,8 @@ use Rattle.std.specs.Fmt.{signed_decimal}
 use Rattle.std.specs.List.{flat_map}
 use Rattle.std.specs.Option.{option_map_or}
 use Rattle.h5_model.specs.Tree.Paths.{Located, Here, Missing, NoParent, NoGroup, NoPath}
-use Rattle.h5_model.specs.Scripts.Answers.{dumped}
-use Rattle.h5_model.specs.Scripts.Text.{attribute_line, cells_text, content_text, dataset_text, detail_text, dump_text, escaped, line_of, row_length, rows_text, storage_text}
+use Rattle.h5_model.specs.Scripts.Answers.{dump_of}
+use Rattle.h5_model.specs.Scripts.Text.{attribute_line, cells_text, content_text, dataset_text, detail_text, dump_text, escaped_text, line_of, row_length, rows_text, storage_text}
 use Rattle.h5_model.specs.Tree.Places.{cells}
 use Rattle.h5_model.specs.Tree.Objects.{Tree, Links, Object, Attribute, Group, Array, Dataset, ToObject, Soft}
 use Rattle.h5_text.specs.Listing.{dump_line}
@@ -131,9 +131,9 @@ dump-array path o d content =
 module _ (tree : Tree) (path : List ℕ) where
   -- a group, by its number and its attributes
   pub dumped-group : (at : Located) (n : ObjectNo) (attributes : Vec (List ℕ × Attribute) Global) → IsFoundAs tree at (found.Group n attributes)
-      → (group : Object) × (links : Links) × (group.content ≡ Group links) × (attributes.items ≡ entries group.attributes) × (dump_text (escaped path) group ≡ dumped tree path at)
+      → (group : Object) × (links : Links) × (group.content ≡ Group links) × (attributes.items ≡ entries group.attributes) × (dump_text (escaped_text path) group ≡ dump_of tree path at)
   dumped-group (Here (ToObject number)) n attributes is =
-      (is.2.object, is.1, is.2.content_is, is.2.listed, sym (ap (λ x. option_map_or (dump_text (escaped path)) x []) is.2.found))
+      (is.2.object, is.1, is.2.content_is, is.2.listed, sym (ap (λ x. option_map_or (dump_text (escaped_text path)) x []) is.2.found))
   dumped-group (Here (Soft text)) n attributes is = absurd is
   dumped-group Missing n attributes is = absurd is
   dumped-group NoParent n attributes is = absurd is
@@ -142,9 +142,9 @@ module _ (tree : Tree) (path : List ℕ) where
 
   -- an array
   pub dumped-array : (at : Located) (n : ObjectNo) (attributes : Vec (List ℕ × Attribute) Global) (d : Dataset) → IsFoundAs tree at (found.Array n attributes d)
-      → (o : Object) × (o.content ≡ Array d) × (attributes.items ≡ entries o.attributes) × (dump_text (escaped path) o ≡ dumped tree path at)
+      → (o : Object) × (o.content ≡ Array d) × (attributes.items ≡ entries o.attributes) × (dump_text (escaped_text path) o ≡ dump_of tree path at)
   dumped-array (Here (ToObject number)) n attributes d is =
-      (is.1.object, is.1.content_is, is.1.listed, sym (ap (λ x. option_map_or (dump_text (escaped path)) x []) is.1.found))
+      (is.1.object, is.1.content_is, is.1.listed, sym (ap (λ x. option_map_or (dump_text (escaped_text path)) x []) is.1.found))
   dumped-array (Here (Soft text)) n attributes d is = absurd is
   dumped-array Missing n attributes d is = absurd is
   dumped-array NoParent n attributes d is = absurd is
@@ -152,8 +152,8 @@ module _ (tree : Tree) (path : List ℕ) where
   dumped-array NoPath n attributes d is = absurd is
 
   -- a soft link
-  pub dumped-soft : (at : Located) (shown : Bor (List ℕ)) → IsFoundAs tree at (found.Soft shown) → line_of (escaped path) (codes "soft " ++ escaped shown.now) ≡ dumped tree path at
-  dumped-soft (Here (Soft text)) shown is = ap (λ t. line_of (escaped path) (codes "soft " ++ escaped t)) is
+  pub dumped-soft : (at : Located) (shown : Bor (List ℕ)) → IsFoundAs tree at (found.Soft shown) → line_of (escaped_text path) (codes "soft " ++ escaped_text shown.now) ≡ dump_of tree path at
+  dumped-soft (Here (Soft text)) shown is = ap (λ t. line_of (escaped_text path) (codes "soft " ++ escaped_text t)) is
   dumped-soft (Here (ToObject number)) shown is = absurd is
   dumped-soft Missing shown is = absurd is
   dumped-soft NoParent shown is = absurd is
@@ -169,10 +169,10 @@ unfound tree path known e is = (is, refl)
 
 -- what was found was dumped, or cut off
 pub found-dumped : (tree : Tree) (path : List ℕ) (r : Result (Unit {0}) DumpFault) (old new : Option (List ℕ)) → first_holding (path_rules tree path) ≡ None
-    → Dumps r old new (dumped tree path (located tree path)) → MatchResult r (λ _. IsDumped tree path old new) (IsUndumped tree path old new)
+    → Dumps r old new (dump_of tree path (location_of tree path)) → MatchResult r (λ _. IsDumped tree path old new) (IsUndumped tree path old new)
 found-dumped tree path (Ok x) old new accepted is = record { accepted = accepted; written = is }
 found-dumped tree path (Err (Refused e)) old new accepted is = refused e is where
-  refused : (f : EditFault) → Dumps {T = Unit {0}} (Err (Refused f)) old new (dumped tree path (located tree path)) → IsUndumped tree path old new (Refused f)
+  refused : (f : EditFault) → Dumps {T = Unit {0}} (Err (Refused f)) old new (dump_of tree path (location_of tree path)) → IsUndumped tree path old new (Refused f)
   refused NoMemory is = (accepted, is)
   refused f is = absurd is
 found-dumped tree path (Err (Cut reason)) old new accepted is = record { accepted = accepted; some = is }

@@ -3,41 +3,42 @@
 ghost use Rattle.std.specs.Prelude.{◌≡◌};
 ghost use Rattle.h5_model.specs.Scripts.Text.{row_length as length_of_row, storage_text};
 ghost use Rattle.h5_model.specs.Tree.Objects.{Storage};
-ghost use Rattle.h5_text.specs.Layouts.{layout_text};
+ghost use Rattle.h5_text.specs.Stores.{store_text};
 ghost use Rattle.h5_file.specs.Look.{IsStored};
 
-use h5_file::{ArrayRef, MAX_RANK, StoreKind};
-use h5_text::{ArrayText, Layout};
+use h5_file::{ArrayRef, Dims, MAX_RANK};
+use h5_model::Store;
+use h5_text::ArrayText;
 
 /// What lines tell of an array whose cells are stored so, with its maxima in this room.
 pub(crate) fn array_text<'a, 'l>(
     array: &'a ArrayRef<'_>,
-    layout: Layout<'l>,
+    store: Store<&'l [u64]>,
     room: &'a mut [Option<u64>; MAX_RANK],
 ) -> ArrayText<'a, 'l>
     ensures fixed { result.fixed ≡ array.now.fixed }
     ensures sizes { result.sizes.now ≡ array.now.sizes }
     ensures maxima { result.maxima.now ≡ array.now.maxima }
-    ensures layout { result.layout ≡ layout.entry }
+    ensures store { result.store ≡ store.entry }
     ensures fill { result.fill ≡ array.now.fill }
 {
     ArrayText {
         fixed: array.fixed(),
         sizes: array.dims().sizes(),
         maxima: array.maxima(room),
-        layout,
+        store,
         fill: array.fill(),
     }
 }
 
 /// How cells are stored, as a line tells it.
-pub(crate) fn shown_layout(store: &StoreKind) -> Layout<'_>
-    ensures { (storage : Storage) → IsStored storage store.now → layout_text result ≡ storage_text storage }
+pub(crate) fn shown_store(store: &Store<Dims>) -> Store<&[u64]>
+    ensures { (storage : Storage) → IsStored storage store.now → store_text result ≡ storage_text storage }
 {
     match store {
-        StoreKind::Compact => Layout::Compact,
-        StoreKind::Contiguous => Layout::Contiguous,
-        StoreKind::Chunked(chunk) => Layout::Chunked(chunk.sizes()),
+        Store::Compact => Store::Compact,
+        Store::Contiguous => Store::Contiguous,
+        Store::Chunked(chunk) => Store::Chunked(chunk.sizes()),
     }
 }
 

@@ -3,16 +3,16 @@
 ghost use Rattle.std.specs.Prelude.{◌≡◌, ◌++◌, [], MatchResult, codes};
 ghost use Rattle.std.specs.FinMap.{entries};
 ghost use Rattle.std.specs.List.{flat_map};
-ghost use Rattle.h5_model.specs.Tree.Paths.{located};
-ghost use Rattle.h5_model.specs.Scripts.Answers.{dumped};
-ghost use Rattle.h5_model.specs.Scripts.Text.{attribute_line, dump_text, escaped, line_of};
+ghost use Rattle.h5_model.specs.Tree.Paths.{location_of};
+ghost use Rattle.h5_model.specs.Scripts.Answers.{dump_of};
+ghost use Rattle.h5_model.specs.Scripts.Text.{attribute_line, dump_text, escaped_text, line_of};
 ghost use Rattle.h5_model.specs.Tree.Objects.{Array, Group, Links, Object, Tree};
 ghost use Rattle.h5_text.specs.Appends.{Appends};
 ghost use Rattle.h5_text.specs.Listing.{dump_line};
 ghost use Rattle.h5_file.specs.Found.{HasFound};
 ghost use Rattle.h5_dump.specs.Dumped.{Dumps, IsDumped, IsUndumped};
 
-use crate::array::{array_text, shown_layout};
+use crate::array::{array_text, shown_store};
 use crate::cells::{CELLS_ROOM, write_cells};
 use crate::fault::DumpFault;
 use h5_file::{AttrRef, File, Found, MAX_RANK, StoredArray, store_of};
@@ -59,7 +59,7 @@ fn write_found<W: Write>(
     requires { text.old.items ≡ [] }
     ensures { (tree : Tree) → HasFound tree path.now found.now
         → Dumps result (W.contents output.old) (W.contents output.new)
-        (dumped tree path.now (located tree path.now)) }
+        (dump_of tree path.now (location_of tree path.now)) }
 {
     match found {
         Found::Group { attributes, .. } => write_group(text, path, attributes, output),
@@ -82,7 +82,8 @@ fn write_group<W: Write>(
     requires { text.old.items ≡ [] }
     ensures { (group : Object) (links : Links) → group.content ≡ Group links
         → attributes.now ≡ entries group.attributes
-        → Dumps result (W.contents output.old) (W.contents output.new) (dump_text (escaped path.now) group) }
+        → Dumps result (W.contents output.old) (W.contents output.new)
+        (dump_text (escaped_text path.now) group) }
 {
     push_group_line(text, PathText::Plain(path))?;
     push_attributes(text, attributes)?;
@@ -99,7 +100,7 @@ fn write_soft_link<W: Write>(
 ) -> Result<(), DumpFault>
     requires { text.old.items ≡ [] }
     ensures { Dumps result (W.contents output.old) (W.contents output.new)
-        (line_of (escaped path.now) (codes "soft " ++ escaped target.now)) }
+        (line_of (escaped_text path.now) (codes "soft " ++ escaped_text target.now)) }
 {
     push_soft_line(text, PathText::Plain(path), target)?;
     write_text(output, text)?;
@@ -116,7 +117,7 @@ fn write_array<W: Write>(
 ) -> Result<(), DumpFault>
     requires { text.old.items ≡ [] }
     ensures { (o : Object) → o.content ≡ Array array.now → attributes.now ≡ entries o.attributes
-        → Dumps result (W.contents output.old) (W.contents output.new) (dump_text (escaped path.now) o) }
+        → Dumps result (W.contents output.old) (W.contents output.new) (dump_text (escaped_text path.now) o) }
 {
     push_array_head(text, path, array)?;
     push_attributes(text, attributes)?;
@@ -132,11 +133,11 @@ fn push_array_head(
     path: &[u8],
     array: &StoredArray<'_>,
 ) -> Result<(), AllocError>
-    ensures { Appends result text.old.items text.new.items (dump_line (escaped path.now) array.now) }
+    ensures { Appends result text.old.items text.new.items (dump_line (escaped_text path.now) array.now) }
 {
     let store = store_of(array);
     let mut maxima = [None; MAX_RANK];
-    let told = array_text(array.array(), shown_layout(&store), &mut maxima);
+    let told = array_text(array.array(), shown_store(&store), &mut maxima);
     push_dump_line(text, PathText::Plain(path), &told)
 }
 

@@ -2,7 +2,7 @@
 
 ghost use Rattle.std.specs.Prelude.{◌≡◌, ◌++◌, OnOk, codes, map};
 ghost use Rattle.std.specs.List.{flat_map};
-ghost use Rattle.h5_model.specs.Scripts.Text.{content_text, escaped, line_of, list_text};
+ghost use Rattle.h5_model.specs.Scripts.Text.{content_text, escaped_text, line_of, list_text};
 ghost use Rattle.h5_model.specs.Tree.Objects.{Array, ToObject};
 ghost use Rattle.h5_text.specs.Appends.{Appends};
 ghost use Rattle.h5_text.specs.Listing.{path_text};
@@ -11,9 +11,9 @@ ghost use Rattle.h5_dump.specs.Listing.{lines_of_link};
 
 use crate::array::array_text;
 use h5_file::{File, Link, LinkTo, MAX_DEPTH, MAX_RANK, StoredArray};
-use h5_model::ObjectNo;
+use h5_model::{ObjectNo, Store};
 use h5_text::{
-    Layout, PathText, push_array_line, push_escaped, push_group_line, push_soft_line, push_text,
+    PathText, push_array_line, push_escaped, push_group_line, push_soft_line, push_text,
 };
 use std::alloc::{AllocError, Global};
 
@@ -51,6 +51,8 @@ fn push_links(
         (flat_map (lines_of_link file.now.tree depth path.old.items) (map tree_link links.now)) }
     ensures path { OnOk result (path.new.items ≡ path.old.items) }
 {
+    // Cleared once for all arrays of the group.
+    let mut maxima = [None; MAX_RANK];
     for link in links {
         match link.to {
             LinkTo::Soft(target) => {
@@ -61,7 +63,7 @@ fn push_links(
                 push_soft_line(text, line, target)?;
             }
             LinkTo::Object(number) => {
-                push_object(text, file, depth, path, link.name, number)?;
+                push_object(text, file, depth, path, link.name, number, &mut maxima)?;
             }
         }
     }
@@ -69,7 +71,7 @@ fn push_links(
 }
 
 /// Appends the line of the object that a link of this name below the path leads to, and what it
-/// holds, so many names deep.
+/// holds, so many names deep. `maxima` is room for the maxima of an array.
 #[cycle(listed)]
 fn push_object(
     text: &mut Vec<u8>,
@@ -78,6 +80,7 @@ fn push_object(
     path: &mut Vec<u8>,
     name: &[u8],
     number: ObjectNo,
+    maxima: &mut [Option<u64>; MAX_RANK],
 ) -> Result<(), AllocError>
     ensures lines { Appends result text.old.items text.new.items
         (lines_of_link file.now.tree depth path.old.items (name.now, ToObject number.0)) }
@@ -88,7 +91,7 @@ fn push_object(
         name,
     };
     if let Some(array) = file.array(number) {
-        return push_listed_array(text, head, &array);
+        return push_listed_array(text, head, &array, maxima);
     }
     let Some(links) = file.links(number)? else {
         return Ok(());
@@ -106,22 +109,22 @@ fn push_object(
 
 /// Appends a name to a path that is escaped already.
 fn push_name(path: &mut Vec<u8>, name: &[u8]) -> Result<(), AllocError>
-    ensures { Appends result path.old.items path.new.items (codes "/" ++ escaped name.now) }
+    ensures { Appends result path.old.items path.new.items (codes "/" ++ escaped_text name.now) }
 {
     push_text(path, b"/")?;
     push_escaped(path, name)
 }
 
-/// Appends the line of an array in a list, which does not tell how its cells are stored.
+/// Appends the line of an array in a list, which does not tell how its cells are stored. `maxima` is room for its maxima.
 fn push_listed_array(
     text: &mut Vec<u8>,
     path: PathText<'_>,
     array: &StoredArray<'_>,
+    maxima: &mut [Option<u64>; MAX_RANK],
 ) -> Result<(), AllocError>
     ensures { Appends result text.old.items text.new.items
         (line_of (path_text path.entry) (content_text (Array array.now))) }
 {
-    let mut maxima = [None; MAX_RANK];
-    let told = array_text(array.array(), Layout::Contiguous, &mut maxima);
+    let told = array_text(array.array(), Store::Contiguous, maxima);
     push_array_line(text, path, &told)
 }

@@ -13,23 +13,22 @@ use Rattle.h5_bytes.proofs.BlockLaws.{run_rises}
 use Rattle.h5_header.specs.Heads.{is_read}
 use Rattle.h5_header.specs.Kinds.{IsOfDataset}
 use Rattle.h5_layout.specs.Data.{AreDataRead, data_blocks, dataset_told}
-use Rattle.h5_layout.specs.Described.{Described, HasArray, described_dataset}
 use Rattle.h5_layout.specs.Told.{array_told, layout_told, type_told}
-use Rattle.h5_layout.proofs.ArrayLaws.{in_header, has_array, dataset_in-in_header}
 use Rattle.h5_layout.proofs.ToldLaws.{told}
 use Rattle.h5_model.specs.Edits.Applied.{new_dataset, new_object}
 use Rattle.h5_model.specs.Edits.Refusal.{is_chunked}
-use Rattle.h5_model.specs.Format.Bodies.{raised, fill_bytes}
+use Rattle.h5_model.specs.Format.Bodies.{padded_body, fill_bytes}
 use Rattle.h5_model.specs.Format.Chunks.{Chunks, HasChunks}
 use Rattle.h5_model.specs.Format.Fixed.{Fixed, IsFixed}
 use Rattle.h5_model.specs.Format.Layout.{Layout, InMessage, InBlock, InChunks}
 use Rattle.h5_model.specs.Format.Messages.{Message, HasMessages, prefix_at, reference_count, first_size, continuations}
 use Rattle.h5_model.specs.Format.Nodes.{Kind, chunk_kind, node_block, node_length, reading_of, tree_blocks}
 use Rattle.h5_model.specs.Format.Plain.{header_bytes, messages_bytes, message_bytes, cells_bytes}
-use Rattle.h5_model.specs.Format.Reads.{HasAttributes, HasData, HasDataset, HasObject, storage_of}
+use Rattle.h5_model.specs.Format.Reads.{HasAttributes, HasData, HasDataset, HasObject}
 use Rattle.h5_model.specs.Format.Rows.{Reading, next_row, nodes}
 use Rattle.h5_model.specs.Format.Sizes.{header_size, layout_size}
 use Rattle.h5_model.specs.Format.Superblock.{chunk_k}
+use Rattle.h5_model.specs.Format.Described.{Described, HasArray, described_dataset, storage_of}
 use Rattle.h5_model.specs.Tree.Objects.{Dataset, Storage, Compact, Contiguous, Chunked, Array}
 use Rattle.h5_model.specs.Tree.Places.{cells}
 use Rattle.h5_model.specs.declared.dataset.Spec.{Spec}
@@ -38,6 +37,7 @@ use Rattle.h5_model.proofs.OneReading.{one_messages}
 use Rattle.h5_model.proofs.PaddedLaws.{length-raised}
 use Rattle.h5_model.proofs.PlainMessages.{IsPlain, messages_from, header_reads, header_counted}
 use Rattle.h5_model.proofs.PlainValues.{size-high, length-cells_bytes}
+use Rattle.h5_model.proofs.DescribedLaws.{in_header, dataset_in-in_header}
 use Rattle.h5_query.specs.Attributes.{HasNamesOnce, attributes_of}
 use Rattle.h5_query.specs.ContentBytesType.TheVariants as bytes
 use Rattle.h5_query.specs.ObjectBytesType.{ObjectBytes}
@@ -112,7 +112,7 @@ module _ (d : Dataset) (is : IsPlainArray d 0) (address : Option ℕ) where
   short_layout (Contiguous held) e stored = omega arith
   short_layout (Chunked chunk) e stored = let ranked = (is.sound).boxed chunk e in omega (arith, ranked, is.ranked)
 
-  plain_layout : IsPlain (8, raised (array_layout d address))
+  plain_layout : IsPlain (8, padded_body (array_layout d address))
   plain_layout =
       let long = length-raised (array_layout d address) in
       let counted : length (cells_bytes d.fixed d.cells) ≡ cells d.sizes * (d.fixed).size = length-cells_bytes d.fixed d.cells ∙ ap (λ n. n * (d.fixed).size) (is.sound).counted in
@@ -269,14 +269,11 @@ module _ (k : ℕ) (d : Dataset) (is : IsPlainArray d 0) (unstored : AreStoredFo
     abbrev described : Described
     described = in_header image messages d blocks dataset
 
-    array : HasArray messages described
-    array = has_array image messages d blocks dataset
-
     array_is : array_told messages ≡ described
-    array_is = told messages described array
+    array_is = told messages described dataset.array
 
     list : IsArrayList messages
-    list = record { kinds = kinds d is address at; attributes = attributes d is address at; array = subst (HasArray messages) (sym array_is) array }
+    list = record { kinds = kinds d is address at; attributes = attributes d is address at; array = subst (HasArray messages) (sym array_is) dataset.array }
 
     -- no tree of chunks stands there
     no_chunks : (sizes : List ℕ) (root : ℕ) → dataset.layout ≡ InChunks sizes (Some root) → ⊥

@@ -4,10 +4,10 @@ use Rattle.std.specs.Prelude.{MatchResult, Result, if◌then◌else◌}
 use Rattle.std.specs.List.{AllZip}
 use Rattle.h5_btree.specs.declared.insertion.InsertFault.{InsertFault}
 use Rattle.h5_laws.specs.Trees.Sound.{IsSoundTree}
-use Rattle.h5_layout.specs.Described.{Described}
 use Rattle.h5_model.specs.Edits.Applied.{new_dataset, new_object}
 use Rattle.h5_model.specs.Edits.Bounds.{contiguous_data, new_header}
 use Rattle.h5_model.specs.Format.Fixed.{IsFixed}
+use Rattle.h5_model.specs.Format.Described.{Described}
 use Rattle.h5_model.specs.Tree.Objects.{Object, Array}
 use Rattle.h5_model.specs.Tree.Places.{cells}
 use Rattle.h5_model.specs.declared.dataset.Spec.{Spec}

@@ -3,12 +3,12 @@ use Rattle.std.proofs.Common.{◌≡◌, ℕ, List, Option, Some, None, sym, ap,
 use Rattle.std.proofs.lemmas.Option.{same_Some}
 use Rattle.std.specs.FinMap.{get}
 use Rattle.std.specs.Option.{option_and_then}
-use Rattle.h5_layout.specs.Described.{Described, HasArray, described_dataset}
-use Rattle.h5_layout.proofs.ArrayLaws.{dataset_in-in_header, has_array, in_header, one_array}
 use Rattle.h5_model.specs.Format.Messages.{Message, HasMessages}
 use Rattle.h5_model.specs.Format.Reads.{HasContent}
+use Rattle.h5_model.specs.Format.Described.{Described, HasArray, described_dataset}
 use Rattle.h5_model.specs.Tree.Objects.{Object, Content, Group, Array, Dataset, dataset_in, dataset_of}
 use Rattle.h5_model.proofs.OneReading.{one_messages}
+use Rattle.h5_model.proofs.DescribedLaws.{dataset_in-in_header, in_header, one_array}
 use Rattle.h5_query.specs.Opened.Sound.{IsSound}
 use Rattle.h5_query.specs.Opened.State.{FileState}
 use Rattle.h5_query.specs.Written.{IsArrayThere}
@@ -40,7 +40,7 @@ module _ (f : FileState) (sound : IsSound f) (number : ℕ) (d : Dataset) where
           messages = r.has.messages;
           blocks = r.has.header_blocks;
           listed = r.has.listed;
-          described = has_array f.image r.has.messages e r.has.content_blocks has;
+          described = has.array;
           told = array ∙ sym is ∙ ap (λ (x : Dataset). Some x) told;
         },
       )

@@ -5,12 +5,13 @@ use Rattle.std.proofs.lemmas.Bool.Decides.{nat_tests}
 use Rattle.std.specs.Option.{option_and_then, option_map, option_map_or}
 use Rattle.std.specs.FinMap.{contains_key, get, insert, remove}
 use Rattle.std.specs.Prelude.{◌↔◌, IsSome, IsTrue, not, IsFalse, Result, Ok, Err}
+use Rattle.std.proofs.lemmas.Bool.{not-false}
 use Rattle.h5_bytes.specs.Texts.{pad8}
-use Rattle.h5_model.specs.Edits.Applied.{applied, attribute_from, with_attributes}
+use Rattle.h5_model.specs.Edits.Applied.{with_edit, attribute_from, with_attributes}
 use Rattle.h5_model.specs.Edits.Bounds.{attribute_bound, bound_of}
 use Rattle.h5_model.specs.Edits.ImageAnswers.{Facts}
 use Rattle.h5_model.specs.Edits.Refusal.{has_no_attribute, refusal_of, rules_of}
-use Rattle.h5_model.proofs.RefusalLaws.{none_holds, true_of}
+use Rattle.h5_model.proofs.RefusalLaws.{none_holds}
 use Rattle.h5_model.specs.Edits.Touched.{touched_by}
 use Rattle.h5_model.specs.Format.Messages.{prefix_at, total_in}
 use Rattle.h5_model.specs.Format.Sizes.{attribute_size}
@@ -150,7 +151,7 @@ module _ (f : FileState) (sound : IsSound f) (path name : List ℕ) (number : �
         let test = λ (found : Option Object). option_map_or (λ (x : Object). not (contains_key x.attributes name)) found false in
         let has : not (contains_key o.attributes name) ≡ false
         = sym (ap (λ (n : Option ℕ). test (option_and_then (get f.tree) n)) at.object ∙ ap test is) ∙ none in
-        (o, is, true_of (contains_key o.attributes name) has)
+        (o, is, not-false (contains_key o.attributes name) has)
 
 module _ (f : FileState) (path : List ℕ) (number : ℕ) (now : FileState) (e : Edited) (named : option_map (λ (o : ObjectNo). o.0) e.object ≡ Some number) (refreshed : e.refreshed ≡ 0) where
   abbrev with_change : (Object → Object) → Tree
@@ -161,7 +162,7 @@ module _ (f : FileState) (path : List ℕ) (number : ℕ) (now : FileState) (e :
     with_it = with_attributes (λ m. insert m attr.name (attribute_from attr))
 
     tree_set : with_change with_it ≡ tree_after f (SetAttr path attr)
-    unfolding applied
+    unfolding with_edit
     tree_set = sym (ap (λ (found : Option ℕ). option_map_or (λ n. with_object f.tree n with_it) found f.tree) at.object)
 
     touched_set : touched_by f.tree (SetAttr path attr) ≡ number ∷ []
@@ -190,7 +191,7 @@ module _ (f : FileState) (path : List ℕ) (number : ℕ) (now : FileState) (e :
     without_it = with_attributes (λ m. remove m name)
 
     tree_removed : with_change without_it ≡ tree_after f (RemoveAttr path name)
-    unfolding applied
+    unfolding with_edit
     tree_removed = sym (ap (λ (found : Option ℕ). option_map_or (λ n. with_object f.tree n without_it) found f.tree) at.object)
 
     touched_removed : touched_by f.tree (RemoveAttr path name) ≡ number ∷ []

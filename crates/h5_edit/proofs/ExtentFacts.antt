@@ -7,7 +7,7 @@ use Rattle.std.specs.FinMap.{get}
 use Rattle.std.specs.Prelude.{◌↔◌, IsTrue, IsFalse, None, Result, Ok, Err, if◌then◌else◌, not}
 use Rattle.h5_header.specs.declared.add.AddFault.{AddFault}
 use Rattle.h5_header.specs.declared.add.AddFault.TheVariants as add
-use Rattle.h5_model.specs.Edits.Applied.{applied, resized, with_dataset}
+use Rattle.h5_model.specs.Edits.Applied.{with_edit, with_sizes, with_dataset}
 use Rattle.h5_model.specs.Edits.Bounds.{bound_of}
 use Rattle.h5_model.specs.Edits.ImageAnswers.{Facts, is_header_full}
 use Rattle.h5_model.specs.Edits.Touched.{touched_by}
@@ -101,11 +101,11 @@ module _ (f : FileState) (path dims : List ℕ) (number : ℕ) (at : IsAt f.tree
     -- ---- what is made
 
     abbrev after : Tree
-    after = with_object f.tree number (with_dataset (resized dims))
+    after = with_object f.tree number (with_dataset (with_sizes dims))
 
     tree_resized : after ≡ tree_after f edit
-    unfolding applied
-    tree_resized = sym (ap (λ (found : Option ℕ). option_map_or (λ n. with_object f.tree n (with_dataset (resized dims))) found f.tree) at.object)
+    unfolding with_edit
+    tree_resized = sym (ap (λ (found : Option ℕ). option_map_or (λ n. with_object f.tree n (with_dataset (with_sizes dims))) found f.tree) at.object)
 
     touched_resized : touched_by f.tree edit ≡ number ∷ []
     unfolding touched_by

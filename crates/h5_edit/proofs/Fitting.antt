@@ -4,7 +4,7 @@ use Rattle.std.proofs.lemmas.Option.{same_Some}
 use Rattle.std.specs.Prelude.{IsSome}
 use Rattle.std.specs.FinMap.{get, insert}
 use Rattle.std.specs.Option.{option_map_or}
-use Rattle.h5_model.specs.Edits.Applied.{linked, with_links}
+use Rattle.h5_model.specs.Edits.Applied.{with_link_at, with_links}
 use Rattle.h5_model.specs.Tree.Paths.{object_at}
 use Rattle.h5_model.specs.Edits.Refusal.{new_path}
 use Rattle.h5_model.specs.Tree.Objects.{Tree, Object, Links, Link, links_of, with_object}
@@ -31,7 +31,7 @@ module _ (f : FileState) where
   -- ---- new links
 
   module _ {path : List ℕ} {edit : Edit} {place : NewPlace} (placed : IsPlaceAllowed tree next path edit place) where
-    pub linked_at : (link : Link) → linked tree path link ≡ with_link tree place.parent place.name.now link
+    pub linked_at : (link : Link) → with_link_at tree path link ≡ with_link tree place.parent place.name.now link
     linked_at link = ap (λ o. option_map_or (λ (p : ℕ × List ℕ). with_object tree p.0 (with_links (λ links. insert links p.1 link))) o tree) placed.parent
 
     -- the group has no such link yet

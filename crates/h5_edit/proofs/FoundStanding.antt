@@ -1,56 +1,28 @@
 -- Selected cells that are one run: why nothing but their values refuses them.
-use Rattle.std.proofs.Common.{◌≡◌, ℕ, ℤ, ◌+◌, ◌-◌, ◌<◌, ◌≤◌, List, [], ◌∷◌, Bool, true, false, not, Result, Ok, Err, if◌then◌else◌, None, length, refl, sym, ap, ◌∙◌, subst, arith}
-use Rattle.std.specs.Prelude.{◌++◌, ◌==◌, ◌&&◌, nat_le}
+use Rattle.std.proofs.Common.{◌≡◌, ℕ, ℤ, ◌+◌, ◌-◌, ◌<◌, ◌≤◌, List, [], ◌∷◌, Bool, true, false, not, None, length, refl, sym, ap, ◌∙◌, subst, arith}
+use Rattle.std.specs.Prelude.{◌++◌, ◌==◌}
 use Rattle.std.proofs.lemmas.Bool.Decides.{nat_tests}
-use Rattle.std.specs.List.{Contains, list_all, list_any, range_with_len}
+use Rattle.std.specs.List.{Contains, list_all, range_with_len}
 use Rattle.std.proofs.lemmas.List.{append-nil}
 use Rattle.std.proofs.lemmas.List.FromFn.{length-range_with_len}
 use Rattle.h5_laws.proofs.Lists.{contains_in, in_range}
-use Rattle.h5_layout.specs.Described.{Described}
 use Rattle.h5_model.specs.Edits.Refusal.{first_holding}
 use Rattle.h5_model.specs.Format.Fixed.{Fixed, fits}
+use Rattle.h5_model.specs.Format.Described.{Described}
 use Rattle.h5_model.specs.Tree.Places.{cells}
-use Rattle.h5_model.specs.Views.Selection.{Slab, axes_of, has_rank, has_no_stride, overlaps, is_within, selected_cells, selection_of}
+use Rattle.h5_model.specs.Views.Selection.{Slab, axes_of, selected_cells, selection_of}
 use Rattle.h5_model.specs.declared.edit_fault.EditFault.TheVariants as fault
 use Rattle.h5_model.specs.declared.hyperslab.Hyper.{Hyper}
-use Rattle.h5_model.proofs.RefusalLaws.{length-axes_of}
-use Rattle.h5_model.proofs.CountLaws.{length-selection}
-use Rattle.h5_model.proofs.WithinLaws.{to_is_within}
 use Rattle.h5_query.proofs.RuleLaws.{first-behind}
+use Rattle.h5_query.proofs.StandingSelection.{selection_accepted, selection_is}
 use Rattle.h5_query.specs.Selected.{hyper_rules}
 use Rattle.h5_shape.specs.OneRun.{IsOneRun}
 use Rattle.h5_shape.specs.Runs.{AreMaximal, places_in}
-use Rattle.h5_shape.specs.Slab.{is_of_one_rank}
 use Rattle.h5_shape.specs.declared.runs.CellRun.{CellRun}
-use Rattle.h5_shape.specs.declared.slab.SlabFault.{SlabFault}
-use Rattle.h5_shape.specs.declared.slab.SlabFault.TheVariants as slab_fault
 use Rattle.h5_shape.proofs.RunLaws.{places_of_runs, runs-maximal}
 use Rattle.h5_edit.specs.Refusals.Allowed.{AreValuesOfRun}
 use Rattle.h5_edit.specs.Refusals.Rules.{counted_rules, value_rules}
 use Rattle.h5_edit.proofs.SelectedStored.{place_low}
-
-and_first : (a b : Bool) → (a && b) ≡ true → a ≡ true
-and_first true b both = refl
-and_first false b both = absurd (let never : false ≡ true = both in cc)
-
-not_true : (b : Bool) → not b ≡ false → b ≡ true
-not_true true is = refl
-not_true false is = absurd (let never : true ≡ false = is in cc)
-
--- what four lists keep to that are a selection
-module _ (slab : Slab) where
-  abbrev judged : Bool → Bool → Bool → Result Slab SlabFault
-  judged rank strides apart =
-      if not rank then Err slab_fault.RankMismatch
-      else if strides then Err slab_fault.StrideZero
-      else if apart then Err slab_fault.BlocksOverlap
-      else Ok slab
-
-  kept : (rank strides apart : Bool) → judged rank strides apart ≡ Ok slab → (rank ≡ true) × (strides ≡ false) × (apart ≡ false)
-  kept false strides apart is = absurd (cc)
-  kept true true apart is = absurd (cc)
-  kept true false true is = absurd (cc)
-  kept true false false is = (refl, refl, refl)
 
 module _ (sizes : List ℕ) (hyper : Hyper) (run : CellRun) (is : IsOneRun sizes hyper run) where
   abbrev slab : Slab
@@ -59,27 +31,9 @@ module _ (sizes : List ℕ) (hyper : Hyper) (run : CellRun) (is : IsOneRun sizes
   abbrev selection : List ℕ
   selection = selection_of sizes slab
 
-  rules : (is_of_one_rank hyper ≡ true) × (list_any has_no_stride slab ≡ false) × (list_any overlaps slab ≡ false)
-  rules = kept slab (is_of_one_rank hyper) (list_any has_no_stride slab) (list_any overlaps slab) is.selection
-
-  ranked : has_rank (length sizes) hyper ≡ true
-  ranked =
-      let own = and_first (has_rank (length hyper.start) hyper) (nat_le (length hyper.start) 32) rules.0 in
-      let long = length-axes_of (length hyper.start) hyper own in
-      subst (λ n. has_rank n hyper ≡ true) (sym long ∙ is.rank) own
-
-  inside : is_within sizes slab ≡ true
-  inside = to_is_within sizes slab is.within
-
   -- no rule of a selection refuses it
   pub run_selects : first_holding (hyper_rules sizes hyper) ≡ None
-  run_selects = λ i. first_holding (
-      (fault.RankMismatch, not (ranked i))
-      ∷ (fault.StrideZero, rules.1 i)
-      ∷ (fault.BlocksOverlap, rules.2 i)
-      ∷ (fault.OutOfExtent, not (inside i))
-      ∷ []
-      )
+  run_selects = selection_accepted sizes hyper is.selection is.rank is.within
 
   pub places_are : range_with_len run.place run.length ≡ selection
   places_are = sym (append-nil (range_with_len run.place run.length)) ∙ ap places_in (sym is.runs) ∙ places_of_runs selection
@@ -89,7 +43,7 @@ module _ (sizes : List ℕ) (hyper : Hyper) (run : CellRun) (is : IsOneRun sizes
 
   -- it has all selected cells
   pub run_counted : run.length ≡ selected_cells slab
-  run_counted = sym (length-range_with_len run.place run.length) ∙ ap length places_are ∙ length-selection sizes slab (sym is.rank) inside rules.2
+  run_counted = sym (length-range_with_len run.place run.length) ∙ ap length places_are ∙ (selection_is sizes hyper is.selection is.rank is.within).counted
 
   -- and they are cells of the array
   pub run_inside : run.place + run.length ≤ cells sizes

@@ -7,7 +7,7 @@ use Rattle.std.specs.Option.{option_and_then, option_map, option_map_or}
 use Rattle.std.specs.FinMap.{get, insert, empty}
 use Rattle.h5_btree.specs.declared.insertion.InsertFault.{InsertFault}
 use Rattle.h5_btree.specs.declared.insertion.InsertFault.TheVariants as insertion
-use Rattle.h5_model.specs.Edits.Applied.{applied, linked, new_dataset, new_object, state_after, named_object}
+use Rattle.h5_model.specs.Edits.Applied.{with_edit, with_link_at, new_dataset, new_object, state_after, named_object}
 use Rattle.h5_model.specs.Edits.Bounds.{Room, bound_of, contiguous_data, link_bound, name_span, new_header}
 use Rattle.h5_model.specs.Edits.ImageAnswers.{Facts, is_header_full, is_image_full, must_add, new_entries}
 use Rattle.h5_model.specs.Edits.Refusal.{new_path, refusal_of, rules_of}
@@ -102,7 +102,7 @@ module _ (f : FileState) where
   pub hard_edit : {target path : List ℕ} {number : ℕ} {place : NewPlace} → IsLinkPlaced f.tree f.next target path (HardLink target path) (number, place) → (table : SymbolTable)
       → IsLinkEdit f path place.parent place.name.now (HardLink target path) table (link_room f.image table (text_span place.name.now))
       (with_link f.tree place.parent place.name.now (ToObject number)) f.next (place.parent ∷ number ∷ [])
-  unfolding applied bound_of touched_by
+  unfolding with_edit bound_of touched_by
   hard_edit {target} {path} {number} {place} (leads, placed) table = record {
     at = placed.parent;
     bound = λ r leaf internal heap. ap (link_bound r) (span_is f.tree path place.parent place.name.now placed.parent)
@@ -112,7 +112,7 @@ module _ (f : FileState) where
     given = λ given so. so;
     growth = λ facts are. (facts, are, refl);
     trimmed = λ now. tt;
-    tree = sym (ap (λ (o : Option ℕ). option_map_or (λ n. linked f.tree path (ToObject n)) o f.tree) leads ∙ linked_at f placed (ToObject number));
+    tree = sym (ap (λ (o : Option ℕ). option_map_or (λ n. with_link_at f.tree path (ToObject n)) o f.tree) leads ∙ linked_at f placed (ToObject number));
     counted = refl;
     touches = ap₂ (λ (p : Option (ℕ × List ℕ)) (o : Option ℕ). option_map_or (λ q. q.0 ∷ []) p [] ++ option_map_or (λ n. n ∷ []) o []) placed.parent leads;
   }
@@ -120,7 +120,7 @@ module _ (f : FileState) where
   pub soft_edit : {text path : List ℕ} {place : NewPlace} → IsPlaceAllowed f.tree f.next path (SoftLink text path) place → (table : SymbolTable)
       → IsLinkEdit f path place.parent place.name.now (SoftLink text path) table (link_room f.image table (text_span place.name.now + text_span text))
       (with_link f.tree place.parent place.name.now (Soft text)) f.next (place.parent ∷ [])
-  unfolding applied bound_of touched_by
+  unfolding with_edit bound_of touched_by
   soft_edit {text} {path} {place} placed table = record {
     at = placed.parent;
     bound = λ r leaf internal heap. ap (λ (n : ℕ). link_bound r (n + text_span text)) (span_is f.tree path place.parent place.name.now placed.parent)
@@ -140,14 +140,14 @@ module _ (f : FileState) where
     pub group_edit : IsPlaceAllowed f.tree f.next path (CreateGroup path) place → bytes ≡ group_node (internal_k f.image) + 160
         → IsLinkEdit f path place.parent place.name.now (CreateGroup path) table (link_room f.image table (text_span place.name.now) + bytes)
         (tree_with f.tree place.parent place.name.now f.next (new_object (Group empty))) (f.next + 1) (f.next ∷ place.parent ∷ [])
-    unfolding applied bound_of touched_by
+    unfolding with_edit bound_of touched_by
     group_edit placed long = record {
       at = placed.parent;
       bound = λ r leaf internal heap.
           let named = span_is f.tree path place.parent place.name.now placed.parent in
-          let linked = linked_room r f.image table (text_span place.name.now) leaf internal heap in
+          let placed_room = linked_room r f.image table (text_span place.name.now) leaf internal heap in
           let node = ap group_node internal in
-          omega (arith, named, linked, node, long);
+          omega (arith, named, placed_room, node, long);
       light = λ r. refl;
       one = λ r. refl;
       given = λ given so. so;
@@ -161,13 +161,13 @@ module _ (f : FileState) where
     pub array_edit : {spec : Spec} → IsPlaceAllowed f.tree f.next path (CreateDataset path spec) place → bytes ≡ new_header spec + contiguous_data spec
         → IsLinkEdit f path place.parent place.name.now (CreateDataset path spec) table (link_room f.image table (text_span place.name.now) + bytes)
         (tree_with f.tree place.parent place.name.now f.next (new_object (Array (new_dataset spec)))) (f.next + 1) (f.next ∷ place.parent ∷ [])
-    unfolding applied bound_of touched_by
+    unfolding with_edit bound_of touched_by
     array_edit {spec} placed long = record {
       at = placed.parent;
       bound = λ r leaf internal heap.
           let named = span_is f.tree path place.parent place.name.now placed.parent in
-          let linked = linked_room r f.image table (text_span place.name.now) leaf internal heap in
-          omega (arith, named, linked, long);
+          let placed_room = linked_room r f.image table (text_span place.name.now) leaf internal heap in
+          omega (arith, named, placed_room, long);
       light = λ r. refl;
       one = λ r. refl;
       given = λ given so. so;

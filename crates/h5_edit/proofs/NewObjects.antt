@@ -8,7 +8,6 @@ use Rattle.std.specs.Cmp.Lexicographic.{slice_cmp}
 use Rattle.std.specs.FinMap.{empty, entries, len, len-empty}
 use Rattle.std.proofs.lemmas.Bool.Decides.{nat_tests}
 use Rattle.std.proofs.lemmas.List.{take-append-drop}
-use Rattle.h5_layout.specs.Described.{Described}
 use Rattle.h5_model.specs.Edits.Applied.{new_dataset, new_object, new_storage}
 use Rattle.h5_model.specs.Edits.Bounds.{contiguous_data, new_header}
 use Rattle.h5_model.specs.Edits.Refusal.{refusal_of}
@@ -17,6 +16,7 @@ use Rattle.h5_model.specs.Format.Layout.{Layout, InMessage, InBlock, InChunks}
 use Rattle.h5_model.specs.Format.Plain.{cells_bytes}
 use Rattle.h5_model.specs.Format.PlainLength.{data_bytes}
 use Rattle.h5_model.specs.Format.Sizes.{array_messages_size, attribute_message_size, header_size}
+use Rattle.h5_model.specs.Format.Described.{Described}
 use Rattle.h5_model.specs.Tree.Objects.{Tree, Attribute, Array}
 use Rattle.h5_model.specs.Tree.Places.{cells}
 use Rattle.h5_model.specs.declared.dataset.Spec.{Spec}
@@ -83,7 +83,7 @@ data_counted k spec = by_store spec.store where
       let zero : cells spec.dims * (spec.fixed).size ≡ 0 * (spec.fixed).size = ap (λ (n : ℕ). n * (spec.fixed).size) empty in
       omega (arith, zero)
 
-  by_store : (s : Store) → data_bytes k 0 (new_dataset (record spec { store = s })) ≡ contiguous_data (record spec { store = s })
+  by_store : (s : Store (List ℕ)) → data_bytes k 0 (new_dataset (record spec { store = s })) ≡ contiguous_data (record spec { store = s })
   by_store store.Compact = refl
   by_store store.Contiguous = by_stored (nat_lt 0 (cells spec.dims)) refl
   by_store (store.Chunked chunk) = refl

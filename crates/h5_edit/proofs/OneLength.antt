@@ -1,22 +1,19 @@
 -- An image that is written anew has one length: which chunks of it are stored is a function of the image and the tree.
-use Rattle.std.proofs.Common.{◌≡◌, inl, inr, ℕ, ◌+◌, List, [], ◌∷◌, length, Option, Some, None, refl, sym, ap, ap₂, ◌∙◌, arith}
-use Rattle.std.specs.Prelude.{option_and_then}
+use Rattle.std.proofs.Common.{◌≡◌, inl, inr, ℕ, ◌+◌, List, [], ◌∷◌, length, Option, Some, None, refl, sym, ap, ap₂, ◌∙◌, subst, arith}
 use Rattle.std.specs.Cmp.{nat_cmp_total}
 use Rattle.std.specs.FinMap.{get, entries}
-use Rattle.std.proofs.lemmas.Option.{same_Some}
 use Rattle.h5_layout.specs.HeldChunks.{held_chunks}
 use Rattle.h5_layout.specs.StoredAt.{HasStoredChunks}
 use Rattle.h5_model.specs.Format.Chunks.{Chunks}
-use Rattle.h5_model.specs.Format.Datatype.{fixed_of}
-use Rattle.h5_model.specs.Format.Extent.{Extent, extent_of}
-use Rattle.h5_model.specs.Format.Layout.{layout_of}
-use Rattle.h5_model.specs.Format.Messages.{Message, first_body}
+use Rattle.h5_model.specs.Format.Messages.{Message}
 use Rattle.h5_model.specs.Format.PlainLength.{content_bytes, data_bytes, plain_length}
 use Rattle.h5_model.specs.Format.Sizes.{header_size}
 use Rattle.h5_model.specs.Format.Superblock.{chunk_k_of, k_values}
 use Rattle.h5_model.specs.Format.Plain.{plain_superblock_length}
 use Rattle.h5_model.specs.declared.k_values.KValues.{KValues}
 use Rattle.h5_model.specs.Tree.Objects.{Tree, Object, Content, Group, Array, Dataset, Storage, Compact, Contiguous, Chunked}
+use Rattle.h5_model.specs.Format.Described.{Described, HasArray}
+use Rattle.h5_model.proofs.DescribedLaws.{in_header, one_array}
 use Rattle.h5_model.proofs.OneReading.{one_messages}
 use Rattle.h5_laws.proofs.Lists.{In}
 use Rattle.h5_laws.proofs.Maps.{get_of_entry}
@@ -35,30 +32,17 @@ module _ (image : List ℕ) (header : ℕ) (c d : Chunks) (x : HasStoredChunks i
   same_messages : x.messages ≡ y.messages
   same_messages = one_messages image header x.messages y.messages x.header_blocks y.header_blocks x.listed y.listed
 
-  abbrev extent : Dataset → Extent
-  extent e = record { sizes = e.sizes; maxima = e.maxima }
+  abbrev described : {chunks : Chunks} → HasStoredChunks image header chunks → Described
+  described z = in_header image z.messages z.dataset z.data_blocks z.array
 
-  same_extent : extent x.dataset ≡ extent y.dataset
-  same_extent =
-      same_Some (extent x.dataset) (extent y.dataset) (sym x.array.space ∙ ap (λ (ms : List Message). option_and_then extent_of (first_body 1 ms)) same_messages ∙ y.array.space)
-
-  same_sizes : x.dataset.sizes ≡ y.dataset.sizes
-  same_sizes = ap (λ (e : Extent). e.sizes) same_extent
-
-  same_type : x.dataset.fixed ≡ y.dataset.fixed
-  same_type = same_Some _ _ (sym x.array.type ∙ ap (λ (ms : List Message). option_and_then fixed_of (first_body 3 ms)) same_messages ∙ y.array.type)
-
-  same_layout : x.array.layout ≡ y.array.layout
-  same_layout =
-      let read : option_and_then (layout_of x.dataset.sizes x.dataset.fixed.size) (first_body 8 x.messages) ≡ option_and_then (layout_of y.dataset.sizes y.dataset.fixed.size) (first_body 8 y.messages)
-      = λ i. option_and_then (layout_of (same_sizes i) ((same_type i).size)) (first_body 8 (same_messages i)) in
-      same_Some _ _ (sym x.array.laid_out ∙ read ∙ y.array.laid_out)
+  same_array : described x ≡ described y
+  same_array = one_array y.messages (described x) (described y) (subst (λ (ms : List Message). HasArray ms (described x)) same_messages x.array.array) y.array.array
 
   pub one_stored : c ≡ d
   one_stored =
       sym x.chunks_are
       ∙ told_chunks image x.dataset.fixed x.array.layout x.array.chunks x.data_blocks x.array.stored
-      ∙ (λ i. stored_chunks image (same_type i) (same_layout i))
+      ∙ ap (λ (a : Described). stored_chunks image a.fixed a.layout) same_array
       ∙ sym (told_chunks image y.dataset.fixed y.array.layout y.array.chunks y.data_blocks y.array.stored)
       ∙ y.chunks_are
 

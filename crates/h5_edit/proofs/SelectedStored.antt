@@ -2,11 +2,12 @@
 use Rattle.std.proofs.Common.{◌≡◌, inl, inr, ℕ, zero, suc, ◌+◌, ◌<◌, ◌||◌, List, [], ◌∷◌, Bool, true, false, cond, not, refl, sym, ap, ◌∙◌, subst, arith}
 use Rattle.std.specs.Prelude.{filter}
 use Rattle.std.specs.List.{Contains, list_any, range_with_len}
+use Rattle.std.proofs.lemmas.Bool.{not-false}
 use Rattle.h5_laws.proofs.Lists.{In, in_contains}
-use Rattle.h5_layout.specs.Described.{Described}
 use Rattle.h5_layout.specs.Standing.{is_stored_cell}
 use Rattle.h5_model.specs.Tree.Places.{cells, index_of}
 use Rattle.h5_model.specs.Views.Selection.{Slab, Selected, is_selected, selection_of}
+use Rattle.h5_model.specs.Format.Described.{Described}
 use Rattle.h5_model.proofs.SelectionLaws.{from_is_selected}
 use Rattle.h5_query.specs.Opened.State.{FileState}
 use Rattle.h5_query.specs.Written.{IsArrayThere}
@@ -51,13 +52,9 @@ none_passes test x (y ∷ ys) none at = by_test (none_passes test x ys) (test y)
   by_test later false is rest (inl same) = ap test (sym same) ∙ is
   by_test later false is rest (inr there) = later rest there
 
-is_true : (b : Bool) → not b ≡ false → b ≡ true
-is_true true is = refl
-is_true false is = absurd (let never : true ≡ false = is in cc)
-
 pub none_lacking : (f : FileState) (number : ℕ) (a : Described) → IsArrayThere f number a → (slab : Slab) → lacks_cells f.image a slab ≡ false → AreSelectedStored f number slab
 none_lacking f number a there slab none d array place at b other =
     subst (λ (x : Described). is_stored_cell f.image x place ≡ true) (one_there f number a b there other)
-    (is_true (is_stored_cell f.image a place)
+    (not-false (is_stored_cell f.image a place)
     (none_passes (λ p. not (is_stored_cell f.image a p)) place (selection_of a.sizes slab) none
     (subst (λ (sizes : List ℕ). In place (selection_of sizes slab)) (sym (sizes_are f number a there d array)) (in_contains place (selection_of d.sizes slab) at))))

@@ -8,7 +8,6 @@ use Rattle.std.specs.List.{list_any}
 use Rattle.h5_bytes.specs.declared.Block.{Block}
 use Rattle.h5_header.proofs.FoundLaws.{among_some}
 use Rattle.h5_laws.proofs.Lists as laws
-use Rattle.h5_layout.specs.Described.{Described, HasArray}
 use Rattle.h5_layout.specs.HeldChunks.{IsChunkMet}
 use Rattle.h5_layout.specs.NewChunks.{AreMissing, ChunkOffsets}
 use Rattle.h5_layout.specs.Standing.{is_stored_in}
@@ -22,9 +21,9 @@ use Rattle.h5_model.specs.Format.Layout.{Layout, InMessage, InBlock, InChunks, l
 use Rattle.h5_model.specs.Format.Messages.{Message}
 use Rattle.h5_model.specs.Format.Nodes.{chunk_kind, node_length}
 use Rattle.h5_model.specs.Format.Reached.{Shape}
-use Rattle.h5_model.specs.Format.Reads.{storage_of}
 use Rattle.h5_model.specs.Format.Sizes.{chunk_node}
 use Rattle.h5_model.specs.Format.Superblock.{leaf_k, internal_k, chunk_k}
+use Rattle.h5_model.specs.Format.Described.{Described, HasArray, storage_of}
 use Rattle.h5_model.specs.Tree.Grid.{corner_of}
 use Rattle.h5_model.specs.Tree.Objects.{Dataset, Contiguous}
 use Rattle.h5_model.specs.Tree.Places.{cells, index_of, place_of}

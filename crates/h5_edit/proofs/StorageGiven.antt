@@ -6,7 +6,6 @@ use Rattle.std.specs.Prelude.{◌↔◌, ◌==◌, IsTrue, Result, Ok, Err, opti
 use Rattle.std.specs.Option.{option_map_or}
 use Rattle.h5_btree.specs.declared.insertion.InsertFault.{InsertFault}
 use Rattle.h5_btree.specs.declared.insertion.InsertFault.TheVariants as insertion
-use Rattle.h5_layout.specs.Described.{Described}
 use Rattle.h5_model.specs.Edits.Bounds.{bound_of, write_bound}
 use Rattle.h5_model.specs.Edits.ImageAnswers.{AtTop, Facts, new_chunks, new_entries}
 use Rattle.h5_model.specs.Tree.Objects.{Dataset, dataset_of}
@@ -16,6 +15,7 @@ use Rattle.h5_model.specs.declared.edits.Edit.{Edit}
 use Rattle.h5_model.specs.declared.edits.Edit.TheVariants.{Write}
 use Rattle.h5_model.specs.declared.edit_fault.EditFault.TheVariants as fault
 use Rattle.h5_model.specs.declared.hyperslab.Hyper.{Hyper}
+use Rattle.h5_model.specs.Format.Described.{Described}
 use Rattle.h5_model.proofs.RefusalLaws.{Writes, accepted_write}
 use Rattle.h5_model.proofs.WithinLaws.{from_is_within}
 use Rattle.h5_query.specs.Data.{dataset_told}

@@ -3,6 +3,7 @@
 use Rattle.std.proofs.Common.{◌≡◌, ℕ, ◌<◌, ◌&&◌, List, [], ◌∷◌, Bool, true, false, not, length, map, refl, sym, ap, ap₂, ◌∙◌, subst, arith}
 use Rattle.std.proofs.lemmas.List.{length-map}
 use Rattle.std.specs.Prelude.{ℤ}
+use Rattle.std.proofs.lemmas.Bool.{not-true, and_parts}
 use Rattle.h5_layout.proofs.InsideLaws.{is_inside_from}
 use Rattle.h5_repack.proofs.ChunkLaws.ChunkCells.{long_index}
 use Rattle.h5_model.specs.Edits.Bounds.{Room, new_boxes}
@@ -14,7 +15,6 @@ use Rattle.h5_model.specs.declared.edits.Edit.{Edit}
 use Rattle.h5_model.specs.declared.edits.Edit.TheVariants.{Write}
 use Rattle.h5_model.specs.declared.hyperslab.Hyper.{Hyper}
 use Rattle.h5_model.proofs.SelectionLaws.{from_is_selected, to_is_selected}
-use Rattle.h5_model.proofs.WithinLaws.{both}
 use Rattle.h5_shape.specs.MetFirsts.{first_of_box}
 use Rattle.h5_shape.proofs.GridBoxes.{box_among, box_long, boxes_rise, held_some, some_held}
 use Rattle.h5_shape.proofs.Members.{In, from_map, in_map}
@@ -26,10 +26,6 @@ begins_at [] [] long = refl
 begins_at [] (n ∷ ns) long = absurd (omega (arith, long))
 begins_at (b ∷ bs) [] long = absurd (omega (arith, long))
 begins_at (b ∷ bs) (n ∷ ns) long = ap₂ (λ (x : ℕ) (xs : List ℕ). x ∷ xs) (omega arith) (begins_at bs ns (omega (arith, long)))
-
-not_so : (b : Bool) → not b ≡ true → b ≡ false
-not_so false is = refl
-not_so true is = absurd (let never : false ≡ true = is in cc)
 
 module _ (r : Room) (path : List ℕ) (hyper : Hyper) (values : List ℤ) (sizes box : List ℕ) (long : length box ≡ length sizes) (some : 0 < cells box)
     (within : (index : List ℕ) → Selected (axes_of hyper) index → IsInside sizes index) where
@@ -54,13 +50,13 @@ module _ (r : Room) (path : List ℕ) (hyper : Hyper) (values : List ℤ) (sizes
   first_new first at =
       let found = from_map (first_of_box box) first (new_boxes r edit sizes box) at in
       let there = filter_in is_new found.0 (boxes_of sizes box) found.1 in
-      let tests = both (some_in_box box (is_touched edit sizes) found.0) (not (r.is_stored (in_box found.0 box (map (λ n. 0) box)))) there.1 in
+      let tests = and_parts (some_in_box box (is_touched edit sizes) found.0) (not (r.is_stored (in_box found.0 box (map (λ n. 0) box)))) there.1 in
       let ranked = box_long sizes box found.0 long there.0 in
       let held = some_held box (is_touched edit sizes) found.0 ranked tests.0 in
-      let chosen = both (is_inside sizes held.index) (is_selected slab held.index) held.passes in
+      let chosen = and_parts (is_inside sizes held.index) (is_selected slab held.index) held.passes in
       let begins : in_box found.0 box (map (λ n. 0) box) ≡ first = begins_at box found.0 ranked ∙ found.2 in (
         (held.index, from_is_selected slab held.index chosen.1, held.corner ∙ found.2),
-        ap r.is_stored (sym begins) ∙ not_so (r.is_stored (in_box found.0 box (map (λ n. 0) box))) tests.1,
+        ap r.is_stored (sym begins) ∙ not-true (r.is_stored (in_box found.0 box (map (λ n. 0) box))) tests.1,
       )
 
   new_first : (first : List ℕ) → IsMet first → r.is_stored first ≡ false → In first firsts

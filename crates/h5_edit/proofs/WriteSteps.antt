@@ -2,10 +2,10 @@
 use Rattle.std.proofs.Common.{◌≡◌, ℕ, ℤ, true, List, [], ◌∷◌, Option, Some, None, Result, Ok, Err, IfOk, length, refl, sym, ap, ◌∙◌, subst}
 use Rattle.std.proofs.lemmas.Option.{same_Some}
 use Rattle.std.specs.List.{Contains, list_all}
-use Rattle.h5_layout.specs.Described.{Described}
 use Rattle.h5_model.specs.Edits.Applied.{with_dataset}
 use Rattle.h5_model.specs.Edits.Refusal.{first_holding}
 use Rattle.h5_model.specs.Format.Fixed.{fits}
+use Rattle.h5_model.specs.Format.Described.{Described}
 use Rattle.h5_model.specs.Tree.Objects.{Tree, Dataset, dataset_of, with_object}
 use Rattle.h5_model.specs.Tree.Paths.{dataset_at}
 use Rattle.h5_model.specs.Views.Selection.{Slab, axes_of, selection_of}

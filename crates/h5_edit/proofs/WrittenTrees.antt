@@ -5,14 +5,14 @@ use Rattle.std.proofs.lemmas.Option.{same_Some}
 use Rattle.std.specs.Prelude.{ℤ, filter, is_some}
 use Rattle.std.specs.List.{list_any, range_with_len}
 use Rattle.std.specs.Option.{option_map, option_map_or}
+use Rattle.std.proofs.lemmas.Bool.{or_parts, not-false}
 use Rattle.h5_bytes.specs.declared.Block.{Block}
-use Rattle.h5_layout.specs.Described.{Described}
 use Rattle.h5_layout.specs.Standing.{is_stored_cell, is_stored_in}
-use Rattle.h5_model.specs.Edits.Applied.{applied, with_cells, with_dataset, written, written_storage}
+use Rattle.h5_model.specs.Edits.Applied.{with_edit, with_cells, with_dataset, with_selection, written_storage}
 use Rattle.h5_model.specs.Edits.Touched.{touched_by}
 use Rattle.h5_model.specs.Format.Chunks.{Chunks}
 use Rattle.h5_model.specs.Format.Layout.{Layout, InMessage, InBlock, InChunks}
-use Rattle.h5_model.specs.Format.Reads.{storage_of}
+use Rattle.h5_model.specs.Format.Described.{Described, storage_of}
 use Rattle.h5_model.specs.Tree.Objects.{Tree, Dataset, Storage, Contiguous, with_object, dataset_of}
 use Rattle.h5_model.specs.Tree.Paths.{object_at}
 use Rattle.h5_model.specs.Tree.Places.{cells, index_of}
@@ -46,14 +46,6 @@ use Rattle.h5_edit.proofs.RuleLaws.TableLaws.{or_false}
 pub some_of : (test : ℕ → Bool) (places : List ℕ) → list_any test places ≡ true → nat_lt 0 (length places) ≡ true
 some_of test [] any = absurd (let never : false ≡ true = any in cc)
 some_of test (p ∷ ps) any = grind (arith, nat_tests)
-
-none_of : (a b : Bool) → (a || b) ≡ false → (a ≡ false) × (b ≡ false)
-none_of false b none = (refl, none)
-none_of true b none = absurd (let never : true ≡ false = none in cc)
-
-not_false : (b : Bool) → not b ≡ false → b ≡ true
-not_false true is = refl
-not_false false is = absurd (let never : true ≡ false = is in cc)
 
 -- without cells none is selected
 none_selected : (sizes : List ℕ) (slab : Slab) → cells sizes ≡ 0 → selection_of sizes slab ≡ []
@@ -95,8 +87,8 @@ module _ (sizes : List ℕ) (slab : Slab) where
     by_places : (ps : List ℕ) → places ≡ ps → Contiguous ((is_some b && nat_lt 0 (cells sizes)) || nat_lt 0 (length places)) ≡ Contiguous (is_some b && nat_lt 0 (cells sizes))
     by_places [] is = ap Contiguous (ap (λ (ps : List ℕ). (is_some b && nat_lt 0 (cells sizes)) || nat_lt 0 (length ps)) is ∙ or_false (is_some b && nat_lt 0 (cells sizes)))
     by_places (p ∷ ps) is =
-        let first = none_of (not (is_some b)) (list_any (λ place. not (is_some b)) ps) (sym (ap (list_any (λ place. not (is_some b))) is) ∙ none) in
-        let block : is_some b ≡ true = not_false (is_some b) first.0 in
+        let first = or_parts (not (is_some b)) (list_any (λ place. not (is_some b)) ps) (sym (ap (list_any (λ place. not (is_some b))) is) ∙ none) in
+        let block : is_some b ≡ true = not-false (is_some b) first.0 in
         let more : nat_lt 0 (length (p ∷ ps)) ≡ true = grind (arith, nat_tests) in
         let some : nat_lt 0 (length places) ≡ true = ap (λ (qs : List ℕ). nat_lt 0 (length qs)) is ∙ more in
         let any = some_cells sizes slab some in
@@ -143,9 +135,9 @@ module _ (f : FileState) (path : List ℕ) (hyper : Hyper) (values : List ℤ) (
   abbrev slab : Slab
   slab = axes_of hyper
 
-  write_gives : tree_after f edit ≡ with_object f.tree number (with_dataset (written slab values))
-  unfolding applied
-  write_gives = ap (λ found. option_map_or (λ n. with_object f.tree n (with_dataset (written slab values))) found f.tree) at
+  write_gives : tree_after f edit ≡ with_object f.tree number (with_dataset (with_selection slab values))
+  unfolding with_edit
+  write_gives = ap (λ found. option_map_or (λ n. with_object f.tree n (with_dataset (with_selection slab values))) found f.tree) at
 
   module _ (a : Described) (there : IsArrayThere f number a) (d : Dataset) (array : dataset_of f.tree number ≡ Some d) where
     abbrev chosen : List ℕ
@@ -154,19 +146,19 @@ module _ (f : FileState) (path : List ℕ) (hyper : Hyper) (values : List ℤ) (
     -- in place the cells alone are others
     pub tree_in_place : lacks_cells f.image a slab ≡ false → with_object f.tree number (with_dataset (with_places chosen values)) ≡ tree_after f edit
     tree_in_place none =
-        changed_alike f.tree number d array (with_places chosen values) (written slab values)
+        changed_alike f.tree number d array (with_places chosen values) (with_selection slab values)
         (ap (λ (s : Storage). record d { storage = s; cells = with_cells d.cells chosen values }) (sym (kept_as f number a there d array slab none)))
         ∙ sym write_gives
 
     module _ (m : Missing) (is : IsMissing f.image a slab m) (lacks : lacks_cells f.image a slab ≡ true) where
-      written_is : with_places chosen values (stored_all d) ≡ written slab values d
+      written_is : with_places chosen values (stored_all d) ≡ with_selection slab values d
       written_is = ap (λ (s : Storage). record d { storage = s; cells = with_cells d.cells chosen values }) (sym (made_as f number a there d array slab m is lacks))
 
       -- the cells of the tree with the storage that was missing
       pub tree_made : with_object (with_object f.tree number (with_dataset stored_all)) number (with_dataset (with_places chosen values)) ≡ tree_after f edit
       tree_made =
           changed_twice f.tree number stored_all (with_places chosen values)
-          ∙ changed_alike f.tree number d array (λ e. with_places chosen values (stored_all e)) (written slab values) written_is
+          ∙ changed_alike f.tree number d array (λ e. with_places chosen values (stored_all e)) (with_selection slab values) written_is
           ∙ sym write_gives
 
 -- ---- the edited image

@@ -3,8 +3,8 @@
 use Rattle.std.specs.Prelude.{◌≡◌, ◌↔◌, ℕ, ◌+◌, Bool, not, nat_lt, IsTrue, IsFalse, Option, Some, None, List, length}
 use Rattle.std.specs.FinMap.{get}
 use Rattle.std.specs.Option.{option_map_or, option_and_then}
-use Rattle.h5_model.specs.Edits.Applied.{applied}
-use Rattle.h5_model.specs.Edits.ImageAnswers.{Facts, IsGiven, chosen}
+use Rattle.h5_model.specs.Edits.Applied.{with_edit}
+use Rattle.h5_model.specs.Edits.ImageAnswers.{Facts, IsGiven, refusal_or}
 use Rattle.h5_model.specs.Format.Addresses.{SymbolTable}
 use Rattle.h5_model.specs.Format.Heap.{segment_block}
 use Rattle.h5_model.specs.Format.Messages.{prefix_at, total_in}
@@ -35,7 +35,7 @@ is_total_full f path = nat_lt 65535 (total_at f path + 2)
 
 -- the tree that an edit gives
 abbrev pub tree_after : FileState → Edit → Tree
-tree_after f edit = applied f.tree edit f.next
+tree_after f edit = with_edit f.tree edit f.next
 
 -- the facts of an edit of attributes are those of the image and of the header of the object at its path
 pub record AreHeaderFacts (f : FileState) (path : List ℕ) (facts : Facts) : Type 0 where
@@ -122,4 +122,4 @@ pub record IsAccepted (f : FileState) (edit : Edit) : Type 0 where
 pub record IsRefused (f : FileState) (edit : Edit) (e : EditFault) : Type 0 where
   pub given : Option EditFault
   pub allowed : IsGivenFor f edit given
-  pub answer : chosen (refusal_of f.tree f.next edit) given ≡ Some e
+  pub answer : refusal_or (refusal_of f.tree f.next edit) given ≡ Some e

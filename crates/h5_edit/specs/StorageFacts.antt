@@ -7,11 +7,11 @@ use Rattle.h5_layout.specs.Storage.{IsDeepFor}
 use Rattle.h5_layout.specs.declared.lacking.Missing.{Missing}
 use Rattle.h5_model.specs.Edits.ImageAnswers.{Facts}
 use Rattle.h5_model.specs.Format.Superblock.{leaf_k, internal_k, chunk_k}
+use Rattle.h5_model.specs.Format.Described.{Described}
 use Rattle.h5_model.specs.Tree.Paths.{object_at}
 use Rattle.h5_model.specs.Views.Selection.{Slab, axes_of}
 use Rattle.h5_model.specs.declared.hyperslab.Hyper.{Hyper}
 use Rattle.h5_query.specs.Data.{stored_chunks}
-use Rattle.h5_query.specs.Described.{Described}
 use Rattle.h5_query.specs.Opened.State.{FileState}
 use Rattle.h5_query.specs.Written.{IsArrayThere}
 

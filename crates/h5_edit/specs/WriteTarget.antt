@@ -1,10 +1,10 @@
 -- Cells that are to be written, and how they are stored (File Format Specification 3.0, sections III.A.1 and IV.A.2.i).
 use Rattle.std.specs.Prelude.{◌≡◌, ℕ, ℤ, List}
-use Rattle.h5_layout.specs.Described.{Described}
 use Rattle.h5_layout.specs.Lacking.{IsFound}
 use Rattle.h5_layout.specs.RunStorage.{IsRunMissing}
 use Rattle.h5_model.specs.Views.Selection.{axes_of}
 use Rattle.h5_model.specs.declared.hyperslab.Hyper.{Hyper}
+use Rattle.h5_model.specs.Format.Described.{Described}
 use Rattle.h5_query.specs.Opened.Sound.{IsSound}
 use Rattle.h5_query.specs.Opened.State.{FileState}
 use Rattle.h5_shape.specs.declared.runs.CellRun.{CellRun}

@@ -5,6 +5,7 @@ use Rattle.std.specs.Prelude.{MatchResult}
 use Rattle.std.specs.List.{list_any}
 use Rattle.std.specs.Option.{option_and_then, option_map_or}
 use Rattle.std.specs.Result.{result_ok}
+use Rattle.std.proofs.lemmas.Bool.{not-false}
 use Rattle.h5_model.specs.Edits.Refusal.{first_holding, is_chunked, refusal_of, rules_of}
 use Rattle.h5_model.specs.Scripts.Reading.{dataset_rules}
 use Rattle.h5_model.specs.Tree.Objects.{Tree, Dataset, dataset_of}
@@ -13,7 +14,7 @@ use Rattle.h5_model.specs.Views.Selection.{Slab, Within, axes_of, has_no_stride,
 use Rattle.h5_model.specs.declared.edit_fault.EditFault.{EditFault}
 use Rattle.h5_model.specs.declared.edits.Edit.TheVariants.{Write, Resize}
 use Rattle.h5_model.specs.declared.hyperslab.Hyper.{Hyper}
-use Rattle.h5_model.proofs.RefusalLaws.{accepted_write, none_holds, same_by, true_of}
+use Rattle.h5_model.proofs.RefusalLaws.{accepted_write, none_holds, same_by}
 use Rattle.h5_model.proofs.WithinLaws.{from_is_within}
 use Rattle.h5_shape.specs.Slab.{is_of_one_rank, slab_of}
 use Rattle.h5_shape.specs.declared.slab.SlabFault.{SlabFault}
@@ -44,7 +45,7 @@ module _ (tree : Tree) (next : ℕ) (path : List ℕ) (hyper : Hyper) (values : 
       record {
         array = found.0;
         found = found.1;
-        rank = true_of _ (sym (ap (λ o. option_map_or (λ (d : Dataset). not (has_rank (length d.sizes) hyper)) o false) found.1) ∙ later.0);
+        rank = not-false _ (sym (ap (λ o. option_map_or (λ (d : Dataset). not (has_rank (length d.sizes) hyper)) o false) found.1) ∙ later.0);
         ranked = found.2.ranked;
         strides = later.1.0;
         apart = later.1.1.0;
@@ -78,7 +79,7 @@ module _ (tree : Tree) (next : ℕ) (path dims : List ℕ) (allowed : refusal_of
     resize_chunked =
         let rules = none_holds (rules_of tree next (Resize path dims)) allowed in
         let chunked = rules.1.1.1.1.1.1.1.1.1.1.1.1.1.1.1.0 in
-        true_of _ (sym (ap (λ o. option_map_or (λ (d : Dataset). not (is_chunked d.storage)) o false) found) ∙ chunked)
+        not-false _ (sym (ap (λ o. option_map_or (λ (d : Dataset). not (is_chunked d.storage)) o false) found) ∙ chunked)
 
 -- ---- of an opened file
 

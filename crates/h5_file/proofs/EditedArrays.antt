@@ -9,7 +9,8 @@ use Rattle.std.specs.FinMap.{get, insert, remove, empty, get-insert, get-retain_
 use Rattle.std.specs.declared.cmp.Ordering.TheVariants.{Equal}
 use Rattle.std.specs.List.{AllByRecursion, filter, range_with_len}
 use Rattle.std.specs.Option.{option_and_then, option_map, option_map_or}
-use Rattle.h5_model.specs.Edits.Applied.{State, state_after, applied, linked, unlinked, linked_to, with_links, with_dataset, with_attributes, new_object, attribute_from, new_dataset, with_cells, written, resized, cell_or_fill}
+use Rattle.std.proofs.lemmas.Bool.{and_parts}
+use Rattle.h5_model.specs.Edits.Applied.{State, state_after, with_edit, with_link_at, without_link_at, with_hard_link, with_links, with_dataset, with_attributes, new_object, attribute_from, new_dataset, with_cells, with_selection, with_sizes, cell_or_fill}
 use Rattle.h5_model.specs.Tree.Objects.{Tree, Link, ToObject, Soft, Links, Object, Content, Group, Array, Dataset, dataset_in, dataset_of, with_object, only_reached, is_reached}
 use Rattle.h5_model.specs.Tree.Paths.{parent_at, object_at}
 use Rattle.h5_model.specs.Tree.Places.{IsInside, cells, index_of, is_inside, place_of}
@@ -19,7 +20,6 @@ use Rattle.h5_model.specs.declared.edits.Edit.{Edit}
 use Rattle.h5_model.specs.declared.edits.Edit.TheVariants.{CreateGroup, CreateDataset, HardLink, SoftLink, Unlink, SetAttr, RemoveAttr, Write, Resize}
 use Rattle.h5_model.proofs.StateLaws.{same_number}
 use Rattle.h5_model.proofs.PlaceLaws.{index-place, place_below}
-use Rattle.h5_model.proofs.WithinLaws.{both}
 use Rattle.h5_edit.proofs.ChangedLaws.NumberedLaws.{at_place, get-with_object}
 
 -- the number of the array that a write or a resize changes
@@ -30,8 +30,8 @@ changed_array tree _ = None
 
 -- what it makes of it
 abbrev pub change_of : Edit → Dataset → Dataset
-change_of (Write path hyper values) = written (axes_of hyper) values
-change_of (Resize path dims) = resized dims
+change_of (Write path hyper values) = with_selection (axes_of hyper) values
+change_of (Resize path dims) = with_sizes dims
 change_of _ = λ d. d
 
 -- ---- objects whose arrays stay
@@ -65,24 +65,24 @@ links_keep change o = by_content o.content where
   by_content (Group links) = refl
   by_content (Array d) = refl
 
-linked_keeps : (tree : Tree) (path : List ℕ) (link : Link) → KeepsArrays tree (linked tree path link)
+linked_keeps : (tree : Tree) (path : List ℕ) (link : Link) → KeepsArrays tree (with_link_at tree path link)
 unfolding KeepsArrays
 linked_keeps tree path link m = by_parent (parent_at tree path) where
   by_parent : (p : Option (ℕ × List ℕ)) → dataset_of (option_map_or (λ p. with_object tree p.0 (with_links (λ links. insert links p.1 link))) p tree) m ≡ dataset_of tree m
   by_parent None = refl
   by_parent (Some p) = object_kept (with_links (λ links. insert links p.1 link)) (links_keep (λ links. insert links p.1 link)) tree p.0 m
 
-unlinked_keeps : (tree : Tree) (path : List ℕ) → KeepsArrays tree (unlinked tree path)
+unlinked_keeps : (tree : Tree) (path : List ℕ) → KeepsArrays tree (without_link_at tree path)
 unfolding KeepsArrays
 unlinked_keeps tree path m = by_parent (parent_at tree path) where
   by_parent : (p : Option (ℕ × List ℕ)) → dataset_of (option_map_or (λ p. with_object tree p.0 (with_links (λ links. remove links p.1))) p tree) m ≡ dataset_of tree m
   by_parent None = refl
   by_parent (Some p) = object_kept (with_links (λ links. remove links p.1)) (links_keep (λ links. remove links p.1)) tree p.0 m
 
-linked_to_keeps : (tree : Tree) (target path : List ℕ) → KeepsArrays tree (linked_to tree target path)
+linked_to_keeps : (tree : Tree) (target path : List ℕ) → KeepsArrays tree (with_hard_link tree target path)
 unfolding KeepsArrays
 linked_to_keeps tree target path m = by_target (object_at tree target) where
-  by_target : (o : Option ℕ) → dataset_of (option_map_or (λ number. linked tree path (ToObject number)) o tree) m ≡ dataset_of tree m
+  by_target : (o : Option ℕ) → dataset_of (option_map_or (λ number. with_link_at tree path (ToObject number)) o tree) m ≡ dataset_of tree m
   by_target None = refl
   by_target (Some number) = linked_keeps tree path (ToObject number) m
 
@@ -161,14 +161,14 @@ module _ (tree : Tree) (edit : Edit) (m : ℕ) (d : Dataset) where
 
 -- an array after an accepted edit, of a number that was given out before
 pub array_after : (s : State) (edit : Edit) (m : ℕ) → m < s.next → (d : Dataset) → dataset_of (state_after s edit).tree m ≡ Some d → IsArrayAfter s.tree edit m d
-unfolding applied KeepsArrays
+unfolding with_edit KeepsArrays
 array_after s (CreateGroup path) m low d there =
-    same_of s.tree (CreateGroup path) m d (never m) (sym (linked_keeps s.tree path (ToObject s.next) m) ∙ sym (beside_keeps (linked s.tree path (ToObject s.next)) s.next (new_object (Group empty)) m low) ∙ there)
+    same_of s.tree (CreateGroup path) m d (never m) (sym (linked_keeps s.tree path (ToObject s.next) m) ∙ sym (beside_keeps (with_link_at s.tree path (ToObject s.next)) s.next (new_object (Group empty)) m low) ∙ there)
 array_after s (CreateDataset path spec) m low d there =
-    same_of s.tree (CreateDataset path spec) m d (never m) (sym (linked_keeps s.tree path (ToObject s.next) m) ∙ sym (beside_keeps (linked s.tree path (ToObject s.next)) s.next (new_object (Array (new_dataset spec))) m low) ∙ there)
+    same_of s.tree (CreateDataset path spec) m d (never m) (sym (linked_keeps s.tree path (ToObject s.next) m) ∙ sym (beside_keeps (with_link_at s.tree path (ToObject s.next)) s.next (new_object (Array (new_dataset spec))) m low) ∙ there)
 array_after s (HardLink target path) m low d there = same_of s.tree (HardLink target path) m d (never m) (sym (linked_to_keeps s.tree target path m) ∙ there)
 array_after s (SoftLink text path) m low d there = same_of s.tree (SoftLink text path) m d (never m) (sym (linked_keeps s.tree path (Soft text) m) ∙ there)
-array_after s (Unlink path) m low d there = same_of s.tree (Unlink path) m d (never m) (sym (unlinked_keeps s.tree path m) ∙ reached_keeps (unlinked s.tree path) m d there)
+array_after s (Unlink path) m low d there = same_of s.tree (Unlink path) m d (never m) (sym (unlinked_keeps s.tree path m) ∙ reached_keeps (without_link_at s.tree path) m d there)
 array_after s (SetAttr path attr) m low d there =
     same_of s.tree (SetAttr path attr) m d (never m) (sym (object_at_kept (with_attributes (λ a. insert a attr.name (attribute_from attr))) (λ o. refl) s.tree (object_at s.tree path) m) ∙ there)
 array_after s (RemoveAttr path name) m low d there =
@@ -202,11 +202,11 @@ pub is_inside_sound : (sizes index : List ℕ) → is_inside sizes index ≡ tru
 is_inside_sound [] [] is = tt
 is_inside_sound [] (i ∷ is) wrong = absurd (let none : false ≡ true = wrong in cc)
 is_inside_sound (d ∷ ds) [] wrong = absurd (let none : false ≡ true = wrong in cc)
-is_inside_sound (d ∷ ds) (i ∷ is) all = let parts = both (nat_lt i d) (is_inside ds is) all in let low : i < d = grind (arith, nat_tests) in (low, is_inside_sound ds is parts.1)
+is_inside_sound (d ∷ ds) (i ∷ is) all = let parts = and_parts (nat_lt i d) (is_inside ds is) all in let low : i < d = grind (arith, nat_tests) in (low, is_inside_sound ds is parts.1)
 
 -- what a write does not select stays
 written_cell : (slab : Slab) (values : List ℤ) (d : Dataset) (index : List ℕ) → (is_inside d.sizes index && is_selected slab index) ≡ false
-    → cell_or_fill (written slab values d) index ≡ cell_or_fill d index
+    → cell_or_fill (with_selection slab values d) index ≡ cell_or_fill d index
 written_cell slab values d index other = by_test (is_inside d.sizes index) refl where
   by_test : (b : Bool) → is_inside d.sizes index ≡ b
       → cond b (get_or (with_cells d.cells (selection_of d.sizes slab) values) (place_of d.sizes index) d.fill) d.fill ≡ cond b (get_or d.cells (place_of d.sizes index) d.fill) d.fill
@@ -218,7 +218,7 @@ written_cell slab values d index other = by_test (is_inside d.sizes index) refl 
       (selected_all d.sizes slab)
 
 -- what a resize does not lose stays, and what it adds is the fill as before
-resized_cell : (sizes : List ℕ) (d : Dataset) (index : List ℕ) → (is_inside d.sizes index && not (is_inside sizes index)) ≡ false → cell_or_fill (resized sizes d) index ≡ cell_or_fill d index
+resized_cell : (sizes : List ℕ) (d : Dataset) (index : List ℕ) → (is_inside d.sizes index && not (is_inside sizes index)) ≡ false → cell_or_fill (with_sizes sizes d) index ≡ cell_or_fill d index
 resized_cell sizes d index other = by_test (is_inside sizes index) refl where
   by_test : (b : Bool) → is_inside sizes index ≡ b
       → cond b (get_or (map (λ place. cell_or_fill d (index_of sizes place)) (range_with_len 0 (cells sizes))) (place_of sizes index) d.fill) d.fill ≡ cell_or_fill d index

@@ -2,7 +2,8 @@
 use Rattle.std.proofs.Common.{◌≡◌, ℕ, zero, suc, ◌+◌, ◌*◌, ◌^◌, ◌<◌, ◌≤◌, ◌&&◌, Bool, true, false, cond, List, length, ℤ, Option, Some, None, refl, sym, ap, ◌∙◌, subst, arith}
 use Rattle.std.proofs.lemmas.List.{length-map}
 use Rattle.std.specs.Option.{option_and_then}
-use Rattle.h5_model.specs.Edits.Applied.{cell_or_fill, resized, written, written_storage}
+use Rattle.std.proofs.lemmas.Bool.{and_parts}
+use Rattle.h5_model.specs.Edits.Applied.{cell_or_fill, with_sizes, with_selection, written_storage}
 use Rattle.h5_model.specs.Edits.Refusal.{is_chunked, refusal_of}
 use Rattle.h5_model.specs.Format.Fixed.{Fixed, bytes_of}
 use Rattle.h5_model.specs.Tree.Objects.{Tree, Dataset, dataset_of, Storage, Compact, Contiguous, Chunked}
@@ -69,19 +70,15 @@ in_line_stays places (Contiguous true) is = refl
 in_line_stays places (Contiguous false) is = absurd (let never : false ≡ true = is in cc)
 in_line_stays places (Chunked chunk) is = absurd (let never : false ≡ true = is in cc)
 
-first_of : (b c : Bool) → (b && c) ≡ true → b ≡ true
-first_of true c is = refl
-first_of false c is = is
-
-write_lent : (slab' slab : Slab) (values : List ℤ) (d : Dataset) → is_lent d slab ≡ true → is_lent (written slab' values d) slab ≡ true
+write_lent : (slab' slab : Slab) (values : List ℤ) (d : Dataset) → is_lent d slab ≡ true → is_lent (with_selection slab' values d) slab ≡ true
 write_lent slab' slab values d is =
-    let stored : is_in_line d.storage ≡ true = first_of (is_in_line d.storage) _ is in
+    let stored : is_in_line d.storage ≡ true = (and_parts (is_in_line d.storage) _ is).0 in
     let rest : (is_within d.sizes slab && is_one_run d.sizes slab) ≡ true = sym (ap (λ b. b && (is_within d.sizes slab && is_one_run d.sizes slab)) stored) ∙ is in
     rw (in_line_stays (selection_of d.sizes slab') d.storage stored) rest
 
-write_boxed : (slab : Slab) (values : List ℤ) (d : Dataset) → box_of (written slab values d) ≡ box_of d
+write_boxed : (slab : Slab) (values : List ℤ) (d : Dataset) → box_of (with_selection slab values d) ≡ box_of d
 write_boxed slab values d = by_storage d.storage where
-  by_storage : (s : Storage) → box_of (record (written slab values d) { storage = written_storage (selection_of d.sizes slab) s }) ≡ box_of (record d { storage = s })
+  by_storage : (s : Storage) → box_of (record (with_selection slab values d) { storage = written_storage (selection_of d.sizes slab) s }) ≡ box_of (record d { storage = s })
   by_storage Compact = refl
   by_storage (Contiguous stored) = refl
   by_storage (Chunked chunk) = refl
@@ -96,7 +93,7 @@ some_same e = cc
 
 module _ (tree : Tree) (next : ℕ) (path : List ℕ) (old : Dataset) (found : dataset_at tree path ≡ Some old) where
   write_change : (hyper : Hyper) (values : List ℤ) → refusal_of tree next (Write path hyper values) ≡ None
-      → IsChange (Write path hyper values) old (written (axes_of hyper) values old) (Written (axes_of hyper))
+      → IsChange (Write path hyper values) old (with_selection (axes_of hyper) values old) (Written (axes_of hyper))
   write_change hyper values allowed =
       let w = write_allowed tree next path hyper values allowed in
       let same : w.array ≡ old = some_same (sym w.found ∙ found) in
@@ -112,7 +109,7 @@ module _ (tree : Tree) (next : ℕ) (path : List ℕ) (old : Dataset) (found : d
       }
 
   resize_change : (dims : List ℕ) → refusal_of tree next (Resize path dims) ≡ None → cells old.sizes ≤ 2 ^ 40
-      → IsChange (Resize path dims) old (resized dims old) (Lost old.sizes dims)
+      → IsChange (Resize path dims) old (with_sizes dims old) (Lost old.sizes dims)
   resize_change dims allowed few =
       let rank = resize_rank tree next path dims allowed old found in
       let same = by_storage old.storage (resize_chunked tree next path dims allowed old found) in
@@ -124,9 +121,9 @@ module _ (tree : Tree) (next : ℕ) (path : List ℕ) (old : Dataset) (found : d
         touch = (sym rank, refl);
         few = λ _. few;
         met = λ slab. ap (λ box. met_firsts old.sizes box (is_touched (Resize path dims) old.sizes) slab) same.0;
-        stays = λ slab lent. absurd (let never : false ≡ true = sym same.1 ∙ first_of (is_in_line old.storage) _ lent in cc);
+        stays = λ slab lent. absurd (let never : false ≡ true = sym same.1 ∙ (and_parts (is_in_line old.storage) _ lent).0 in cc);
       } where
-        by_storage : (s : Storage) → is_chunked s ≡ true → (box_of (record (resized dims old) { storage = s }) ≡ box_of (record old { storage = s })) × (is_in_line s ≡ false)
+        by_storage : (s : Storage) → is_chunked s ≡ true → (box_of (record (with_sizes dims old) { storage = s }) ≡ box_of (record old { storage = s })) × (is_in_line s ≡ false)
         by_storage Compact differs = absurd (let never : false ≡ true = differs in cc)
         by_storage (Contiguous stored) differs = absurd (let never : false ≡ true = differs in cc)
         by_storage (Chunked chunk) holds = (refl, refl)
@@ -134,7 +131,7 @@ module _ (tree : Tree) (next : ℕ) (path : List ℕ) (old : Dataset) (found : d
 pub change_at : (tree : Tree) (next : ℕ) (edit : Edit) (touched : Touched) → IsTouching tree edit touched → refusal_of tree next edit ≡ None
     → (number : ℕ) → changed_array tree edit ≡ Some number → (old : Dataset) → dataset_of tree number ≡ Some old → IsChange edit old (change_of edit old) touched
 change_at tree next (Write path hyper values) (Written slab) is allowed number at old there =
-    subst (λ (s : Slab). IsChange (Write path hyper values) old (written (axes_of hyper) values old) (Written s)) (sym is)
+    subst (λ (s : Slab). IsChange (Write path hyper values) old (with_selection (axes_of hyper) values old) (Written s)) (sym is)
     (write_change tree next path old (ap (option_and_then (dataset_of tree)) at ∙ there) hyper values allowed)
 change_at tree next (Write path hyper values) (Lost sizes kept) is allowed number at old there = absurd is
 change_at tree next (Resize path dims) (Written slab) is allowed number at old there = absurd is
@@ -142,7 +139,7 @@ change_at tree next (Resize path dims) (Lost sizes kept) is allowed number at ol
     let found : dataset_at tree path ≡ Some old = ap (option_and_then (dataset_of tree)) at ∙ there in
     let same : is.2 ≡ old = some_same (sym is.3 ∙ found) in
     let before : sizes ≡ old.sizes = is.4 ∙ ap (λ (d : Dataset). d.sizes) same in
-    subst (λ (X : Type 0). X) (λ i. IsChange (Resize path dims) old (resized dims old) (Lost (sym before i) (sym is.0 i)))
+    subst (λ (X : Type 0). X) (λ i. IsChange (Resize path dims) old (with_sizes dims old) (Lost (sym before i) (sym is.0 i)))
     (resize_change tree next path old found dims allowed (subst (λ (ds : List ℕ). cells ds ≤ 2 ^ 40) before is.1))
 change_at tree next (CreateGroup path) touched is allowed number at old there = absurd is
 change_at tree next (CreateDataset path spec) touched is allowed number at old there = absurd is

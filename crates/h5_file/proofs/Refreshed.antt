@@ -1,6 +1,6 @@
 -- Kept cells of which all boxes are patched that an edit and the selection both meet are the array's again.
 use Rattle.std.proofs.Common.{◌≡◌, ◌≢◌, ◌⊎◌, ℕ, suc, ◌+◌, ◌-◌, ◌*◌, ◌/◌, ◌<◌, ◌≤◌, ◌&&◌, inl, inr, Bool, true, false, cond, List, [], ◌∷◌, ◌++◌, length, refl, sym, ap, ◌∙◌, subst, arith}
-use Rattle.std.proofs.lemmas.Bool.{cases_order}
+use Rattle.std.proofs.lemmas.Bool.{cases_order, and_parts}
 use Rattle.std.proofs.Math.Nat.{mul-le-mul_left, mul-le-mul_right}
 use Rattle.std.proofs.lemmas.List.FromFn.{length-map-range_with_len}
 use Rattle.std.proofs.lemmas.Nat.{div-mul-add, div_below}
@@ -15,7 +15,6 @@ use Rattle.h5_model.specs.Views.Shown.{is_touched, met_boxes}
 use Rattle.h5_model.specs.declared.edits.Edit.{Edit}
 use Rattle.h5_model.specs.declared.edits.Edit.TheVariants.{CreateGroup, CreateDataset, HardLink, SoftLink, Unlink, SetAttr, RemoveAttr, Write, Resize}
 use Rattle.h5_model.proofs.SelectionLaws.{to_is_selected}
-use Rattle.h5_model.proofs.WithinLaws.{both}
 use Rattle.h5_shape.specs.InBox.{IsCorner}
 use Rattle.h5_shape.specs.MetFirsts.{met_firsts}
 use Rattle.h5_shape.specs.PartCells.{selection_shape, selected_index}
@@ -94,8 +93,8 @@ module _ (d : Dataset) (slab : Slab) (box : List ℕ) where
 -- ---- an edit
 
 pub touched_inside : (edit : Edit) (sizes index : List ℕ) → is_touched edit sizes index ≡ true → is_inside sizes index ≡ true
-touched_inside (Write path hyper values) sizes index h = (both (is_inside sizes index) _ h).0
-touched_inside (Resize path dims) sizes index h = (both (is_inside sizes index) _ h).0
+touched_inside (Write path hyper values) sizes index h = (and_parts (is_inside sizes index) _ h).0
+touched_inside (Resize path dims) sizes index h = (and_parts (is_inside sizes index) _ h).0
 touched_inside (CreateGroup path) sizes index h = let wrong : false ≡ true = h in absurd (cc)
 touched_inside (CreateDataset path spec) sizes index h = let wrong : false ≡ true = h in absurd (cc)
 touched_inside (HardLink target path) sizes index h = let wrong : false ≡ true = h in absurd (cc)

@@ -7,7 +7,7 @@ use Rattle.std.proofs.lemmas.List.Sums.{sum_by-cons}
 use Rattle.std.specs.FinMap.{from_entries, values}
 use Rattle.std.specs.List.{AllByRecursion}
 use Rattle.std.specs.Option.{option_and_then, option_map, option_map_or}
-use Rattle.h5_model.specs.Edits.Applied.{State, applied, named_object, resized, state_after, with_dataset, written}
+use Rattle.h5_model.specs.Edits.Applied.{State, with_edit, named_object, with_sizes, state_after, with_dataset, with_selection}
 use Rattle.h5_model.specs.Edits.Refusal.{refusal_of}
 use Rattle.h5_model.specs.Tree.Objects.{Tree, Dataset, dataset_of, with_object}
 use Rattle.h5_model.specs.Tree.Paths.{object_at}
@@ -75,9 +75,9 @@ changed_there tree path number change old at there =
 
 array_now : (s : State) (number : ℕ) (edit : Edit) (old : Dataset) → changed_array s.tree edit ≡ Some number → dataset_of s.tree number ≡ Some old
     → dataset_of (state_after s edit).tree number ≡ Some (change_of edit old)
-unfolding applied
-array_now s number (Write path hyper values) old at there = changed_there s.tree path number (written (axes_of hyper) values) old at there
-array_now s number (Resize path dims) old at there = changed_there s.tree path number (resized dims) old at there
+unfolding with_edit
+array_now s number (Write path hyper values) old at there = changed_there s.tree path number (with_selection (axes_of hyper) values) old at there
+array_now s number (Resize path dims) old at there = changed_there s.tree path number (with_sizes dims) old at there
 array_now s number (CreateGroup path) old at there = absurd (let never : None ≡ Some number = at in cc)
 array_now s number (CreateDataset path spec) old at there = absurd (let never : None ≡ Some number = at in cc)
 array_now s number (HardLink target path) old at there = absurd (let never : None ≡ Some number = at in cc)

@@ -4,10 +4,11 @@ use Rattle.std.proofs.lemmas.Bool.Decides.{nat_tests}
 use Rattle.std.proofs.lemmas.List.{length-replicate}
 use Rattle.std.proofs.Math.Nat.{mul-le-mul_left, mul-le-mul_right}
 use Rattle.std.specs.List.{list_any}
+use Rattle.std.proofs.lemmas.Bool.{or_right, and_parts, or_parts}
 use Rattle.h5_model.specs.Tree.Places.{cells}
 use Rattle.h5_model.specs.Views.Selection.{Slab, Within, fits_along, fits_all, has_no_cell, overlaps, selected_cells, selects_none}
 use Rattle.h5_model.specs.declared.hyperslab.Axis.{Axis}
-use Rattle.h5_model.proofs.WithinLaws.{both, from_is_within, neither}
+use Rattle.h5_model.proofs.WithinLaws.{from_is_within}
 use Rattle.h5_shape.specs.InBox.{AreApart}
 use Rattle.h5_shape.proofs.SlabRuns.{within_fits}
 
@@ -22,8 +23,8 @@ some_cells : (sizes : List ℕ) (slab : Slab) → length sizes ≡ length slab �
 some_cells [] slab rank fits some = omega arith
 some_cells (d ∷ ds) [] rank fits some = absurd (omega (arith, rank))
 some_cells (d ∷ ds) (a ∷ rest) rank fits some =
-    let split = neither (has_no_cell a) (selects_none rest) some in
-    let each = both (fits_along d a) (fits_all ds rest) fits in
+    let split = or_parts (has_no_cell a) (selects_none rest) some in
+    let each = and_parts (fits_along d a) (fits_all ds rest) fits in
     let one : 1 ≤ cells ds = some_cells ds rest (omega (arith, rank)) each.1 split.1 in
     let first : 1 ≤ d = axis_some d a split.0 each.0 in
     let all : d * 1 ≤ d * cells ds = mul-le-mul_left d one in
@@ -45,9 +46,9 @@ apart_fit [] [] rank fits apart few some = tt
 apart_fit [] (a ∷ rest) rank fits apart few some = absurd (omega (arith, rank))
 apart_fit (d ∷ ds) [] rank fits apart few some = absurd (omega (arith, rank))
 apart_fit (d ∷ ds) (a ∷ rest) rank fits apart few some =
-    let split = neither (has_no_cell a) (selects_none rest) some in
-    let free = neither (overlaps a) (list_any overlaps rest) apart in
-    let each = both (fits_along d a) (fits_all ds rest) fits in
+    let split = or_parts (has_no_cell a) (selects_none rest) some in
+    let free = or_parts (overlaps a) (list_any overlaps rest) apart in
+    let each = and_parts (fits_along d a) (fits_all ds rest) fits in
     let under : length ds ≡ length rest = omega (arith, rank) in
     let low = size_few d ds (axis_some d a split.0 each.0) (some_cells ds rest under each.1 split.1) few in
     ((free.0, fits_more a d (2 ^ 63) each.0 (omega (arith, low.0))), apart_fit ds rest under each.1 free.1 low.1 split.1)
@@ -57,18 +58,14 @@ apart_within sizes slab rank within apart few some = apart_fit sizes slab rank (
 
 -- ---- indexes are words
 
-or_true : (b c : Bool) → c ≡ true → (b || c) ≡ true
-or_true true c is = refl
-or_true false c is = is
-
 words_fit : (sizes : List ℕ) (slab : Slab) → length sizes ≡ length slab → fits_all sizes slab ≡ true → cells sizes ≤ 2 ^ 40 → selects_none slab ≡ false
     → fits_all (replicate (length slab) (2 ^ 64)) slab ≡ true
 words_fit [] [] rank fits few some = refl
 words_fit [] (a ∷ rest) rank fits few some = absurd (omega (arith, rank))
 words_fit (d ∷ ds) [] rank fits few some = absurd (omega (arith, rank))
 words_fit (d ∷ ds) (a ∷ rest) rank fits few some =
-    let split = neither (has_no_cell a) (selects_none rest) some in
-    let each = both (fits_along d a) (fits_all ds rest) fits in
+    let split = or_parts (has_no_cell a) (selects_none rest) some in
+    let each = and_parts (fits_along d a) (fits_all ds rest) fits in
     let under : length ds ≡ length rest = omega (arith, rank) in
     let low = size_few d ds (axis_some d a split.0 each.0) (some_cells ds rest under each.1 split.1) few in
     rw (fits_more a d (2 ^ 64) each.0 (omega (arith, low.0)), words_fit ds rest under each.1 low.1 split.1) refl
@@ -87,7 +84,7 @@ apart_words (a ∷ rest) are = rw (fits_more a (2 ^ 63) (2 ^ 64) are.0.1 (omega 
 pub words_apart : (slab : Slab) → AreApart slab → Within (replicate (length slab) (2 ^ 64)) slab
 words_apart slab are =
     from_is_within (replicate (length slab) (2 ^ 64)) slab (length-replicate (length slab) (2 ^ 64))
-    (or_true (selects_none slab) (fits_all (replicate (length slab) (2 ^ 64)) slab) (apart_words slab are))
+    (or_right (selects_none slab) (fits_all (replicate (length slab) (2 ^ 64)) slab) (apart_words slab are))
 
 -- ---- no cell
 

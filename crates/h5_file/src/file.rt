@@ -1,7 +1,7 @@
 //! A file in memory.
 
 ghost use Rattle.std.specs.Prelude.{◌≡◌, [], IfOk, IfErr, MatchOption, MatchResult, OnErr, Some, length, map};
-ghost use Rattle.h5_model.specs.Faults.Breaches.{cut};
+ghost use Rattle.h5_model.specs.Faults.Breaches.{up_to_end};
 ghost use Rattle.h5_model.specs.Edits.Refusal.{first_holding};
 ghost use Rattle.h5_model.specs.Scripts.Reading.{path_rules, attribute_rules, cell_rules, dataset_rules, selection_rules};
 ghost use Rattle.h5_model.specs.Tree.Objects.{dataset_of};
@@ -80,7 +80,7 @@ impl File {
     /// superblock (File Format Specification 3.0, section II.A), or else the first one on the way from there. Bytes
     /// that are a tree are refused as [`Cause::NoMemory`] alone. [`OpenError`] gives the bytes back whole.
     pub fn open(alloc: Global, bytes: Vec<u8>) -> Result<File, OpenError>
-        ensures image { IfOk result (λ f. (f.image ≡ cut bytes.items) × (f.free ≡ [])) }
+        ensures image { IfOk result (λ f. (f.image ≡ up_to_end bytes.items) × (f.free ≡ [])) }
         ensures sound { IfOk result IsSound }
         ensures refused { IfErr result (λ e. Refused bytes.items e.fault) }
         // Bytes that are a tree are refused for want of memory alone.
@@ -303,11 +303,12 @@ impl File {
 fn open_front(alloc: Global, bytes: Vec<u8>, end: usize) -> Result<File, OpenError>
     requires superblock { IsSuperblock bytes.items }
     requires end { end ≡ end_of_file bytes.items }
-    ensures image { IfOk result (λ f. (f.image ≡ cut bytes.items) × (f.free ≡ [])) }
+    ensures image { IfOk result (λ f. (f.image ≡ up_to_end bytes.items) × (f.free ≡ [])) }
     ensures sound { IfOk result IsSound }
     ensures numbers { IfOk result (λ f. f.next ≡ len f.tree) }
-    ensures refused { IfErr result (λ e. IsOpenRefusedAt (cut bytes.items) e.fault.cause e.fault.address) }
-    ensures only { IfErr result (λ e. ReadsSome (cut bytes.items) → e.fault.cause ≡ Cause.NoMemory) }
+    ensures refused { IfErr result (λ e.
+        IsOpenRefusedAt (up_to_end bytes.items) e.fault.cause e.fault.address) }
+    ensures only { IfErr result (λ e. ReadsSome (up_to_end bytes.items) → e.fault.cause ≡ Cause.NoMemory) }
     ensures back { IfErr result (λ e. e.bytes.items ≡ bytes.items) }
 {
     let Ok(front) = Vec::from_slice(alloc, &bytes[..end]) else {

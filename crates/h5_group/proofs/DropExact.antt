@@ -1,6 +1,6 @@
 -- A symbol node without entries goes out of a group with exact keys: they are exact still, and where each other symbol node has an entry, the
 -- group has exact keys then (File Format Specification 3.0, sections III.A.1 and III.B).
-use Rattle.std.proofs.Common.{◌≡◌, inl, inr, ◌⊎◌, ℕ, ◌+◌, ◌*◌, ◌<◌, ◌≤◌, ◌^◌, List, [], ◌∷◌, length, map, get_or, sym, ap, ◌∙◌, subst, arith}
+use Rattle.std.proofs.Common.{◌≡◌, inl, inr, ◌⊎◌, ℕ, ◌+◌, ◌*◌, ◌≤◌, List, [], ◌∷◌, length, map, get_or, sym, ap, subst, arith}
 use Rattle.std.specs.List.{AllByRecursion, remove}
 use Rattle.h5_bytes.specs.Blocks.{cover, holds}
 use Rattle.h5_bytes.specs.declared.Block.{Block}
@@ -11,7 +11,6 @@ use Rattle.h5_model.specs.Format.Nodes.{Kind, group_kind, node_at}
 use Rattle.h5_model.specs.Format.Rows.{Reading}
 use Rattle.h5_model.specs.Format.Symbols.{Entry, Target, entries_of, symbol_block, symbol_bytes, symbols_at}
 use Rattle.h5_model.proofs.OneTree.{level_is}
-use Rattle.h5_laws.proofs.KeyInserts.{all_both}
 use Rattle.h5_laws.proofs.Lists.{In, all_in, in_all}
 use Rattle.h5_space.specs.Space.{Space}
 use Rattle.h5_btree.specs.Exact.{AreKeysExact}

@@ -4,7 +4,7 @@ use Rattle.std.proofs.Common.{◌≡◌, ℕ, suc, ◌+◌, ◌<◌, List, [], �
 use Rattle.std.proofs.lemmas.List.{get_or-append-add, get_or_append_left, length-append}
 use Rattle.std.proofs.lemmas.Grind.{flat_map-append}
 use Rattle.std.specs.List.{AllByRecursion}
-use Rattle.h5_bytes.specs.Bytes.{undefined}
+use Rattle.h5_bytes.specs.Bytes.{undefined_address}
 use Rattle.h5_bytes.specs.Blocks.{Keeps}
 use Rattle.h5_bytes.specs.declared.Block.{Block}
 use Rattle.h5_model.specs.Format.Addresses.{SymbolTable}
@@ -86,7 +86,7 @@ module _ (s : Space) (kind : Kind) (root level : ℕ) (way : List Step) (owned l
         front = e.front;
         back = e.back;
         leads = subst (λ (v : Reading). IsWay v 0 root e.above p e.front e.back) (sym rows) e.leads;
-        row = subst (λ (v : Reading). IsRow v 0 undefined (e.front ++ p ∷ e.back)) (sym rows) e.row;
+        row = subst (λ (v : Reading). IsRow v 0 undefined_address (e.front ++ p ∷ e.back)) (sym rows) e.row;
         place = subst (λ (v : Reading). i < length (v p).children) (sym rows) e.place;
         number = subst (λ (v : Reading). k ≡ length (next_row v e.front) + i) (sym rows) e.number;
       }

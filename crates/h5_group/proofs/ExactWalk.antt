@@ -1,23 +1,18 @@
 -- The symbol nodes of a group, each of which has an entry: by the walk down its tree, and as the image tells them.
-use Rattle.std.proofs.Common.{◌≡◌, ◌↔◌, ℕ, zero, suc, ◌+◌, ◌*◌, ◌<◌, ◌≤◌, List, [], ◌∷◌, ◌++◌, length, take, drop, get_or, Some, sym, ap, ◌∙◌, subst, add-one}
+use Rattle.std.proofs.Common.{◌≡◌, ◌↔◌, ℕ, zero, suc, ◌+◌, List, [], ◌∷◌, take, Some, sym, subst, add-one}
 use Rattle.std.specs.List.{AllByRecursion, slice_get}
-use Rattle.h5_bytes.specs.Blocks.{Inside}
-use Rattle.h5_bytes.proofs.BlockLaws.{all_append, all_left, all_right, all_so}
+use Rattle.h5_bytes.proofs.BlockLaws.{all_append, all_left, all_right}
 use Rattle.h5_model.specs.Format.Addresses.{SymbolTable}
-use Rattle.h5_model.specs.Format.Nodes.{Kind, node_at, node_bytes}
+use Rattle.h5_model.specs.Format.Nodes.{node_at}
 use Rattle.h5_model.specs.Format.Reached.{level_at}
-use Rattle.h5_model.specs.Format.Rows.{Node, Reading, leaves, next_row}
+use Rattle.h5_model.specs.Format.Rows.{Reading, leaves, next_row}
 use Rattle.h5_model.specs.Format.Superblock.{leaf_k}
-use Rattle.h5_model.specs.Format.Symbols.{IsSymbolNode, symbol_bytes}
 use Rattle.h5_laws.proofs.Lists.{In, all_in, contains_in}
 use Rattle.h5_space.specs.Space.{Space}
 use Rattle.h5_btree.specs.Retired.{StandsUnder}
-use Rattle.h5_btree.specs.Walk.Forms.{OfGroup}
-use Rattle.h5_btree.specs.Walk.Stands.{IsNodeAt}
 use Rattle.h5_btree.proofs.ExactLaws.{tree_stands}
 use Rattle.h5_group.specs.Exact.{AreFilledUnder, AreSymbolsFilled}
 use Rattle.h5_group.specs.Links.{IsGroupRead}
-use Rattle.h5_group.specs.Nodes.Stands.{IsSymbolsAt, entries_at}
 use Rattle.h5_group.specs.Nodes.Trees.{kind_in}
 use Rattle.h5_group.specs.Retired.{StandsAt}
 use Rattle.h5_group.specs.Told.{symbol_nodes_told}

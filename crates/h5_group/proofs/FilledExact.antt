@@ -1,6 +1,6 @@
 -- An entry comes into the symbol node at the end of a way, in a group whose keys are exact but for those that were moved to let its name in:
 -- they are exact then (File Format Specification 3.0, sections III.A.1 and III.B).
-use Rattle.std.proofs.Common.{◌≡◌, inl, ℕ, zero, suc, ◌+◌, ◌^◌, ◌<◌, ◌≤◌, IsTrue, List, [], ◌∷◌, ◌++◌, length, map, get_or, take, drop, refl, sym, ap, ◌∙◌, subst, arith}
+use Rattle.std.proofs.Common.{◌≡◌, inl, ℕ, zero, suc, ◌+◌, ◌^◌, ◌<◌, ◌≤◌, IsTrue, List, [], ◌∷◌, ◌++◌, length, get_or, take, drop, refl, sym, ap, ◌∙◌, subst, arith}
 use Rattle.std.specs.List.{AllByRecursion, insert, remove}
 use Rattle.std.proofs.lemmas.List.{drop-map, length-map, take-append-drop, take-map}
 use Rattle.h5_bytes.specs.Numbers.{word}

@@ -1,5 +1,5 @@
 -- A group whose heap alone is edited has its links still.
-use Rattle.std.proofs.Common.{◌≡◌, ◌≢◌, ℕ, ◌+◌, ◌*◌, ◌^◌, ◌<◌, ◌≤◌, List, [], ◌∷◌, ◌++◌, map, length, refl, sym, ◌∙◌, ap, subst, arith}
+use Rattle.std.proofs.Common.{◌≡◌, ℕ, ◌+◌, ◌*◌, ◌^◌, ◌<◌, ◌≤◌, List, [], ◌∷◌, ◌++◌, map, length, refl, sym, ◌∙◌, ap, subst, arith}
 use Rattle.std.specs.List.{AllByRecursion, Contains, flat_map}
 use Rattle.h5_bytes.specs.Blocks.{holds, cover, Inside, Keeps}
 use Rattle.h5_bytes.specs.declared.Block.{Block}
@@ -21,7 +21,7 @@ use Rattle.h5_space.specs.Whole.{IsApart}
 use Rattle.h5_heap.specs.Edited.{IsStandingHeap, free_blocks}
 use Rattle.h5_heap.proofs.EditedLaws.{standing_heap}
 use Rattle.h5_btree.proofs.BlocksInside.{inside_held, made_long}
-use Rattle.h5_group.specs.Edited.{IsGroupIn, HasGroupMoved, IsNamedByNoKey}
+use Rattle.h5_group.specs.Edited.{IsGroupIn, HasGroupMoved}
 use Rattle.h5_group.specs.KeptNodes.{AreNodesKept, keys_told}
 use Rattle.h5_group.specs.Nodes.Trees.{kind_in}
 use Rattle.h5_group.specs.Told.{nodes_told, symbol_nodes_told}
@@ -52,13 +52,6 @@ kept_nodes s t table (n ∷ ns) same kept =
 pub unnamed_told : (s : Space) (table : SymbolTable) (links : List (List ℕ × Target)) (spare : List ℕ) (blocks : List Block) (g : IsGroupIn s table links spare blocks)
     → key_offsets (node_at s.bytes (kind_in s.bytes)) (g.linked).owned ≡ keys_told s.bytes table
 unnamed_told s table links spare blocks g = ap (key_offsets (node_at s.bytes (kind_in s.bytes))) (nodes_are_told s.bytes table links blocks g.linked)
-
--- what no key names, no key names where the keys stay
-pub still_unnamed : (s t : Space) (table : SymbolTable) (links links' : List (List ℕ × Target)) (spare spare' : List ℕ) (blocks blocks' : List Block)
-    (g : IsGroupIn s table links spare blocks) (g' : IsGroupIn t table links' spare' blocks') (offset : ℕ) → keys_told t.bytes table ≡ keys_told s.bytes table
-    → IsNamedByNoKey s table links spare blocks g offset → IsNamedByNoKey t table links' spare' blocks' g' offset
-still_unnamed s t table links links' spare spare' blocks blocks' g g' offset same unnamed =
-    subst (AllByRecursion (λ key. key ≢ offset)) (unnamed_told s table links spare blocks g ∙ sym same ∙ sym (unnamed_told t table links' spare' blocks' g')) unnamed
 
 -- ---- the heap of a group
 

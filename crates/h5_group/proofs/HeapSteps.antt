@@ -5,7 +5,7 @@ use Rattle.h5_bytes.specs.declared.Block.{Block}
 use Rattle.h5_bytes.proofs.BlockLaws.{holds_in}
 use Rattle.h5_model.specs.Format.Addresses.{SymbolTable}
 use Rattle.h5_model.specs.Format.Heap.{heap_header, heap_blocks, segment_block, segment_place, segment_size}
-use Rattle.h5_model.specs.Format.Reached.{Named, named, HeapHeader, Segment, Reached, by_block, group_root, block_of, length_of}
+use Rattle.h5_model.specs.Format.Reached.{Named, naming_of, HeapHeader, Segment, Reached, by_block, group_root, block_of, length_of}
 use Rattle.h5_model.specs.declared.open_fault.Cause.{Cause}
 use Rattle.h5_model.specs.declared.open_fault.Cause.TheVariants.{Truncated, Overlap, HeapForm, NoMemory}
 use Rattle.h5_heap.specs.Refused.{IsHeapRefused}
@@ -20,13 +20,13 @@ use Rattle.h5_group.specs.Walk.{IsGroupMet}
 module _ (image : List ℕ) (held : List Block) (followed : List Named) (first second depth : ℕ) (table : SymbolTable)
     (met : IsGroupMet image held followed first second depth table) where
   abbrev pub heap_field : Named
-  heap_field = named second (HeapHeader table.tree) table.heap depth
+  heap_field = naming_of second (HeapHeader table.tree) table.heap depth
 
   abbrev pub segment_field : Named
-  segment_field = named (table.heap + 24) Segment (segment_place (heap_header image table.heap)) depth
+  segment_field = naming_of (table.heap + 24) Segment (segment_place (heap_header image table.heap)) depth
 
   abbrev pub tree_field : Named
-  tree_field = named first (group_root image table.tree table.heap) table.tree depth
+  tree_field = naming_of first (group_root image table.tree table.heap) table.tree depth
 
   segment_is : block_of image segment_field ≡ segment_block image table.heap
   segment_is =

@@ -1,7 +1,7 @@
 -- Ways down a group's tree that stay where its heap is edited, and where keys of its nodes give way.
 use Rattle.std.proofs.Common.{◌≡◌, ℕ, ◌+◌, ◌*◌, ◌^◌, ◌<◌, ◌≤◌, Bool, true, false, List, [], ◌∷◌, ◌++◌, length, map, slice_index, refl, sym, ap, ◌∙◌, subst, arith, ◌==◌, if◌then◌else◌}
 use Rattle.std.specs.List.{AllByRecursion, Contains, list_any}
-use Rattle.h5_bytes.specs.Bytes.{undefined}
+use Rattle.h5_bytes.specs.Bytes.{undefined_address}
 use Rattle.h5_bytes.specs.Blocks.{cover, Inside, IsKept, Keeps}
 use Rattle.h5_bytes.specs.declared.Block.{Block}
 use Rattle.h5_bytes.proofs.BlockLaws.{all_append, all_left, all_right, cover-append}
@@ -154,7 +154,7 @@ module _ (s t : Space) (kind : Kind) (root level : ℕ) (way : List Step) (owned
     front = e.front;
     back = e.back;
     leads = IsWay-keyed V W same_rows 0 root e.above e.step.node e.front e.back e.leads;
-    row = IsRow-keyed V W same_rows 0 undefined (e.front ++ e.step.node ∷ e.back) e.row;
+    row = IsRow-keyed V W same_rows 0 undefined_address (e.front ++ e.step.node ∷ e.back) e.row;
     place = subst (λ (xs : List ℕ). e.step.place < length xs) (sym (children-keyed V W same_rows e.step.node)) e.place;
     number = e.number ∙ ap (λ (xs : List ℕ). length xs + e.step.place) (sym (next_row-keyed V W same_rows e.front));
   }

@@ -1,5 +1,5 @@
 -- The key of a name that comes into a group whose keys are exact but for those that were moved to let it in.
-use Rattle.std.proofs.Common.{◌≡◌, inl, ℕ, suc, ◌^◌, ◌<◌, ◌≤◌, IsTrue, List, [], ◌∷◌, ◌++◌, length, map, refl, sym, ap, ◌∙◌, subst, arith, None}
+use Rattle.std.proofs.Common.{◌≡◌, ℕ, suc, ◌^◌, ◌<◌, ◌≤◌, IsTrue, List, [], ◌∷◌, ◌++◌, length, map, sym, ap, subst, arith, None}
 use Rattle.std.specs.List.{AllByRecursion, flat_map}
 use Rattle.std.proofs.lemmas.List.{length-map, map-append}
 use Rattle.h5_bytes.specs.Numbers.{word}
@@ -21,11 +21,10 @@ use Rattle.h5_space.specs.Space.{Space}
 use Rattle.h5_btree.specs.Keyed.{keys_from}
 use Rattle.h5_btree.specs.Retired.{lowest_key}
 use Rattle.h5_btree.proofs.KeyedExactPuts.{AreExactFor}
-use Rattle.h5_group.specs.Edited.{IsGroupIn, offsets_of}
+use Rattle.h5_group.specs.Edited.{IsGroupIn}
 use Rattle.h5_group.specs.Exact.{AreSymbolsFilled, HasKeysFor}
 use Rattle.h5_group.specs.Nodes.Trees.{kind_in}
 use Rattle.h5_group.specs.Retired.{entry_keys, name_keys}
-use Rattle.h5_group.specs.Told.{symbol_nodes_told}
 use Rattle.h5_group.proofs.EntryOrder.{above_empty}
 use Rattle.h5_group.proofs.MovedNames.{names_of}
 use Rattle.h5_group.proofs.NameKeys.{lowest_empty, offset_is, text_low, texts_of_keys}

@@ -9,7 +9,7 @@ use Rattle.h5_model.specs.Format.Superblock.{leaf_k}
 use Rattle.h5_model.specs.Format.Heap.{heap_blocks}
 use Rattle.h5_model.specs.Format.Nodes.{node_block, tree_blocks}
 use Rattle.h5_model.specs.Format.Symbols.{symbol_block}
-use Rattle.h5_model.specs.Format.Reached.{Named, named, GroupNode, SymbolNode, HeapHeader}
+use Rattle.h5_model.specs.Format.Reached.{Named, naming_of, GroupNode, SymbolNode, HeapHeader}
 use Rattle.h5_model.specs.declared.open_fault.Cause.{Cause}
 use Rattle.h5_model.specs.declared.open_fault.Cause.TheVariants.{HeapName, BadName, NameOrder, KeyOrder, NoMemory}
 use Rattle.h5_header.specs.Walk.Met.{IsMet}
@@ -22,11 +22,11 @@ use Rattle.h5_group.specs.Order.Ordered.{IsOrderRefused}
 use Rattle.h5_laws.proofs.Lists.{in_all, in_map, in_contains}
 
 module _ (image : List ℕ) (held : List Block) (followed : List Named) (table : SymbolTable) (second depth : ℕ)
-    (met : IsMet image held followed (named second (HeapHeader table.tree) table.heap depth)) (inside : Inside (length image) (heap_blocks image table.heap)) where
+    (met : IsMet image held followed (naming_of second (HeapHeader table.tree) table.heap depth)) (inside : Inside (length image) (heap_blocks image table.heap)) where
   pub texts_refused : (cause : Cause) (address : ℕ) → address ≡ table.heap → AreTextsRefused image table cause → IsFault image cause address
   texts_refused NoMemory address e refused = tt
-  texts_refused HeapName address e breach = (named second (HeapHeader table.tree) table.heap depth, met.reached, sym e, (inside.0, breach))
-  texts_refused BadName address e breach = (named second (HeapHeader table.tree) table.heap depth, met.reached, sym e, (inside.0, breach))
+  texts_refused HeapName address e breach = (naming_of second (HeapHeader table.tree) table.heap depth, met.reached, sym e, (inside.0, breach))
+  texts_refused BadName address e breach = (naming_of second (HeapHeader table.tree) table.heap depth, met.reached, sym e, (inside.0, breach))
   texts_refused _ address e refused = absurd refused
 
 module _ (image : List ℕ) (now : List Block) (followed : List Named) (table : SymbolTable) (first depth : ℕ) (nodes symbol_nodes : List ℕ)
@@ -41,11 +41,11 @@ module _ (image : List ℕ) (now : List Block) (followed : List Named) (table : 
       let by = in_all (AreSymbolsReached image table.tree table.heap depth) address symbol_nodes tree.leaves_reached there in
       let block = in_all IsInside (symbol_block (leaf_k image) address) (map (symbol_block (leaf_k image)) symbol_nodes)
       (all_right IsInside (tree_blocks (kind_in image) nodes) (map (symbol_block (leaf_k image)) symbol_nodes) inside) (in_map (symbol_block (leaf_k image)) address symbol_nodes there) in
-      (named by.0 (SymbolNode table.tree table.heap) address depth, by.1, refl, (block, breach))
+      (naming_of by.0 (SymbolNode table.tree table.heap) address depth, by.1, refl, (block, breach))
   order_refused KeyOrder address (has, ascend, breach) =
       let there = in_contains address nodes has in
       let by = in_all (IsNodeReached image OfGroup table.tree table.heap depth) address nodes tree.nodes_reached there in
       let block = in_all IsInside (node_block (kind_in image) address) (tree_blocks (kind_in image) nodes)
       (all_left IsInside (tree_blocks (kind_in image) nodes) (map (symbol_block (leaf_k image)) symbol_nodes) inside) (in_map (node_block (kind_in image)) address nodes there) in
-      (named by.0 (GroupNode table.tree table.heap by.1) address depth, by.2, refl, (block, breach))
+      (naming_of by.0 (GroupNode table.tree table.heap by.1) address depth, by.2, refl, (block, breach))
   order_refused _ address refused = absurd refused

@@ -1,24 +1,21 @@
 -- A group no key of which names a text that stands on its own: its keys gave way, and all links stay.
-use Rattle.std.proofs.Common.{◌≡◌, ◌≢◌, ℕ, ◌+◌, ◌*◌, ◌^◌, ◌<◌, ◌≤◌, Bool, true, false, inl, inr, List, [], ◌∷◌, ◌++◌, length, map, refl, sym, ap, ◌∙◌, subst, arith, append-nil}
+use Rattle.std.proofs.Common.{◌≡◌, ◌≢◌, ℕ, ◌+◌, ◌*◌, ◌≤◌, Bool, true, false, inl, inr, List, [], ◌∷◌, ◌++◌, length, map, refl, sym, ap, ◌∙◌, subst, arith}
 use Rattle.std.specs.Bool.{⊤}
 use Rattle.std.specs.List.{AllByRecursion, Contains, flat_map}
 use Rattle.std.proofs.lemmas.Bool.{eqb-false, ne_eqb}
 use Rattle.std.proofs.lemmas.List.{map-append}
 use Rattle.h5_bytes.specs.Blocks.{cover, holds}
-use Rattle.h5_bytes.specs.Bytes.{byte_at, number_at}
 use Rattle.h5_bytes.specs.Numbers.{word}
 use Rattle.h5_bytes.specs.Texts.{text_at}
 use Rattle.h5_bytes.specs.declared.Block.{Block}
 use Rattle.h5_bytes.proofs.BlockLaws.{all_so, cover-append, holds_in}
-use Rattle.h5_bytes.proofs.PartLaws.{length-part}
 use Rattle.h5_model.specs.Format.Addresses.{SymbolTable}
 use Rattle.h5_model.specs.Format.Superblock.{leaf_k}
-use Rattle.h5_model.specs.Format.Heap.{HasNames, KeyNames, segment_block, segment_of, span_of}
+use Rattle.h5_model.specs.Format.Heap.{HasNames, KeyNames, segment_of, span_of}
 use Rattle.h5_model.specs.Format.Links.{Ascend, Before, IsOrdered, Symbols, key_offsets, names_in, offset_in}
 use Rattle.h5_model.specs.Format.Nodes.{Kind, node_at, reading_of, tree_blocks}
 use Rattle.h5_model.specs.Format.Rows.{Reading}
 use Rattle.h5_model.specs.Format.Symbols.{Entry, IsSymbolNode, Target, entries_of, link_of, symbol_block, symbols_at, symbols_of, texts_of}
-use Rattle.h5_model.proofs.NumberLaws.{reads_back}
 use Rattle.h5_model.proofs.RowLaws.{only_here}
 use Rattle.h5_laws.specs.NameLadders.{key_text, name_lists, name_sides}
 use Rattle.h5_laws.proofs.Ascending.{before_trans}
@@ -41,7 +38,7 @@ use Rattle.h5_group.proofs.HeapMoves.{keys_there}
 use Rattle.h5_group.proofs.NameKeys.{lowest_empty, lowest_is, offset_is, segment_short, texts_same}
 use Rattle.h5_group.proofs.KeyOffsets.{offsets_joined, offsets_parts}
 use Rattle.h5_group.proofs.TreeMoves.{keys_moved, kind_now}
-use Rattle.h5_group.proofs.Ways.{cover_parts, heap_inside, symbols_inside, trees_apart}
+use Rattle.h5_group.proofs.Ways.{cover_parts, symbols_inside, trees_apart}
 
 -- ---- texts that stand apart
 
@@ -230,9 +227,6 @@ module _ (s : Space) (table : SymbolTable) (links : List (List ℕ × Target)) (
 
     abbrev NamesIn : List ℕ → Type 0
     NamesIn key = Names (offset_in key)
-
-    abbrev HaveNames : ℕ → Type 0
-    HaveNames n = AllByRecursion NamesIn (V n).keys
 
     abbrev HaveNamesNow : ℕ → Type 0
     HaveNamesNow n = AllByRecursion NamesIn (W n).keys

@@ -186,13 +186,6 @@ module _ (s u t : Space) (table : SymbolTable) (e : Entry) (j new : ℕ) (way : 
     abbrev May : ℕ → Type 0
     May = KeyNames (names_of flat ++ texts_of flat) (group.linked).listed.loose
 
-    flat_is : flat ≡ ahead s u table links (offsets_of e ++ spare) blocks group node new (take w.number listed) (drop (suc w.number) listed)
-        (cut s u t table links (offsets_of e ++ spare) blocks group way w.number own_ends new left right here.2 short) left right here.2 t height all child_put e (take j E) (drop j E) was halved
-        ++ behind s u table links (offsets_of e ++ spare) blocks group node new (take w.number listed) (drop (suc w.number) listed)
-        (cut s u t table links (offsets_of e ++ spare) blocks group way w.number own_ends new left right here.2 short) left right here.2 t height all child_put e (take j E) (drop j E) was halved
-    flat_is = old_flat s u table links (offsets_of e ++ spare) blocks group node new (take w.number listed) (drop (suc w.number) listed)
-        (cut s u t table links (offsets_of e ++ spare) blocks group way w.number own_ends new left right here.2 short) left right here.2 t height all child_put e (take j E) (drop j E) was halved
-
     in_flat_of : (o : Entry) → In o E → In o flat
     in_flat_of o at =
         let F = flat_map (symbols_at s.bytes l) (take w.number listed) in

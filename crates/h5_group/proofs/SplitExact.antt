@@ -1,6 +1,6 @@
 -- A symbol node is cut in two, with an entry more, in a group whose keys are exact but for those that were moved to let its name in: they are
 -- exact then (File Format Specification 3.0, sections III.A.1 and III.B).
-use Rattle.std.proofs.Common.{◌≡◌, ◌≢◌, inl, inr, ◌⊎◌, ℕ, suc, ◌+◌, ◌^◌, ◌<◌, ◌≤◌, Bool, true, IsTrue, List, [], ◌∷◌, ◌++◌, map, length, get_or, take, drop, None, refl, sym, ap, ap₂, ◌∙◌, subst, arith}
+use Rattle.std.proofs.Common.{◌≡◌, ◌≢◌, inl, inr, ◌⊎◌, ℕ, suc, ◌+◌, ◌^◌, ◌<◌, ◌≤◌, true, IsTrue, List, [], ◌∷◌, ◌++◌, map, length, get_or, take, None, refl, sym, ap, ◌∙◌, subst, arith}
 use Rattle.std.specs.Bool.{⊤}
 use Rattle.std.specs.Cmp.Lexicographic.{slice_cmp}
 use Rattle.std.specs.Ordering.{is_le, nat_cmp}
@@ -21,7 +21,7 @@ use Rattle.h5_model.specs.Tree.Paths.{is_name}
 use Rattle.h5_model.proofs.RowLaws.{at_listed}
 use Rattle.h5_laws.specs.ExactWays.{IsExactFor}
 use Rattle.h5_laws.specs.KeyEdits.{IsPut, Two}
-use Rattle.h5_laws.specs.KeyTrees.{KeyTree, IsSorted}
+use Rattle.h5_laws.specs.KeyTrees.{IsSorted}
 use Rattle.h5_laws.specs.NameLadders.{key_sides, key_text}
 use Rattle.h5_laws.proofs.ExactKeysNames.{key_let_in}
 use Rattle.h5_laws.proofs.KeyInserts.{all_both}
@@ -42,7 +42,6 @@ use Rattle.h5_group.specs.Exact.{AreSymbolsFilled, HasKeysFor}
 use Rattle.h5_group.specs.Nodes.Trees.{kind_in}
 use Rattle.h5_group.specs.Retired.{entry_keys, name_keys}
 use Rattle.h5_group.specs.Split.{AreHalves}
-use Rattle.h5_group.specs.Told.{symbol_nodes_told}
 use Rattle.h5_group.proofs.BlockFrames.{read_kept}
 use Rattle.h5_group.proofs.NameKeys.{keys_in_order, lowest_empty, name_low}
 use Rattle.h5_group.proofs.NameTests.{name_test}

@@ -4,7 +4,7 @@ use Rattle.std.proofs.Common.{◌≡◌, ℕ, ◌+◌, ◌*◌, ◌^◌, ◌<◌
 use Rattle.std.proofs.lemmas.List.{append_assoc, map-append}
 use Rattle.std.proofs.lemmas.Grind.{flat_map-append}
 use Rattle.std.specs.List.{AllByRecursion, flat_map}
-use Rattle.h5_bytes.specs.Bytes.{undefined}
+use Rattle.h5_bytes.specs.Bytes.{undefined_address}
 use Rattle.h5_bytes.specs.Blocks.{block, cover, Inside, IsKept, Keeps}
 use Rattle.h5_bytes.specs.declared.Block.{Block}
 use Rattle.h5_bytes.proofs.BlockLaws.{cover-append, all_append, all_left, all_right}
@@ -49,7 +49,7 @@ ends_still s u kind root level way owned list k e kept apart short =
       front = e.front;
       back = e.back;
       leads = subst (λ (v : Reading). IsWay v 0 root e.above (e.step).node e.front e.back) (sym rows) e.leads;
-      row = subst (λ (v : Reading). IsRow v 0 undefined (e.front ++ (e.step).node ∷ e.back)) (sym rows) e.row;
+      row = subst (λ (v : Reading). IsRow v 0 undefined_address (e.front ++ (e.step).node ∷ e.back)) (sym rows) e.row;
       place = subst (λ (v : Reading). (e.step).place < length (v (e.step).node).children) (sym rows) e.place;
       number = subst (λ (v : Reading). k ≡ length (next_row v e.front) + (e.step).place) (sym rows) e.number;
     }

@@ -1,12 +1,12 @@
 -- The names of a symbol node that is cut in two, with a new one in its place: the key between the halves is the last name on the left, and lies
 -- between the keys around the symbol node (File Format Specification 3.0, sections III.A.1 and III.B).
-use Rattle.std.proofs.Common.{◌≡◌, ◌⊎◌, inl, inr, ℕ, zero, suc, ◌≤◌, List, [], ◌∷◌, ◌++◌, map, length, refl, sym, ap, ◌∙◌, subst, arith}
+use Rattle.std.proofs.Common.{◌≡◌, ◌⊎◌, inl, inr, ℕ, ◌≤◌, List, [], ◌∷◌, ◌++◌, map, length, refl, sym, ap, ◌∙◌, subst, arith}
 use Rattle.std.specs.Prelude.{slice_index_or}
 use Rattle.std.specs.Ordering.{nat_cmp, is_lt, is_le, ordering_reverse}
 use Rattle.std.specs.declared.cmp.Ordering.{Ordering}
 use Rattle.std.specs.declared.cmp.Ordering.TheVariants.{Less, Equal, Greater}
 use Rattle.std.specs.Cmp.Lexicographic.{slice_cmp, nat_list_cmp_total}
-use Rattle.std.specs.List.{AllByRecursion, insert}
+use Rattle.std.specs.List.{AllByRecursion}
 use Rattle.std.proofs.lemmas.List.{map-append}
 use Rattle.h5_bytes.specs.Texts.{text_at}
 use Rattle.h5_bytes.proofs.BlockLaws.{all_left, all_right}
@@ -45,14 +45,6 @@ lets_between text name low high right left = record {
 -- below a child of a node of level 0 there is the child alone
 pub below_bottom : (V : Reading) (node : Node) (i : ℕ) → node.level ≡ 0 → symbol_nodes_below V node i ≡ slice_index_or node.children i 0 ∷ []
 below_bottom V node i is = rw is refl
-
--- one more behind an element
-pub insert_next : {X : Type 0} (fs : List X) (c v : X) (bs : List X) (n : ℕ) → n ≡ suc (length fs) → insert (fs ++ c ∷ bs) n v ≡ fs ++ c ∷ v ∷ bs
-insert_next [] c v bs zero is = absurd (omega (arith, is))
-insert_next [] c v bs (suc zero) is = refl
-insert_next [] c v bs (suc (suc n)) is = absurd (omega (arith, is))
-insert_next (a ∷ fs) c v bs zero is = absurd (omega (arith, is))
-insert_next {X} (a ∷ fs) c v bs (suc n) is = ap (λ (xs : List X). a ∷ xs) (insert_next fs c v bs n (omega (arith, is)))
 
 -- a list that has elements has a last one
 pub with_last : {X : Type 0} (xs : List X) → 1 ≤ length xs → (front : List X) × (x : X) × (xs ≡ front ++ x ∷ [])

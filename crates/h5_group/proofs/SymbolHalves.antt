@@ -37,9 +37,6 @@ module _ (s t : Space) (leaf a b : ℕ) (entries : List Entry) (w : IsSymbolsRew
   pub other_kept : symbol_bytes t.bytes leaf b ≡ symbol_bytes s.bytes leaf b
   other_kept = (moves_kept s t (symbol_block leaf a ∷ []) (symbol_block leaf a ∷ []) (symbol_block leaf b ∷ []) w.moves apart (other_inside, tt)).0
 
-  pub still_apart : IsApart (symbol_block leaf a ∷ symbol_block leaf b ∷ []) t.free (length t.bytes)
-  still_apart = moves_apart s t (symbol_block leaf a ∷ []) (symbol_block leaf a ∷ []) (symbol_block leaf b ∷ []) w.moves apart
-
   pub both_moved : Moves s t (symbol_block leaf a ∷ symbol_block leaf b ∷ []) (symbol_block leaf a ∷ symbol_block leaf b ∷ [])
   both_moved = moves_beside s t (symbol_block leaf a ∷ []) (symbol_block leaf a ∷ []) (symbol_block leaf b ∷ []) w.moves
 

@@ -1,12 +1,12 @@
 -- What is left of a group with exact keys where an entry has gone, and its texts were freed: each symbol node has an entry, but for the one
 -- that had it.
 use Rattle.std.proofs.Common.{◌≡◌, ◌≢◌, inl, inr, ◌⊎◌, ℕ, zero, suc, ◌<◌, ◌≤◌, List, [], ◌∷◌, length, sym, ap, ◌∙◌, subst, arith}
-use Rattle.std.specs.List.{AllByRecursion, Contains, remove}
+use Rattle.std.specs.List.{AllByRecursion, remove}
 use Rattle.h5_bytes.specs.declared.Block.{Block}
 use Rattle.h5_model.specs.Format.Addresses.{SymbolTable}
 use Rattle.h5_model.specs.Format.Superblock.{leaf_k}
 use Rattle.h5_model.specs.Format.Symbols.{Entry, Target, symbols_at}
-use Rattle.h5_laws.proofs.Lists.{In, all_in, contains_in, in_all}
+use Rattle.h5_laws.proofs.Lists.{all_in, contains_in, in_all}
 use Rattle.h5_space.specs.Space.{Space}
 use Rattle.h5_btree.specs.Removal.{EndsInTree}
 use Rattle.h5_btree.specs.declared.way.Step.{Step}

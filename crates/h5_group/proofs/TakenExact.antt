@@ -41,7 +41,7 @@ use Rattle.h5_group.proofs.EntryFrames.{backs_same, cut_in, fronts_same, interna
 use Rattle.h5_group.proofs.EntrySets.{got_cut, loose_low, taken_all}
 use Rattle.h5_group.proofs.EntryWays.{end_cut, ends_kept, ends_own}
 use Rattle.h5_group.proofs.ExactTrees.{keys_so, root_level_kept, told_kept}
-use Rattle.h5_group.proofs.NameKeys.{offset_is, text_low}
+use Rattle.h5_group.proofs.NameKeys.{offset_is}
 use Rattle.h5_group.proofs.RetiredGroup.{retirable}
 use Rattle.h5_group.proofs.ToldLaws.{symbol_nodes_are_told}
 

@@ -1,6 +1,6 @@
 -- A group with exact keys whose tree lets in a name: its keys are exact but for those that were moved (File Format Specification 3.0, section
 -- III.A.1).
-use Rattle.std.proofs.Common.{◌≡◌, ◌≢◌, ◌⊎◌, inl, inr, ℕ, suc, ◌+◌, ◌≤◌, IsTrue, List, [], ◌∷◌, ◌++◌, length, get_or, take, drop, refl, sym, ap, ◌∙◌, subst, arith, None}
+use Rattle.std.proofs.Common.{◌≡◌, ◌≢◌, inl, inr, ℕ, suc, ◌≤◌, IsTrue, List, [], ◌∷◌, length, get_or, take, drop, refl, sym, ap, ◌∙◌, subst, arith, None}
 use Rattle.std.specs.List.{AllByRecursion, Contains}
 use Rattle.h5_bytes.specs.Numbers.{word}
 use Rattle.h5_bytes.specs.declared.Block.{Block}
@@ -8,7 +8,7 @@ use Rattle.h5_bytes.proofs.BlockLaws.{all_so}
 use Rattle.h5_model.specs.Format.Addresses.{SymbolTable}
 use Rattle.h5_model.specs.Format.Superblock.{leaf_k}
 use Rattle.h5_model.specs.Format.Heap.{segment_of}
-use Rattle.h5_model.specs.Format.Links.{Before, NotAfter, offset_in}
+use Rattle.h5_model.specs.Format.Links.{Before, offset_in}
 use Rattle.h5_model.specs.Format.Nodes.{Kind, node_at}
 use Rattle.h5_model.specs.Format.Rows.{Node, Reading}
 use Rattle.h5_model.specs.Format.Symbols.{Target, symbols_at}
@@ -26,7 +26,7 @@ use Rattle.h5_btree.specs.Removal.{EndsInTree}
 use Rattle.h5_btree.specs.Retired.{lowest_key}
 use Rattle.h5_btree.specs.Widened.{IsWidened, ends_along}
 use Rattle.h5_btree.specs.declared.way.Step.{Step}
-use Rattle.h5_btree.proofs.KeyedExactEases.{IsEasedFor, LetsItemIn, widened_exact}
+use Rattle.h5_btree.proofs.KeyedExactEases.{IsEasedFor, widened_exact}
 use Rattle.h5_btree.proofs.KeyedFills.{kept_trees}
 use Rattle.h5_btree.proofs.KeyedOwn.{keys_count}
 use Rattle.h5_btree.proofs.WaysDown.{IsChosen}

@@ -24,7 +24,7 @@ use Rattle.h5_space.specs.Space.{Space}
 use Rattle.h5_btree.specs.Descent.{IsWayTo}
 use Rattle.h5_btree.specs.Insertion.{IsFullWay, KeepsEntries, Owns}
 use Rattle.h5_btree.specs.Removal.{EndsInTree}
-use Rattle.h5_btree.specs.Widened.{AreWidened, IsWidened, end_at, ends_along, way_blocks, widened}
+use Rattle.h5_btree.specs.Widened.{AreWidened, IsWidened, end_at, ends_along, way_blocks, widened_node}
 use Rattle.h5_btree.specs.declared.way.Step.{Step}
 use Rattle.h5_btree.specs.declared.widening.End.{End}
 use Rattle.h5_btree.proofs.ClimbSteps.{at_or, covers}
@@ -64,7 +64,7 @@ all_if P false xs ys first second = second
 
 -- the keys of a node whose end keys gave way
 all_widened : (P : List ℕ → Type 0) (end : End) (low high : List ℕ) (node : Node) → AllByRecursion P node.keys → P low → P high
-    → AllByRecursion P (widened end low high node).keys
+    → AllByRecursion P (widened_node end low high node).keys
 all_widened P end low high node all at_low at_high =
     let first = all_if P end.first (slice_set node.keys 0 low) node.keys (all_set P node.keys 0 low all at_low) all in
     all_if P end.last (slice_set (if end.first then slice_set node.keys 0 low else node.keys) (length node.children) high) (if end.first then slice_set node.keys 0 low else node.keys)
@@ -84,7 +84,7 @@ way_covered kind owned (step ∷ way) listed p none =
 
 module _ (V : Reading) (new : List ℕ) (kind : Kind) (behind : List ℕ → Bool) (low high : List ℕ) where
   abbrev pub IsWide : Step → Type 0
-  IsWide step = node_at new kind step.node ≡ widened (end_at V behind true step) low high (V step.node)
+  IsWide step = node_at new kind step.node ≡ widened_node (end_at V behind true step) low high (V step.node)
 
   -- one of them, or another node
   by_way : (R : ℕ → Type 0) (way : List Step) (n : ℕ) → AllByRecursion IsWide way → ((step : Step) → IsWide step → R step.node)
@@ -137,9 +137,6 @@ module _ (s t : Space) (table : SymbolTable) (name : List ℕ) (way : List Step)
 
   abbrev symbol_nodes : List ℕ
   symbol_nodes = (group.linked).symbol_nodes
-
-  abbrev Y : Reading
-  Y = reading_of s.bytes kind owned
 
   abbrev Z : Reading
   Z = reading_of t.bytes kind owned

@@ -13,7 +13,7 @@ use Rattle.h5_model.proofs.TextOrder.{not_after_itself, before_le}
 use Rattle.h5_laws.specs.NameLadders.{key_text, name_sides}
 use Rattle.h5_laws.proofs.NameLadders.{name_order}
 use Rattle.h5_btree.specs.Descent.{IsChildFor}
-use Rattle.h5_btree.specs.Widened.{widened}
+use Rattle.h5_btree.specs.Widened.{widened_node}
 use Rattle.h5_btree.proofs.KeyedEases.{GivesWay}
 use Rattle.h5_btree.proofs.EndKeys.{end_keys, first_gives, first_off, first_place, high_kept, high_key, high_stands, last_gives, last_on, last_place, low_kept, low_key, low_stands}
 use Rattle.h5_btree.proofs.KeyedEnds.{ends_give}
@@ -71,7 +71,7 @@ module _ (segment name : List ℕ) (node : Node) (i : ℕ) (chosen : IsChildFor 
   high_now = high_key (name_behind segment name) node i true low high
 
   -- the keys are these then
-  pub keys_now : (widened (record { first = first; last = last }) low high node).keys ≡ take i node.keys ++ low_now ∷ high_now ∷ drop (suc (suc i)) node.keys
+  pub keys_now : (widened_node (record { first = first; last = last }) low high node).keys ≡ take i node.keys ++ low_now ∷ high_now ∷ drop (suc (suc i)) node.keys
   keys_now = end_keys behind node i true low high chosen long
 
   pub gives_way : {B : Type 0} (items : B → List (List ℕ)) (Base : B → Type 0)

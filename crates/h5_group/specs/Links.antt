@@ -48,10 +48,11 @@ IsLinkNamed image table name l = Contains (links_told image table) (lent_link l)
 abbrev pub HasNone : List ℕ → SymbolTable → List ℕ → Type 0
 HasNone image table name = (t : Target) → Contains (links_told image table) (name, t) → ⊥
 
--- the link that an entry says, whose texts stand in this segment
+-- where an entry says that its link leads; a soft link's text stands in this segment
 abbrev pub target_said : List ℕ → SymbolTarget → Target
 target_said segment (said.Header header) = Header header
 target_said segment (said.Text offset) = Text (text_at segment offset)
 
+-- the link that an entry says, whose texts stand in this segment
 abbrev pub link_said : List ℕ → SymbolEntry → List ℕ × Target
 link_said segment e = (text_at segment e.name, target_said segment e.target)

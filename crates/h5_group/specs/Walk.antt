@@ -6,7 +6,7 @@ use Rattle.h5_bytes.specs.declared.Block.{Block}
 use Rattle.h5_model.specs.Format.Addresses.{SymbolTable}
 use Rattle.h5_model.specs.Format.Superblock.{leaf_k}
 use Rattle.h5_model.specs.Format.Symbols.{symbol_bytes, symbols_in}
-use Rattle.h5_model.specs.Format.Reached.{Named, named, ObjectHeader, HeapHeader, group_root, entry_in}
+use Rattle.h5_model.specs.Format.Reached.{Named, naming_of, ObjectHeader, HeapHeader, group_root, entry_in}
 use Rattle.h5_model.specs.Faults.Breaches.{is_header}
 use Rattle.h5_model.specs.declared.open_fault.Cause.{Cause}
 use Rattle.h5_header.specs.Walk.Walked.{IsWalked}
@@ -17,13 +17,13 @@ use Rattle.h5_group.specs.Told.{symbol_nodes_told}
 -- the walk has met the two fields of a Symbol Table message
 pub record IsGroupMet (image : List ℕ) (held : List Block) (followed : List Named) (first second depth : ℕ) (table : SymbolTable) : Type 0 where
   pub walked : IsWalked image held followed
-  pub tree : IsMet image held followed (named first (group_root image table.tree table.heap) table.tree depth)
-  pub heap : IsMet image held followed (named second (HeapHeader table.tree) table.heap depth)
+  pub tree : IsMet image held followed (naming_of first (group_root image table.tree table.heap) table.tree depth)
+  pub heap : IsMet image held followed (naming_of second (HeapHeader table.tree) table.heap depth)
   pub apart : first ≢ second
 
 -- the field of entry i of a symbol node, which names a header
 abbrev pub entry_field : List ℕ → ℕ → ℕ → ℕ → Named
-entry_field image depth node i = named (node + 16 + 40 * i) ObjectHeader (entry_in image node i).header (depth + 1)
+entry_field image depth node i = naming_of (node + 16 + 40 * i) ObjectHeader (entry_in image node i).header (depth + 1)
 
 -- entry i of a symbol node of the group leads to a header
 pub record IsHard (image : List ℕ) (table : SymbolTable) (node i : ℕ) : Type 0 where

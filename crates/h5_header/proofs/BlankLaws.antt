@@ -10,7 +10,7 @@ use Rattle.h5_bytes.proofs.FieldLaws.{number_at-with_field, number_at-with_part_
 use Rattle.h5_space.proofs.MovesLaws.{byte-with_part}
 use Rattle.h5_model.specs.Format.Messages.{Message, IsMessage, HasMessages, prefix_at, reference_count}
 use Rattle.h5_header.specs.Listed.{Listed, message_in, messages_in, IsWithin}
-use Rattle.h5_header.specs.Standing.{IsStanding, kept_at, nowhere, blanked, none}
+use Rattle.h5_header.specs.Standing.{IsStanding, kept_at, nowhere, with_nil, none}
 use Rattle.h5_header.specs.declared.message.Message.{Message as Placed}
 use Rattle.h5_header.proofs.MetLaws.{continuation_cases}
 use Rattle.h5_header.proofs.CutLaws.{IsCut, cut_by_place}
@@ -57,7 +57,7 @@ module _ (old : List ℕ) (m : Listed) (is : IsStanding old m) (k : ℕ) (low : 
   abbrev pub nil : Placed
   nil = record x { kind = 0 }
 
-  pub cut : IsCut m.list k x
+  unfoldable pub cut : IsCut m.list k x
   cut = cut_by_place m.list k nowhere low
 
   abbrev pub front : List Message
@@ -66,14 +66,14 @@ module _ (old : List ℕ) (m : Listed) (is : IsStanding old m) (k : ℕ) (low : 
   abbrev pub back : List Message
   back = messages_in old cut.back
 
-  cut_messages : messages_in old m.list ≡ front ++ message_in old x ∷ back
+  pub cut_messages : messages_in old m.list ≡ front ++ message_in old x ∷ back
   cut_messages = ap (messages_in old) cut.whole ∙ map-append (message_in old) cut.front (x ∷ cut.back)
 
-  all : AllByRecursion (IsHeaded old) (front ++ message_in old x ∷ back)
-  all = subst (AllByRecursion (IsHeaded old)) cut_messages (headed old m is)
+  pub all_headed : AllByRecursion (IsHeaded old) (front ++ message_in old x ∷ back)
+  all_headed = subst (AllByRecursion (IsHeaded old)) cut_messages (headed old m is)
 
   here : IsHeaded old (message_in old x)
-  here = (all_right (IsHeaded old) front (message_in old x ∷ back) all).0
+  here = (all_right (IsHeaded old) front (message_in old x ∷ back) all_headed).0
 
   pub behind_head : 8 ≤ x.at
   behind_head = omega (arith, (here.1).place)
@@ -81,10 +81,10 @@ module _ (old : List ℕ) (m : Listed) (is : IsStanding old m) (k : ℕ) (low : 
   within_all : IsWithin (length old) (cut.front ++ x ∷ cut.back)
   within_all = subst (IsWithin (length old)) cut.whole is.within
 
-  within_front : IsWithin (length old) cut.front
+  pub within_front : IsWithin (length old) cut.front
   within_front = all_left (λ (y : Placed). y.at + y.size ≤ length old) cut.front (x ∷ cut.back) within_all
 
-  within_back : IsWithin (length old) (x ∷ cut.back)
+  pub within_back : IsWithin (length old) (x ∷ cut.back)
   within_back = all_right (λ (y : Placed). y.at + y.size ≤ length old) cut.front (x ∷ cut.back) within_all
 
   pub body_inside : x.at + x.size ≤ length old
@@ -121,11 +121,11 @@ module _ (old : List ℕ) (m : Listed) (is : IsStanding old m) (k : ℕ) (low : 
   grown = omega (arith, same_long)
 
   same_front : messages_in new cut.front ≡ front
-  same_front = same_messages old new grown cut.front within_front (all_left (IsHeaded old) front (message_in old x ∷ back) all)
+  same_front = same_messages old new grown cut.front within_front (all_left (IsHeaded old) front (message_in old x ∷ back) all_headed)
       (front_stays old m is front (message_in old x) back cut_messages (little_bytes 2 0) (x.at - 8) (omega arith) high)
 
   same_back : messages_in new cut.back ≡ back
-  same_back = same_messages old new grown cut.back within_back.1 (all_right (IsHeaded old) front (message_in old x ∷ back) all).1
+  same_back = same_messages old new grown cut.back within_back.1 (all_right (IsHeaded old) front (message_in old x ∷ back) all_headed).1
       (back_stays old m is front (message_in old x) back cut_messages (little_bytes 2 0) (x.at - 8) (omega arith) high)
 
   same_body : part x.at x.size new ≡ part x.at x.size old
@@ -136,7 +136,7 @@ module _ (old : List ℕ) (m : Listed) (is : IsStanding old m) (k : ℕ) (low : 
       ∙ ap₂ (λ (a : List Message) (b : List Message). a ++ record { kind = 0; at = x.at; body = part x.at x.size new } ∷ b) same_front same_back
       ∙ ap (λ (bs : List ℕ). front ++ record { kind = 0; at = x.at; body = bs } ∷ back) same_body
 
-  pub blank_messages : messages_in new (set m.list k nil) ≡ blanked (messages_in old m.list) k
+  pub blank_messages : messages_in new (set m.list k nil) ≡ with_nil (messages_in old m.list) k
   blank_messages =
       let set_old : set (messages_in old m.list) k (record (message_in old x) { kind = 0 }) ≡ front ++ record (message_in old x) { kind = 0 } ∷ back
       = sym (map-set (message_in old) m.list k nil) ∙ ap (messages_in old) (cut.put nil) ∙ map-append (message_in old) cut.front (nil ∷ cut.back) in

@@ -4,6 +4,7 @@ use Rattle.std.specs.Prelude.{Bool, true, false, cond, if◌then◌else◌}
 use Rattle.std.proofs.lemmas.List.Recursion.{is_count_by}
 use Rattle.std.specs.List.{count_by, list_any}
 use Rattle.std.proofs.lemmas.Bool.Decides.{nat_tests}
+use Rattle.h5_model.specs.Format.MessageTypes.{data_layout_kind, dataspace_kind, datatype_kind, fill_value_kind, old_fill_value_kind, symbol_table_kind}
 use Rattle.h5_model.specs.Format.Messages.{Message, count_of}
 use Rattle.h5_model.specs.Faults.HeaderFaults.{stands_twice}
 use Rattle.h5_header.specs.Listed.{messages_in}
@@ -22,7 +23,7 @@ twice : (ms : List Message) (kind : ℕ) → 1 < count_of kind ms → stands_twi
 twice ms kind high = grind (arith, nat_tests)
 
 -- one of the types that may stand once stands twice
-pub some_twice : (ms : List Message) → (1 < count_of 17 ms) ⊎ ((1 < count_of 1 ms) ⊎ ((1 < count_of 3 ms) ⊎ ((1 < count_of 8 ms) ⊎ ((1 < count_of 4 ms) ⊎ (1 < count_of 5 ms)))))
+pub some_twice : (ms : List Message) → (1 < count_of symbol_table_kind ms) ⊎ ((1 < count_of dataspace_kind ms) ⊎ ((1 < count_of datatype_kind ms) ⊎ ((1 < count_of data_layout_kind ms) ⊎ ((1 < count_of old_fill_value_kind ms) ⊎ (1 < count_of fill_value_kind ms)))))
     → IsTrue (list_any (stands_twice ms) (1 ∷ 3 ∷ 4 ∷ 5 ∷ 8 ∷ 17 ∷ []))
 some_twice ms (inl h) = let t = twice ms 17 h in grind (arith, nat_tests, t)
 some_twice ms (inr (inl h)) = let t = twice ms 1 h in grind (arith, nat_tests, t)

@@ -10,8 +10,9 @@ pub mod KeptLaws
 pub mod StretchLaws
 pub mod BesideLaws
 pub mod SpliceLaws
-pub mod BodyWrites
+pub mod BodiesNow
 pub mod RewriteLaws
+pub mod BodyWrites
 pub mod CountWrites
 pub mod CutLaws
 pub mod WholeBodies

@@ -147,7 +147,7 @@ module _ (image : List ℕ) (header : ℕ) where
   fills_met b from (m ∷ ms) to fills met =
       fills_met b (from + 8 + number_at (part b.at b.len image) (from + 2) 2) ms to fills.1 (next_met image header b from m fills.0 met)
 
-  start : (b : Block) → IsMet image header b → Met image header (b.at + 0) (b.at + b.len)
+  pub start : (b : Block) → IsMet image header b → Met image header (b.at + 0) (b.at + b.len)
   start b met = let none : b.at + 0 ≡ b.at = omega arith in rw none met
 
   -- blocks that wait are met, and messages name blocks from their places

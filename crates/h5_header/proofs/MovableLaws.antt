@@ -10,6 +10,7 @@ use Rattle.std.proofs.lemmas.List.Quantifiers.{position-Some}
 use Rattle.std.proofs.lemmas.Option.{same_Some}
 use Rattle.h5_bytes.specs.Bytes.{number_at}
 use Rattle.h5_bytes.proofs.PartLaws.{length-part}
+use Rattle.h5_model.specs.Format.MessageTypes.{datatype_kind, symbol_table_kind}
 use Rattle.h5_model.specs.Format.Addresses.{SymbolTable, symbol_table_of}
 use Rattle.h5_model.specs.Format.Datatype.{fixed_of, is_fixed_point, type_size, is_signed, is_high_first}
 use Rattle.h5_model.specs.Format.Fixed.{Fixed, fixed_from}
@@ -55,9 +56,9 @@ type_wide body fixed says = go (is_fixed_point body) refl says where
   go false fails is = absurd (cc)
 
 -- what is read as a group's
-pub movable_table : (ms : List Message) (table : SymbolTable) → option_and_then symbol_table_of (first_body 17 ms) ≡ Some table → HasMovable ms
-movable_table ms table says = go (first_body 17 ms) refl says where
-  go : (o : Option (List ℕ)) → first_body 17 ms ≡ o → option_and_then symbol_table_of o ≡ Some table → HasMovable ms
+pub movable_table : (ms : List Message) (table : SymbolTable) → option_and_then symbol_table_of (first_body symbol_table_kind ms) ≡ Some table → HasMovable ms
+movable_table ms table says = go (first_body symbol_table_kind ms) refl says where
+  go : (o : Option (List ℕ)) → first_body symbol_table_kind ms ≡ o → option_and_then symbol_table_of o ≡ Some table → HasMovable ms
   go None is chosen = absurd (cc)
   go (Some body) is chosen = movable_first 17 ms body (inl refl) (table_wide body table chosen) is
 
@@ -65,9 +66,9 @@ abbrev pub IsPadded : Message → Type 0
 IsPadded m = length m.body % 8 ≡ 0
 
 -- what is read as a dataset's
-pub movable_type : (ms : List Message) (fixed : Fixed) → AllByRecursion IsPadded ms → option_and_then fixed_of (first_body 3 ms) ≡ Some fixed → HasMovable ms
-movable_type ms fixed padded says = go (first_body 3 ms) refl says where
-  first_padded : (xs : List Message) (body : List ℕ) → AllByRecursion IsPadded xs → first_body 3 xs ≡ Some body → length body % 8 ≡ 0
+pub movable_type : (ms : List Message) (fixed : Fixed) → AllByRecursion IsPadded ms → option_and_then fixed_of (first_body datatype_kind ms) ≡ Some fixed → HasMovable ms
+movable_type ms fixed padded says = go (first_body datatype_kind ms) refl says where
+  first_padded : (xs : List Message) (body : List ℕ) → AllByRecursion IsPadded xs → first_body datatype_kind xs ≡ Some body → length body % 8 ≡ 0
   first_padded [] body all is = absurd (cc)
   first_padded (x ∷ xs) body all is = elim (x.kind == 3) as (λ b.
       option_map (λ (y : Message). y.body) (cond b (Some x) (find (λ (y : Message). y.kind == 3) xs)) ≡ Some body → length body % 8 ≡ 0) [
@@ -75,7 +76,7 @@ movable_type ms fixed padded says = go (first_body 3 ms) refl says where
         | false ↦ λ behind. first_padded xs body all.1 behind
       ] is
 
-  go : (o : Option (List ℕ)) → first_body 3 ms ≡ o → option_and_then fixed_of o ≡ Some fixed → HasMovable ms
+  go : (o : Option (List ℕ)) → first_body datatype_kind ms ≡ o → option_and_then fixed_of o ≡ Some fixed → HasMovable ms
   go None is chosen = absurd (cc)
   go (Some body) is chosen = movable_first 3 ms body (inr refl) (omega (arith, type_wide body fixed chosen, first_padded ms body padded is)) is
 

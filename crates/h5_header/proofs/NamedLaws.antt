@@ -32,10 +32,6 @@ module _ (old new : List ℕ) (m : Listed) (is : IsStanding old m) (grown : leng
   header_block = block m.header (16 + first_size (prefix_at old m.header))
 
   -- the blocks before and behind the new one
-  pub blocks_before : m.blocks ≡ header_block ∷ (continuations front ++ continuations back)
-  blocks_before = (is.has).laid ∙ ap (λ (bs : List Block). header_block ∷ bs)
-      (ap continuations cut ∙ flat_map-append continuation front (x ∷ back) ∙ ap (λ (bs : List Block). continuations front ++ (bs ++ continuations back)) none)
-
   behind_same : continuations (naming.middle ++ (ms ++ naming.behind)) ≡ continuations back
   behind_same =
       flat_map-append continuation naming.middle (ms ++ naming.behind)

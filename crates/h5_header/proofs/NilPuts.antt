@@ -17,9 +17,9 @@ use Rattle.h5_header.specs.Standing.{IsStanding, kept_at, kept_with_nil, said_in
 use Rattle.h5_header.specs.Added.{IsPutInNil}
 use Rattle.h5_header.specs.declared.message.Message.{Message as Placed}
 use Rattle.h5_header.proofs.BesideLaws.{moves_covered}
-use Rattle.h5_header.proofs.BlankLaws.{behind_head, body_inside, size_padded}
+use Rattle.h5_header.proofs.BlankLaws.{back, behind_head, body_inside, cut_messages, front, size_padded}
 use Rattle.h5_header.proofs.PlacedLaws.{placed}
-use Rattle.h5_header.proofs.PutLaws.{put_list, put_list_is, front, back, cut_messages, header_room, room, list_long, put_messages, put_standing, put_covered, put_count, total_covered}
+use Rattle.h5_header.proofs.PutLaws.{put_list, put_list_is, header_room, room, list_long, put_messages, put_standing, put_covered, put_count, total_covered}
 
 module _ (x : Placed) (bytes : List ℕ) (head : 8 ≤ x.at) (long : length bytes ≡ x.size + 8) (size_padded : x.size % 8 ≡ 0) (size_low : x.size < 65536)
     (kind : ℕ) (kind_low : kind < 65536) (own : kind ≢ 16) (body : List ℕ) (body_padded : length body % 8 ≡ 0) (fits : length body ≤ x.size) where
@@ -126,9 +126,6 @@ module _ (old : List ℕ) (m : Listed) (is : IsStanding old m) (k : ℕ) (low : 
   bytes_long : length bytes ≡ x.size + 8
   bytes_long = length-part (x.at - 8) (x.size + 8) old (omega (arith, nil_head, nil_inside))
 
-  pub nil_gap : length body < x.size → length body + 8 ≤ x.size
-  nil_gap = gap x bytes nil_head bytes_long nil_padded size_low kind kind_low own body body_padded fits
-
   abbrev pub said : List (ℕ × List ℕ)
   said = said_in kind body bytes
 
@@ -176,15 +173,15 @@ module _ (old : List ℕ) (m : Listed) (is : IsStanding old m) (k : ℕ) (low : 
 
   pub nil_added : IsPutInNil (messages_in old m.list) (messages_in new list') kind body
   nil_added = record {
-    front = front old m is k low no_name said plain long small;
+    front = front old m is k low no_name;
     nil = message_in old x;
-    back = back old m is k low no_name said plain long small;
+    back = back old m is k low no_name;
     rest = left x bytes nil_head bytes_long nil_padded size_low kind kind_low own body body_padded fits;
     is_nil = nil;
     left = left_nil x bytes nil_head bytes_long nil_padded size_low kind kind_low own body body_padded fits;
-    before = cut_messages old m is k low no_name said plain long small;
+    before = cut_messages old m is k low no_name;
     after = (rw (total_is, ← list_is) (put_messages old m is k low no_name said plain long small))
-        ∙ ap (λ (ws : List Message). front old m is k low no_name said plain long small ++ (ws ++ back old m is k low no_name said plain long small))
+        ∙ ap (λ (ws : List Message). front old m is k low no_name ++ (ws ++ back old m is k low no_name))
         (said_at x bytes nil_head bytes_long nil_padded size_low kind kind_low own body body_padded fits);
   }
 

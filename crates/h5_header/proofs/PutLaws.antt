@@ -16,12 +16,13 @@ use Rattle.h5_header.specs.Standing.{IsStanding, kept_at, nowhere}
 use Rattle.h5_header.specs.declared.message.Message.{Message as Placed}
 use Rattle.h5_header.proofs.PrefixLaws.{first_size-is, reference_count-is, total-is, version-is}
 use Rattle.h5_header.proofs.MetLaws.{continuation_cases}
-use Rattle.h5_header.proofs.CutLaws.{IsCut, back_is, cut_by_place, front_is}
+use Rattle.h5_header.proofs.CutLaws.{IsCut, back_is, front_is}
 use Rattle.h5_header.proofs.StretchLaws.{stretch, Follow, IsHeaded, follow_of, follow_cover, follow_headed, follow_kept, headed_kept, stretches_inside}
 use Rattle.h5_header.proofs.BesideLaws.{kept_beside}
 use Rattle.h5_header.proofs.SpliceLaws.{keeps_left, keeps_right}
-use Rattle.h5_header.proofs.RewriteLaws.{same_messages, headed, laid_inside, beside, prefix_stays, front_stays, back_stays, stretch_covered, messages_rewritten}
+use Rattle.h5_header.proofs.RewriteLaws.{same_messages, laid_inside, beside, prefix_stays, front_stays, back_stays, stretch_covered, messages_rewritten}
 use Rattle.h5_header.proofs.PlacedLaws.{placed, placed_back, placed_within, no_names, no_continuation, keeps_then}
+use Rattle.h5_header.proofs.BlankLaws.{all_headed, behind_head, body_inside, cut as kept_cut, cut_messages, within_back, within_front}
 
 module _ (old : List ℕ) (m : Listed) (is : IsStanding old m) (k : ℕ) (low : k < length m.list) (own : (kept_at m.list k).kind ≢ 16)
     (ms : List (ℕ × List ℕ)) (plain : AllByRecursion IsPlain ms) (long : length (messages_bytes ms) ≡ 8 + (kept_at m.list k).size)
@@ -29,8 +30,8 @@ module _ (old : List ℕ) (m : Listed) (is : IsStanding old m) (k : ℕ) (low : 
   abbrev pub x : Placed
   x = kept_at m.list k
 
-  pub cut : IsCut m.list k x
-  cut = cut_by_place m.list k nowhere low
+  abbrev pub cut : IsCut m.list k x
+  cut = kept_cut old m is k low own
 
   abbrev pub front : List Message
   front = messages_in old cut.front
@@ -38,32 +39,8 @@ module _ (old : List ℕ) (m : Listed) (is : IsStanding old m) (k : ℕ) (low : 
   abbrev pub back : List Message
   back = messages_in old cut.back
 
-  pub cut_messages : messages_in old m.list ≡ front ++ message_in old x ∷ back
-  cut_messages = ap (messages_in old) cut.whole ∙ map-append (message_in old) cut.front (x ∷ cut.back)
-
-  all : AllByRecursion (IsHeaded old) (front ++ message_in old x ∷ back)
-  all = subst (AllByRecursion (IsHeaded old)) cut_messages (headed old m is)
-
-  here : IsHeaded old (message_in old x)
-  here = (all_right (IsHeaded old) front (message_in old x ∷ back) all).0
-
-  pub behind_head : 8 ≤ x.at
-  behind_head = omega (arith, (here.1).place)
-
-  within_all : IsWithin (length old) (cut.front ++ x ∷ cut.back)
-  within_all = subst (IsWithin (length old)) cut.whole is.within
-
-  within_front : IsWithin (length old) cut.front
-  within_front = all_left (λ (y : Placed). y.at + y.size ≤ length old) cut.front (x ∷ cut.back) within_all
-
-  within_back : IsWithin (length old) (x ∷ cut.back)
-  within_back = all_right (λ (y : Placed). y.at + y.size ≤ length old) cut.front (x ∷ cut.back) within_all
-
-  pub body_inside : x.at + x.size ≤ length old
-  body_inside = within_back.0
-
   body_long : length (message_in old x).body ≡ x.size
-  body_long = length-part x.at x.size old body_inside
+  body_long = length-part x.at x.size old (body_inside old m is k low own)
 
   -- ---- the messages' bytes
 
@@ -77,7 +54,7 @@ module _ (old : List ℕ) (m : Listed) (is : IsStanding old m) (k : ℕ) (low : 
   high = omega (arith, long, body_long)
 
   pub room : at + length w ≤ length old
-  room = omega (arith, long, body_inside, behind_head)
+  room = omega (arith, long, body_inside old m is k low own, behind_head old m is k low own)
 
   abbrev pub one : List ℕ
   one = with_part at w old
@@ -89,13 +66,13 @@ module _ (old : List ℕ) (m : Listed) (is : IsStanding old m) (k : ℕ) (low : 
   grown_one = omega (arith, one_long)
 
   front_one : Keeps old one (map stretch front)
-  front_one = front_stays old m is front (message_in old x) back cut_messages w at (omega arith) high
+  front_one = front_stays old m is front (message_in old x) back (cut_messages old m is k low own) w at (omega arith) high
 
   back_one : Keeps old one (map stretch back)
-  back_one = back_stays old m is front (message_in old x) back cut_messages w at (omega arith) high
+  back_one = back_stays old m is front (message_in old x) back (cut_messages old m is k low own) w at (omega arith) high
 
   prefix_one : prefix_at one m.header ≡ prefix_at old m.header
-  prefix_one = prefix_stays old m is front (message_in old x) back cut_messages w at (omega arith) high
+  prefix_one = prefix_stays old m is front (message_in old x) back (cut_messages old m is k low own) w at (omega arith) high
 
   -- the messages that are written, at their places
   abbrev pub ws : List Message
@@ -110,7 +87,7 @@ module _ (old : List ℕ) (m : Listed) (is : IsStanding old m) (k : ℕ) (low : 
       let filled : Fills at w 0 (messages_from (at + 0) ms) = fills-plain at 0 w [] ms refl refl plain in
       let none : at + 0 ≡ at = omega arith in
       let fills : Fills at (part at (length w) one) 0 ws = subst (λ (bs : List ℕ). Fills at bs 0 ws) (sym there) (rw none at filled) in
-      let last : at + length w ≡ end = omega (arith, long, body_long, behind_head) in
+      let last : at + length w ≡ end = omega (arith, long, body_long, behind_head old m is k low own) in
       rw (none, last) at (follow_of one (block at (length w)) (omega (arith, room, one_long)) 0 ws fills)
 
   abbrev pub after : List Message
@@ -118,9 +95,9 @@ module _ (old : List ℕ) (m : Listed) (is : IsStanding old m) (k : ℕ) (low : 
 
   headed_one : AllByRecursion (IsHeaded one) after
   headed_one =
-      all_append (IsHeaded one) front (ws ++ back) (headed_kept old one grown_one front (all_left (IsHeaded old) front (message_in old x ∷ back) all) front_one)
+      all_append (IsHeaded one) front (ws ++ back) (headed_kept old one grown_one front (all_left (IsHeaded old) front (message_in old x ∷ back) (all_headed old m is k low own)) front_one)
       (all_append (IsHeaded one) ws back (follow_headed one at ws end made_one)
-      (headed_kept old one grown_one back (all_right (IsHeaded old) front (message_in old x ∷ back) all).1 back_one))
+      (headed_kept old one grown_one back (all_right (IsHeaded old) front (message_in old x ∷ back) (all_headed old m is k low own)).1 back_one))
 
   -- ---- the total
 
@@ -157,9 +134,9 @@ module _ (old : List ℕ) (m : Listed) (is : IsStanding old m) (k : ℕ) (low : 
       = ap (cover p) (map-append stretch front (ws ++ back)) ∙ cover-append p (map stretch front) (map stretch (ws ++ back)) in
       let rest : cover p (map stretch (ws ++ back)) ≡ cover p (map stretch ws) + cover p (map stretch back)
       = ap (cover p) (map-append stretch ws back) ∙ cover-append p (map stretch ws) (map stretch back) in
-      let size : end - at ≡ 8 + length (message_in old x).body = omega (arith, behind_head) in
+      let size : end - at ≡ 8 + length (message_in old x).body = omega (arith, behind_head old m is k low own) in
       let mine : cover p (map stretch ws) ≡ holds p at (8 + length (message_in old x).body) = rw size at (follow_cover p one at ws end made_one) in
-      omega (arith, whole, rest, mine, beside old m is front (message_in old x) back cut_messages w at (omega arith) high p, cover-append p (map stretch front) (map stretch back))
+      omega (arith, whole, rest, mine, beside old m is front (message_in old x) back (cut_messages old m is k low own) w at (omega arith) high p, cover-append p (map stretch front) (map stretch back))
 
   kept_two : Keeps one new (map stretch after)
   kept_two = kept_beside one coded (m.header + 2) (block m.header 16) (map stretch after) (omega arith) (omega (arith, two)) (omega (arith, header_room, one_long)) apart
@@ -211,7 +188,7 @@ module _ (old : List ℕ) (m : Listed) (is : IsStanding old m) (k : ℕ) (low : 
   ]
 
   has_after : HasMessages new m.header after m.blocks
-  has_after = messages_rewritten old new m is grown front (message_in old x) back ws cut_messages front_new back_new made_new names (no_continuation at ms plain) version first_same total_same
+  has_after = messages_rewritten old new m is grown front (message_in old x) back ws (cut_messages old m is k low own) front_new back_new made_new names (no_continuation at ms plain) version first_same total_same
 
   -- ---- what is kept of it
 
@@ -223,18 +200,18 @@ module _ (old : List ℕ) (m : Listed) (is : IsStanding old m) (k : ℕ) (low : 
   put_messages =
       map-append (message_in new) cut.front (map placed ws ++ cut.back)
       ∙ ap₂ (λ (a b : List Message). a ++ b)
-      (same_messages old new grown cut.front within_front (all_left (IsHeaded old) front (message_in old x ∷ back) all) front_new)
+      (same_messages old new grown cut.front (within_front old m is k low own) (all_left (IsHeaded old) front (message_in old x ∷ back) (all_headed old m is k low own)) front_new)
       (map-append (message_in new) (map placed ws) cut.back
       ∙ ap₂ (λ (a b : List Message). a ++ b) (placed_back new ws (follow_headed new at ws end made_new))
-      (same_messages old new grown cut.back within_back.1 (all_right (IsHeaded old) front (message_in old x ∷ back) all).1 back_new))
+      (same_messages old new grown cut.back (within_back old m is k low own).1 (all_right (IsHeaded old) front (message_in old x ∷ back) (all_headed old m is k low own)).1 back_new))
 
   pub put_standing : IsStanding new (record m { list = put_list })
   put_standing = record {
     has = subst (λ (zs : List Message). HasMessages new m.header zs m.blocks) (sym put_messages) has_after;
     inside = rw new_long is.inside;
-    within = rw new_long (all_append (λ (y : Placed). y.at + y.size ≤ length old) cut.front (map placed ws ++ cut.back) within_front
+    within = rw new_long (all_append (λ (y : Placed). y.at + y.size ≤ length old) cut.front (map placed ws ++ cut.back) (within_front old m is k low own)
         (all_append (λ (y : Placed). y.at + y.size ≤ length old) (map placed ws) cut.back
-        (subst (λ (n : ℕ). IsWithin n (map placed ws)) new_long (placed_within new ws (follow_headed new at ws end made_new))) within_back.1));
+        (subst (λ (n : ℕ). IsWithin n (map placed ws)) new_long (placed_within new ws (follow_headed new at ws end made_new))) (within_back old m is k low own).1));
     separate = is.separate;
   }
 
@@ -242,7 +219,7 @@ module _ (old : List ℕ) (m : Listed) (is : IsStanding old m) (k : ℕ) (low : 
   pub put_covered : (p : ℕ) → holds p at (length w) ≤ cover p m.blocks
   put_covered p = omega (
     arith,
-    stretch_covered old m is front (message_in old x) back cut_messages p,
+    stretch_covered old m is front (message_in old x) back (cut_messages old m is k low own) p,
     holds-inner p at (length w) at (8 + length (message_in old x).body) (omega arith) high,
   )
 
@@ -252,7 +229,7 @@ module _ (old : List ℕ) (m : Listed) (is : IsStanding old m) (k : ℕ) (low : 
       omega (arith, laid, holds-inner p (m.header + 2) (length coded) m.header (16 + first_size (prefix_at old m.header)) (omega arith) (omega (arith, two)))
 
   pub put_list_is : put_list ≡ take k m.list ++ (map placed ws ++ drop (suc k) m.list)
-  unfolding cut
+  unfolding kept_cut
   put_list_is = ap₂ (λ (a b : List Placed). a ++ (map placed ws ++ b)) (front_is m.list k nowhere low) (back_is m.list k nowhere low)
 
   pub list_long : length put_list ≡ total

@@ -14,7 +14,7 @@ use Rattle.h5_header.specs.Standing.{IsStanding}
 use Rattle.h5_header.proofs.StretchLaws.{stretch, Follow, IsHeaded, stretches_inside, parts_headed, parts_cover}
 use Rattle.h5_header.proofs.SpliceLaws.{splice}
 use Rattle.h5_header.proofs.BesideLaws.{kept_beside}
-use Rattle.h5_header.proofs.BodyWrites.{all_now_same, listed_now}
+use Rattle.h5_header.proofs.BodiesNow.{all_now_same, listed_now}
 use Rattle.h5_header.specs.declared.message.Message.{Message as Placed}
 
 append_nil_is : (x y : Message) → continuation y ≡ continuation x → continuations (y ∷ []) ≡ continuation x

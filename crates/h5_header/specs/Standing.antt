@@ -24,8 +24,8 @@ abbrev pub none : Message
 none = record { kind = nil_kind; at = 0; body = [] }
 
 -- one message less: it is NIL from now on
-abbrev pub blanked : List Message → ℕ → List Message
-blanked ms k = slice_set ms k (record (slice_index_or ms k none) { kind = nil_kind })
+abbrev pub with_nil : List Message → ℕ → List Message
+with_nil ms k = slice_set ms k (record (slice_index_or ms k none) { kind = nil_kind })
 
 -- the messages with another body for one of them
 abbrev pub with_body : List Message → ℕ → List ℕ → List Message

@@ -5,7 +5,7 @@ ghost use Rattle.h5_model.specs.Format.MessageTypes.{continuation_kind};
 ghost use Rattle.h5_model.specs.Format.Messages.{prefix_at, reference_count};
 ghost use Rattle.h5_space.specs.Moves.{Moves, Spends};
 ghost use Rattle.h5_header.specs.Listed.{messages_in};
-ghost use Rattle.h5_header.specs.Standing.{IsStanding, kept_at, blanked, with_body};
+ghost use Rattle.h5_header.specs.Standing.{IsStanding, kept_at, with_nil, with_body};
 
 use crate::header::Messages;
 use crate::message::Message;
@@ -38,7 +38,7 @@ impl Messages {
         requires standing { IsStanding image.old.bytes self.old }
         ensures standing { IsStanding image.new.bytes self.new }
         ensures messages { messages_in image.new.bytes self.new.list
-            ≡ blanked (messages_in image.old.bytes self.old.list) k }
+            ≡ with_nil (messages_in image.old.bytes self.old.list) k }
         ensures header { self.new.header ≡ self.old.header }
         ensures count { reference_count (prefix_at image.new.bytes self.new.header)
             ≡ reference_count (prefix_at image.old.bytes self.old.header) }

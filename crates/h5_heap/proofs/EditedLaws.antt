@@ -2,7 +2,7 @@
 use Rattle.std.proofs.Common.{◌≡◌, ◌≢◌, ℕ, ◌+◌, ◌^◌, ◌%◌, ◌<◌, ◌≤◌, ◌⊎◌, ◌==◌, Bool, true, false, cond, zero, suc, inl, inr, List, [], ◌∷◌, length, take, drop, refl, sym, ◌∙◌, ap, ap₂, subst, arith}
 use Rattle.std.proofs.lemmas.List.{get_or-take, get_or-drop}
 use Rattle.std.proofs.lemmas.Bool.Decides.{nat_tests}
-use Rattle.h5_bytes.specs.Bytes.{number_at, byte_at, part, with_part, with_field, little_bytes, undefined}
+use Rattle.h5_bytes.specs.Bytes.{number_at, byte_at, part, with_part, with_field, little_bytes, undefined_address}
 use Rattle.h5_bytes.specs.Blocks.{block, holds, cover, Separate, Inside}
 use Rattle.h5_bytes.specs.declared.Block.{Block}
 use Rattle.h5_bytes.proofs.FieldLaws.{number_at-part, number_at-with_part_other, number_at-with_field}
@@ -25,10 +25,10 @@ use Rattle.h5_heap.proofs.FreeLaws.{StandsFor, from_first}
 use Rattle.h5_heap.proofs.ChainLaws.{free_from_is}
 
 stands_for : (head : ℕ) → StandsFor head (list_start head)
-stands_for head = go (head == undefined) refl where
-  go : (r : Bool) → (head == undefined) ≡ r → StandsFor head (cond r 1 head)
+stands_for head = go (head == undefined_address) refl where
+  go : (r : Bool) → (head == undefined_address) ≡ r → StandsFor head (cond r 1 head)
   go true is = inl (grind (arith, nat_tests, is), refl)
-  go false is = inr ((λ e. absurd (let other : head ≢ undefined = grind (arith, nat_tests, is) in other e)), refl)
+  go false is = inr ((λ e. absurd (let other : head ≢ undefined_address = grind (arith, nat_tests, is) in other e)), refl)
 
 chain_of_heap : (header segment : List ℕ) (free : List Block) → IsHeap header segment free → segment_size header ≡ length segment
     → IsChain segment (list_start (free_head header)) free
@@ -58,7 +58,7 @@ standing_chain image heap s = chain_of_heap (heap_header image heap) (segment_of
 
 pub list_start_is : (segment : List ℕ) (n : ℕ) (free : List Block) → IsChain segment n free → list_start n ≡ n
 list_start_is segment n free chain = go free chain where
-  no : (n ≡ undefined → ⊥) → list_start n ≡ n
+  no : (n ≡ undefined_address → ⊥) → list_start n ≡ n
   no other = elim (stands_for n) [ inl one ↦ absurd (other one.0) | inr two ↦ two.1 ]
 
   go : (free : List Block) → IsChain segment n free → list_start n ≡ n

@@ -1,7 +1,7 @@
 -- The list of free blocks, as far as it has been followed.
 use Rattle.std.proofs.Common.{◌≡◌, ◌≢◌, ℕ, ◌+◌, ◌%◌, ◌≤◌, ◌⊎◌, inl, inr, List, [], ◌∷◌, ◌++◌, length, refl, sym, ◌∙◌, ap, ap₂, subst, arith}
 use Rattle.std.specs.List.{AllByRecursion}
-use Rattle.h5_bytes.specs.Bytes.{number_at, undefined}
+use Rattle.h5_bytes.specs.Bytes.{number_at, undefined_address}
 use Rattle.h5_bytes.specs.Blocks.{block, holds, cover, Separate, Inside}
 use Rattle.h5_bytes.specs.declared.Block.{Block}
 use Rattle.h5_bytes.proofs.BlockLaws.{cover-append, all_append, all_right}
@@ -22,7 +22,7 @@ pub record IsWalked (segment : List ℕ) (first next : ℕ) (done held : List Bl
 
 -- the offset that a head stands for: UNDEF stands for the end of the list
 abbrev pub StandsFor : ℕ → ℕ → Type 0
-StandsFor head first = ((head ≡ undefined) × (first ≡ 1)) ⊎ ((head ≢ undefined) × (first ≡ head))
+StandsFor head first = ((head ≡ undefined_address) × (first ≡ 1)) ⊎ ((head ≢ undefined_address) × (first ≡ head))
 
 leads_more : (segment : List ℕ) (first next : ℕ) (done : List Block) (b : Block) → FreeTo segment first done next
     → b.at ≡ next → b.len ≡ number_at segment (next + 8) 8 → FreeTo segment first (done ++ b ∷ []) (number_at segment next 8)
@@ -43,7 +43,7 @@ walked_more segment first next done held held' b walked here claimed = record {
 not_at : (b : Block) (n : ℕ) → IsFree b → b.at ≡ n → n % 8 ≡ 0
 not_at b n free at = ap (λ (m : ℕ). m % 8) (sym at) ∙ free.aligned
 
-odd_undefined : undefined % 8 ≡ 7
+odd_undefined : undefined_address % 8 ≡ 7
 odd_undefined = refl
 
 leads_end : (segment : List ℕ) (first : ℕ) (done : List Block) → FreeTo segment first done 1 → FreeFrom segment first done
@@ -63,7 +63,7 @@ walked_end segment head first done held stands walked separate = record {
   apart = λ p. omega (arith, walked.covered p, separate p);
   within = walked.within;
 } where
-  by : StandsFor head first → FreeFrom segment head done ⊎ ((head ≡ undefined) × (done ≡ []))
+  by : StandsFor head first → FreeFrom segment head done ⊎ ((head ≡ undefined_address) × (done ≡ []))
   by (inl none) = inr (none.0, none_from_end segment done (subst (λ (n : ℕ). FreeTo segment n done 1) none.1 walked.leads) walked.each)
   by (inr some) = inl (subst (λ (n : ℕ). FreeFrom segment n done) some.1 (leads_end segment first done walked.leads))
 
@@ -80,13 +80,13 @@ goes_on segment first next (x ∷ xs) (y ∷ ys) leads each list =
 -- a list from the head is one from the offset that it stands for
 pub from_first : (segment : List ℕ) (head first : ℕ) (free : List Block) → StandsFor head first → IsFreeList segment head free → FreeFrom segment first free
 from_first segment head first free (inl none) list = by free list.each list.listed where
-  by : (free : List Block) → AllByRecursion IsFree free → FreeFrom segment head free ⊎ ((head ≡ undefined) × (free ≡ [])) → FreeFrom segment first free
-  by [] each (inl from) = absurd (let same : undefined ≡ 1 = sym none.0 ∙ from in omega arith)
-  by (b ∷ bs) each (inl from) = absurd (let odd : undefined % 8 ≡ 0 = not_at b undefined each.0 (from.0 ∙ none.0) in omega (arith, odd_undefined))
+  by : (free : List Block) → AllByRecursion IsFree free → FreeFrom segment head free ⊎ ((head ≡ undefined_address) × (free ≡ [])) → FreeFrom segment first free
+  by [] each (inl from) = absurd (let same : undefined_address ≡ 1 = sym none.0 ∙ from in omega arith)
+  by (b ∷ bs) each (inl from) = absurd (let odd : undefined_address % 8 ≡ 0 = not_at b undefined_address each.0 (from.0 ∙ none.0) in omega (arith, odd_undefined))
   by [] each (inr e) = none.1
   by (b ∷ bs) each (inr e) = absurd (let no : b ∷ bs ≡ [] = e.1 in cc)
 from_first segment head first free (inr some) list = by list.listed where
-  by : FreeFrom segment head free ⊎ ((head ≡ undefined) × (free ≡ [])) → FreeFrom segment first free
+  by : FreeFrom segment head free ⊎ ((head ≡ undefined_address) × (free ≡ [])) → FreeFrom segment first free
   by (inl from) = subst (λ (n : ℕ). FreeFrom segment n free) (sym some.1) from
   by (inr e) = absurd (some.0 e.0)
 

@@ -8,7 +8,7 @@ use Rattle.h5_bytes.specs.declared.Block.{Block}
 use Rattle.h5_model.specs.Format.Heap.{segment_block, segment_of}
 use Rattle.h5_model.specs.Format.Sizes.{text_span}
 use Rattle.h5_heap.specs.Edited.{IsStandingHeap, free_blocks}
-use Rattle.h5_heap.specs.Inserted.{IsFront, IsBehind, HasInserted, grown_length, needed, needed_calls}
+use Rattle.h5_heap.specs.Inserted.{IsFront, IsBehind, HasInserted, grown_length, needed_bytes, needed_calls}
 use Rattle.h5_heap.specs.Sought.{is_enough}
 use Rattle.h5_heap.proofs.EditedLaws.{segment_long}
 
@@ -33,7 +33,7 @@ room_left free free' size size' at len room behind some = omega (arith, behind.l
 
 -- a text, and then one for which room was left, take one longer segment at most
 pub record IsNeededOnce (old new : List ℕ) (heap : ℕ) (text : List ℕ) (room len : ℕ) : Type 0 where
-  pub bytes : needed old heap (text_span text) room + needed new heap len 0 ≤ grown_length (segment_block old heap).len (text_span text) room
+  pub bytes : needed_bytes old heap (text_span text) room + needed_bytes new heap len 0 ≤ grown_length (segment_block old heap).len (text_span text) room
   pub calls : needed_calls old heap (text_span text) + needed_calls new heap len ≤ 2
 
 pub needed_once : (old new : List ℕ) (heap : ℕ) (text : List ℕ) (room at len : ℕ) → IsStandingHeap old heap → HasInserted old new heap text room at → len ≤ room

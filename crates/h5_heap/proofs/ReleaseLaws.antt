@@ -9,7 +9,7 @@ use Rattle.h5_bytes.proofs.BlockLaws.{holds_join, holds_none, holds_in, all_so}
 use Rattle.h5_model.specs.Format.Heap.{IsFree}
 use Rattle.h5_heap.specs.Chain.{free_from, Relists, Ascends, IsPutIn, Stands, IsGreatestBelow}
 use Rattle.h5_heap.specs.Sought.{begins_at, ends_at}
-use Rattle.h5_heap.specs.Released.{IsJoinedLeft, IsJoinedRight, Releases, IsJoined, begin_of, stop_of, joined, others}
+use Rattle.h5_heap.specs.Released.{IsJoinedLeft, IsJoinedRight, Releases, IsJoined, begin_of, stop_of, joined_block, others}
 use Rattle.h5_heap.proofs.OrderLaws.{filter_none, filter_both, all_filter, ascends_filter, begins_there, others_left, stop_left}
 
 pub joined_le : (free : List Block) (at begin : ℕ) → IsJoinedLeft free at begin → begin ≤ at
@@ -44,7 +44,7 @@ module _ (s t u : List ℕ) (f g h at end begin stop : ℕ) (filled : at < end)
   there = omega (arith, filled)
 
   -- the free bytes around, and the free blocks that stay
-  joined_is : joined (free_from s f) at end ≡ block begin (stop - begin)
+  joined_is : joined_block (free_from s f) at end ≡ block begin (stop - begin)
   joined_is =
       let stops : stop ≡ stop_of (free_from s f) end
       = stop_is ∙ ap (λ (bs : List Block). stop_of bs end) left_rest ∙ stop_left (free_from s f) at end filled in
@@ -119,7 +119,7 @@ module _ (s t : List ℕ) (f g at len : ℕ) (released : Releases s t f g at len
     size = released.size;
   }
 
-  alone_is : joined (free_from s f) at (at + len) ≡ block at len
+  alone_is : joined_block (free_from s f) at (at + len) ≡ block at len
   alone_is = let size : at + len - at ≡ len = omega arith in rw (before, behind, size) refl
 
   alone_others : others (free_from s f) at (at + len) ≡ free_from s f

@@ -138,9 +138,6 @@ first_covered p (b ∷ bs) all = omega (arith, first_held p b all.0, first_cover
 
 -- ---- units without texts
 
-fresh_open : (free : List Block) (k : ℕ) → cover (8 * k) free ≡ 0 → fresh_unit free k ≡ Open
-fresh_open free k none = let is : (cover (8 * k) free == 0) ≡ true = grind (arith, nat_tests, none) in rw is refl
-
 fresh_free : (free : List Block) (k : ℕ) → 1 ≤ cover (8 * k) free → fresh_unit free k ≡ Free
 fresh_free free k some = let is : (cover (8 * k) free == 0) ≡ false = grind (arith, nat_tests, some) in rw is refl
 
@@ -188,26 +185,9 @@ module _ (len : ℕ) (free : List Block) (us : List UnitState) (long : len ≤ 8
   pub fresh_none : (text_blocks 0 us ≡ []) × (text_begins 0 us ≡ [])
   fresh_none = none_of 0 us (λ k a. subst (λ (u : UnitState). (text_block a u ≡ []) × (text_begin a u ≡ [])) (sym (fresh k)) (fresh_has_none free k a))
 
-  pub fresh_units : AllByRecursion IsFree free → Separate free → AreUnits len free us
-  fresh_units each apart = record {
-    long = long;
-    free_is = λ k. elim (cases_lt 0 (cover (8 * k) free)) [
-      | inl some ↦ (λ is. omega (arith, some, apart (8 * k)), λ is. fresh k ∙ fresh_free free k some)
-      | inr none ↦ (
-        λ is. let open_is : unit_at us k ≡ Open = fresh k ∙ fresh_open free k (omega (arith, none)) in absurd (let both = sym open_is ∙ is in cc),
-        λ is. absurd (omega (arith, none, is)),
-      )
-    ];
-    each = each;
-    apart = apart;
-  }
-
 -- ---- units with texts
 
 module _ (len : ℕ) (free : List Block) (us : List UnitState) (are : AreUnits len free us) where
-  abbrev all_held : List UnitState → List Block
-  all_held vs = free ++ text_blocks 0 vs
-
   -- a unit that is not free has no byte of a free block
   not_free : (k : ℕ) → (unit_at us k ≢ Free) → cover (8 * k) free ≡ 0
   not_free k other = elim (cases_lt 0 (cover (8 * k) free)) [

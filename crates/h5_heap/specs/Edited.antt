@@ -1,6 +1,6 @@
 -- A local heap that is edited in place (File Format Specification 3.0, section III.D).
 use Rattle.std.specs.Prelude.{◌≡◌, ℕ, ◌==◌, if◌then◌else◌, List, length}
-use Rattle.h5_bytes.specs.Bytes.{undefined}
+use Rattle.h5_bytes.specs.Bytes.{undefined_address}
 use Rattle.h5_bytes.specs.Blocks.{Separate, Inside}
 use Rattle.h5_bytes.specs.declared.Block.{Block}
 use Rattle.h5_model.specs.Format.Heap.{IsHeap, heap_header, free_head, segment_of, heap_blocks}
@@ -9,7 +9,7 @@ use Rattle.h5_heap.specs.Released.{Releases}
 
 -- where the list of free blocks begins: UNDEF stands for its end
 abbrev pub list_start : ℕ → ℕ
-list_start head = if head == undefined then 1 else head
+list_start head = if head == undefined_address then 1 else head
 
 abbrev pub first_free : List ℕ → ℕ → ℕ
 first_free image heap = list_start (free_head (heap_header image heap))

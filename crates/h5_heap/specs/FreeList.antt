@@ -1,14 +1,14 @@
 -- The list of free blocks in a heap's segment (File Format Specification 3.0, section III.D).
 use Rattle.std.specs.Prelude.{◌≡◌, ℕ, ◌+◌, ◌≤◌, ◌⊎◌, List, [], length}
 use Rattle.std.specs.List.{AllByRecursion}
-use Rattle.h5_bytes.specs.Bytes.{number_at, undefined}
+use Rattle.h5_bytes.specs.Bytes.{number_at, undefined_address}
 use Rattle.h5_bytes.specs.Blocks.{holds, cover, Separate, Inside}
 use Rattle.h5_bytes.specs.declared.Block.{Block}
 use Rattle.h5_model.specs.Format.Heap.{FreeFrom, IsFree}
 
 -- these are the free blocks from the head of the list on
 pub record IsFreeList (segment : List ℕ) (head : ℕ) (free : List Block) : Type 0 where
-  pub listed : FreeFrom segment head free ⊎ ((head ≡ undefined) × (free ≡ []))
+  pub listed : FreeFrom segment head free ⊎ ((head ≡ undefined_address) × (free ≡ []))
   pub each : AllByRecursion IsFree free
   pub apart : Separate free
   pub within : Inside (length segment) free

@@ -60,8 +60,8 @@ pub record HasInserted (old new : List ℕ) (heap : ℕ) (text : List ℕ) (room
   pub blocks : length (segment_of new heap) ≡ length (segment_of old heap) → heap_blocks new heap ≡ heap_blocks old heap
 
 -- how many bytes more the image lends to a text of len bytes: a segment, where no free block is as long
-abbrev pub needed : List ℕ → ℕ → ℕ → ℕ → ℕ
-needed image heap len room =
+abbrev pub needed_bytes : List ℕ → ℕ → ℕ → ℕ → ℕ
+needed_bytes image heap len room =
     option_map_or (λ (b : Block). 0) (find (is_enough len) (free_blocks image heap)) (grown_length (segment_block image heap).len len room)
 
 -- and in how many calls: the longer one is taken, and the old one given back

@@ -32,8 +32,8 @@ abbrev pub stop_of : List Block → ℕ → ℕ
 stop_of free end = option_map_or (λ b. b.at + b.len) (find (begins_at end) free) end
 
 -- these bytes and the free ones beside them, as one block
-abbrev pub joined : List Block → ℕ → ℕ → Block
-joined free at end = block (begin_of free at) (stop_of free end - begin_of free at)
+abbrev pub joined_block : List Block → ℕ → ℕ → Block
+joined_block free at end = block (begin_of free at) (stop_of free end - begin_of free at)
 
 -- the free blocks that do not end where these bytes begin, and do not begin where they end
 abbrev pub others : List Block → ℕ → ℕ → List Block
@@ -41,8 +41,8 @@ others free at end = filter (λ b. not (ends_at at b) && not (begins_at end b)) 
 
 -- In place of the free blocks beside these bytes the list has one block of all; or it is as before, where they are too few for one.
 abbrev pub IsJoined : List Block → List Block → ℕ → ℕ → Type 0
-IsJoined free free' at end = ((16 ≤ (joined free at end).len) × IsPutIn (joined free at end) (others free at end) free')
-    ⊎ (((joined free at end).len < 16) × (free' ≡ free))
+IsJoined free free' at end = ((16 ≤ (joined_block free at end).len) × IsPutIn (joined_block free at end) (others free at end) free')
+    ⊎ (((joined_block free at end).len < 16) × (free' ≡ free))
 
 -- The len bytes from place at are free now too, or are too few without a neighbour. Bytes that were in no free block, and in none of
 -- these, have their values still.

@@ -11,7 +11,7 @@ ghost use Rattle.h5_space.specs.Whole.{IsApart};
 ghost use Rattle.h5_space.specs.Moves.{Moves, Spends};
 ghost use Rattle.h5_heap.specs.Chain.{HasChain, free_from};
 ghost use Rattle.h5_heap.specs.Edited.{IsStandingHeap, free_blocks};
-ghost use Rattle.h5_heap.specs.Inserted.{InsertsText, HasInserted, grown_length, needed, needed_calls};
+ghost use Rattle.h5_heap.specs.Inserted.{InsertsText, HasInserted, grown_length, needed_bytes, needed_calls};
 ghost use Rattle.h5_heap.specs.Sought.{is_enough};
 
 use crate::chain::{find_free, release, take_front};
@@ -35,15 +35,15 @@ pub fn insert(image: &mut Image, heap: u64, text: &[u8], room: u64) -> Result<u6
     requires standing { IsStandingHeap image.old.bytes heap }
     requires apart { IsApart (heap_blocks image.old.bytes heap) image.old.free (length image.old.bytes) }
     ensures full { (result ≡ Err SpaceFault.ImageFull)
-        ↔ (2 ^ 31 < length image.old.bytes + needed image.old.bytes heap (span_of_text text.now) room) }
+        ↔ (2 ^ 31 < length image.old.bytes + needed_bytes image.old.bytes heap (span_of_text text.now) room) }
     ensures inserted { IfOk result (λ at.
         HasInserted image.old.bytes image.new.bytes heap text.now room at) }
     ensures moves { OnOk result (Moves image.old image.new (heap_blocks image.old.bytes heap)
         (heap_blocks image.new.bytes heap)) }
     ensures err { OnErr result (image.new ≡ image.old) }
-    ensures covered { needed image.old.bytes heap (span_of_text text.now) room ≤ image.old.room_bytes
+    ensures covered { needed_bytes image.old.bytes heap (span_of_text text.now) room ≤ image.old.room_bytes
         → needed_calls image.old.bytes heap (span_of_text text.now) ≤ image.old.room_blocks
-        → length image.old.bytes + needed image.old.bytes heap (span_of_text text.now) room ≤ 2 ^ 31
+        → length image.old.bytes + needed_bytes image.old.bytes heap (span_of_text text.now) room ≤ 2 ^ 31
         → IsOk result }
 {
     let Some(bytes) = text_room(image, heap, text, room) else {
@@ -60,8 +60,8 @@ pub fn insert(image: &mut Image, heap: u64, text: &[u8], room: u64) -> Result<u6
 pub fn text_room(image: &Image, heap: u64, text: &[u8], room: u64) -> Option<u64>
     requires standing { IsStandingHeap image.now.bytes heap }
     ensures { MatchOption result
-        (2 ^ 31 < needed image.now.bytes heap (span_of_text text.now) room)
-        (λ n. (n ≡ needed image.now.bytes heap (span_of_text text.now) room) × (n ≤ 2 ^ 31)) }
+        (2 ^ 31 < needed_bytes image.now.bytes heap (span_of_text text.now) room)
+        (λ n. (n ≡ needed_bytes image.now.bytes heap (span_of_text text.now) room) × (n ≤ 2 ^ 31)) }
 {
     let (segment, first) = segment_and_list(image, heap);
     let span = text_span(text) as u64;
@@ -96,14 +96,14 @@ fn longer(size: u64, span: u64, room: u64) -> Option<u64>
 pub fn insert_in_room(image: &mut Image, heap: u64, text: &[u8], room: u64) -> u64
     requires standing { IsStandingHeap image.old.bytes heap }
     requires apart { IsApart (heap_blocks image.old.bytes heap) image.old.free (length image.old.bytes) }
-    requires low { needed image.old.bytes heap (span_of_text text.now) room ≤ 2 ^ 31 }
-    requires bytes { needed image.old.bytes heap (span_of_text text.now) room ≤ image.old.room_bytes }
+    requires low { needed_bytes image.old.bytes heap (span_of_text text.now) room ≤ 2 ^ 31 }
+    requires bytes { needed_bytes image.old.bytes heap (span_of_text text.now) room ≤ image.old.room_bytes }
     requires blocks { needed_calls image.old.bytes heap (span_of_text text.now) ≤ image.old.room_blocks }
     ensures inserted { HasInserted image.old.bytes image.new.bytes heap text.now room result }
     ensures moves { Moves image.old image.new (heap_blocks image.old.bytes heap)
         (heap_blocks image.new.bytes heap) }
     ensures spends { Spends image.old image.new
-        (needed image.old.bytes heap (span_of_text text.now) room)
+        (needed_bytes image.old.bytes heap (span_of_text text.now) room)
         (needed_calls image.old.bytes heap (span_of_text text.now)) }
 {
     let (_, first) = segment_and_list(image, heap);

@@ -15,7 +15,7 @@ use Rattle.h5_model.specs.Format.Symbols.{Entry, entry_of, Target, Header, Text,
 use Rattle.h5_model.specs.Format.Superblock.{leaf_k, root_header, root_header_place}
 use Rattle.h5_model.specs.Tree.Objects.{Tree, Object, Content, Group, Array, Links, Link, ToObject, Soft, follow, links_of, links_in}
 use Rattle.h5_model.specs.Format.Reads.{Placed, HasObject, IsSame, IsPlaced, Holds}
-use Rattle.h5_model.specs.Format.Reached.{named, ObjectHeader, Reached, by_superblock, entry_in}
+use Rattle.h5_model.specs.Format.Reached.{naming_of, ObjectHeader, Reached, by_superblock, entry_in}
 use Rattle.h5_model.specs.Faults.TreeFaults.{all_entries}
 use Rattle.h5_laws.proofs.Lists.{In, in_either, from_map, from_flat, from_table, from_range}
 use Rattle.h5_laws.proofs.Maps.{found_value, tied_right}
@@ -118,7 +118,7 @@ module _ (image : List ℕ) (table : FinMap nat_cmp ℕ) (tree : Tree) (placed :
       let i = from_table (λ (j : ℕ). entry_of (part (8 + 40 * j) 40 bytes)) (symbols_in bytes) e node.2 in
       let place = node.0 + 16 + 40 * i.0 in
       let y = entry_reached image table tree placed reads n depth root heap g reached node.0 i.0 node.1 i.1 (same_hard (entry_in image node.0 i.0) e i.2 hard) in
-      (place, subst (λ (a : ℕ). Reached image (named place ObjectHeader a (depth + 1))) (same_header (entry_in image node.0 i.0) e h i.2 names) y)
+      (place, subst (λ (a : ℕ). Reached image (naming_of place ObjectHeader a (depth + 1))) (same_header (entry_in image node.0 i.0) e h i.2 names) y)
 
   -- a link of a reached group leads to a header that is reached
   linked_reached : (n depth root heap : ℕ) (g : KnownGroup image table tree placed n root heap) → IsReached image ObjectHeader g.k.o.header depth
@@ -184,7 +184,7 @@ module _ (image : List ℕ) (table : FinMap nat_cmp ℕ) (tree : Tree) (placed :
       let next = next_reached o at reached first.0 first.2 name first.1 first.3 in
       path_reached path next.0 p next.1 at_p next.3 (subst (λ (m : ℕ). follow tree (ToObject m) path ≡ Some (ToObject p.number)) (sym next.2) first.4)
 
-  root_reached : Reached image (named (root_header_place image) ObjectHeader (root_header image) 0)
+  root_reached : Reached image (naming_of (root_header_place image) ObjectHeader (root_header image) 0)
   root_reached = by_superblock reads.superblock.whole refl
 
   -- each object's header
@@ -198,7 +198,7 @@ module _ (image : List ℕ) (table : FinMap nat_cmp ℕ) (tree : Tree) (placed :
   -- ---- fields that name headers
 
   abbrev IsNaming : ℕ × ℕ → Type 0
-  IsNaming z = (depth : ℕ) × Reached image (named z.0 ObjectHeader z.1 depth)
+  IsNaming z = (depth : ℕ) × Reached image (naming_of z.0 ObjectHeader z.1 depth)
 
   entry_field : (z : ℕ × ℕ) (node i : ℕ) → In z (entry_link image node i) → ((entry_in image node i).cache ≢ 2) × ((node + 16 + 40 * i, (entry_in image node i).header) ≡ z)
   entry_field z node i at = go ((entry_in image node i).cache == 2) refl at where
@@ -222,7 +222,7 @@ module _ (image : List ℕ) (table : FinMap nat_cmp ℕ) (tree : Tree) (placed :
         let low : i.0 < symbols_in (symbol_bytes image (leaf_k image) node.0) = omega (arith, place.1, place.2) in
         let field = entry_field z node.0 i.0 i.2 in
         let y = entry_reached image table tree placed reads g.0 reached.0 g.1 g.2 g.3 header node.0 i.0 node.1 low field.0 in
-        (reached.0 + 1, subst (λ (w : ℕ × ℕ). Reached image (named w.0 ObjectHeader w.1 (reached.0 + 1))) field.1 y)
+        (reached.0 + 1, subst (λ (w : ℕ × ℕ). Reached image (naming_of w.0 ObjectHeader w.1 (reached.0 + 1))) field.1 y)
   ]
 
   placed_naming : (some : List Placed) (each : AllByRecursion (IsPlaced image table) some) → ((o : Placed) → In o some → In o placed) → (z : ℕ × ℕ)
@@ -235,5 +235,5 @@ module _ (image : List ℕ) (table : FinMap nat_cmp ℕ) (tree : Tree) (placed :
 
   -- each of them names a header that is reached
   pub link_reached : (z : ℕ × ℕ) → In z (all_links image table placed reads.each) → IsNaming z
-  link_reached z (inl same) = (0, subst (λ (w : ℕ × ℕ). Reached image (named w.0 ObjectHeader w.1 0)) same root_reached)
+  link_reached z (inl same) = (0, subst (λ (w : ℕ × ℕ). Reached image (naming_of w.0 ObjectHeader w.1 0)) same root_reached)
   link_reached z (inr at) = placed_naming placed reads.each (λ o there. there) z at

@@ -3,7 +3,7 @@ use Rattle.std.proofs.Common.{◌≡◌, ◌⊎◌, inl, inr, ℕ, ◌+◌, ◌*
 use Rattle.std.proofs.lemmas.Bool.Decides.{nat_tests}
 use Rattle.std.specs.Prelude.{◌==◌, ◌&&◌, not, nat_le, if◌then◌else◌, slice_range}
 use Rattle.std.specs.List.{flat_map, list_any}
-use Rattle.h5_bytes.specs.Bytes.{number_at, byte_at, part, undefined}
+use Rattle.h5_bytes.specs.Bytes.{number_at, byte_at, part, undefined_address}
 use Rattle.h5_bytes.specs.Blocks.{block, Inside}
 use Rattle.h5_bytes.specs.declared.Block.{Block}
 use Rattle.h5_bytes.proofs.BlockLaws.{all_append, all_left, all_right}
@@ -92,10 +92,10 @@ chunked_not rank size body b h =
 contiguous_says : (need : ℕ) (body : List ℕ) (b : Block) → contiguous_layout need body ≡ Some (InBlock (Some b)) → (18 ≤ length body) × (b.len ≡ number_at body 10 8)
 contiguous_says need body b h =
     let there = block (number_at body 2 8) (number_at body 10 8) in
-    elim (pick (nat_le 18 (length body)) (if number_at body 2 8 == undefined then Some (InBlock None)
+    elim (pick (nat_le 18 (length body)) (if number_at body 2 8 == undefined_address then Some (InBlock None)
     else (if nat_le need (number_at body 10 8) then Some (InBlock (Some there)) else None)) None (InBlock (Some b)) h) [
       | inr none ↦ absurd (let e : None ≡ Some (InBlock (Some b)) = none.1 in cc)
-      | inl room ↦ elim (pick (number_at body 2 8 == undefined) (Some (InBlock None)) (if nat_le need (number_at body 10 8) then Some (InBlock (Some there)) else None)
+      | inl room ↦ elim (pick (number_at body 2 8 == undefined_address) (Some (InBlock None)) (if nat_le need (number_at body 10 8) then Some (InBlock (Some there)) else None)
           (InBlock (Some b)) room.1) [
             | inl unset ↦ absurd (let e : Some (InBlock None) ≡ Some (InBlock (Some b)) = unset.1 in cc)
             | inr set ↦ elim (pick (nat_le need (number_at body 10 8)) (Some (InBlock (Some there))) None (InBlock (Some b)) set.1) [

@@ -63,15 +63,15 @@ said_first f kind ms v says = go (find (λ x. x.kind == kind) ms) refl says wher
 
 module _ (image : List ℕ) (messages : List Message) (d : Dataset) (blocks : List Block) (has : HasDataset image messages d blocks) where
   pub extent_is : (e : Extent) → extent_among messages ≡ Some e → e ≡ record { sizes = d.sizes; maxima = d.maxima }
-  extent_is e h = some_same _ _ _ h has.space
+  extent_is e h = some_same _ _ _ h has.array.space
 
   pub type_is : (t : Fixed) → type_among messages ≡ Some t → t ≡ d.fixed
-  type_is t h = some_same _ _ _ h has.type
+  type_is t h = some_same _ _ _ h has.array.type
 
   pub layout_there : layout_among messages ≡ Some has.layout
   layout_there =
-      ap (option_and_then (λ (e : Extent). option_and_then (layout_by messages e) (type_among messages))) has.space
-      ∙ ap (option_and_then (layout_by messages (record { sizes = d.sizes; maxima = d.maxima }))) has.type ∙ has.laid_out
+      ap (option_and_then (λ (e : Extent). option_and_then (layout_by messages e) (type_among messages))) has.array.space
+      ∙ ap (option_and_then (layout_by messages (record { sizes = d.sizes; maxima = d.maxima }))) has.array.type ∙ has.array.laid_out
 
   pub layout_is : (layout : Layout) → layout_among messages ≡ Some layout → layout ≡ has.layout
   layout_is layout h = some_same _ _ _ h layout_there

@@ -9,6 +9,7 @@ use Rattle.h5_bytes.specs.Blocks.{block}
 use Rattle.h5_bytes.specs.declared.Block.{Block}
 use Rattle.h5_bytes.proofs.PartLaws.{length-part}
 use Rattle.h5_bytes.proofs.FieldLaws.{number_at-part}
+use Rattle.h5_model.specs.Format.MessageTypes.{data_layout_kind}
 use Rattle.h5_model.specs.Format.Messages.{Message, continuation, prefix_at, first_size, first_body}
 use Rattle.h5_model.specs.Format.Heap.{heap_header, segment_size, segment_block}
 use Rattle.h5_model.specs.Format.Nodes.{Kind, group_kind, node_block}
@@ -162,16 +163,16 @@ module _ (image : List ℕ) (table : FinMap nat_cmp ℕ) (tree : Tree) (placed :
       let ms = k.d.k.has.messages in
       let there = find_in 8 ms k.m k.first in
       let bodied = message_bodied image k.d.k.o.header ms k.d.k.has.header_blocks k.d.k.has.listed (header_inside image table tree placed reads depth k.d.k) k.m there.0 in
-      let body : first_body 8 ms ≡ Some k.m.body = ap (option_map (λ (x : Message). x.body)) k.first in
+      let body : first_body data_layout_kind ms ≡ Some k.m.body = ap (option_map (λ (x : Message). x.body)) k.first in
       let laid : layout_of k.d.d.sizes k.d.d.fixed.size k.m.body ≡ Some (InBlock (Some k.b))
-      = sym (ap (option_and_then (layout_of k.d.d.sizes k.d.d.fixed.size)) body) ∙ k.d.stored.laid_out ∙ ap (λ (l : Layout). Some l) k.laid in
+      = sym (ap (option_and_then (layout_of k.d.d.sizes k.d.d.fixed.size)) body) ∙ k.d.stored.array.laid_out ∙ ap (λ (l : Layout). Some l) k.laid in
       let says = block_says k.d.d.sizes k.d.d.fixed.size k.m.body k.b laid in
       let len : length k.m.body ≡ bodied.size = ap length bodied.is ∙ length-part k.m.at bodied.size image bodied.inside in
       let over : k.m.at + 10 ≡ field + 8 = omega (arith, k.place) in
       let size : k.b.len ≡ number_at image (field + 8) 8
       = says.1 ∙ ap (λ bs. number_at bs 10 8) bodied.is ∙ number_at-part 10 8 k.m.at bodied.size image (omega (arith, len, says.0)) ∙ ap (λ (p : ℕ). number_at image p 8) over in
       let tags : tagged_layout image ms ≡ (Some (k.m.at + 2), k.b) ∷ []
-      = layout_tags image ms k.m k.d.d.fixed (InBlock (Some k.b)) k.first k.d.stored.type
+      = layout_tags image ms k.m k.d.d.fixed (InBlock (Some k.b)) k.first k.d.stored.array.type
       (layout_there image ms k.d.d k.d.k.has.content_blocks k.d.stored ∙ ap (λ (l : Layout). Some l) k.laid) in
       let same : block k.b.at k.b.len ≡ block at (number_at image (field + 8) 8) = ap₂ block (sym k.here) size in
       by_layout depth k.d.k (Some field, block at (number_at image (field + 8) 8))
@@ -183,7 +184,7 @@ module _ (image : List ℕ) (table : FinMap nat_cmp ℕ) (tree : Tree) (placed :
 
     tags_are : tagged_layout image c.d.k.has.messages ≡ tagged_chunks image (c.m.at + 3) shape root
     tags_are =
-        layout_tags image c.d.k.has.messages c.m c.d.d.fixed (InChunks shape.sizes (Some root)) c.first c.d.stored.type
+        layout_tags image c.d.k.has.messages c.m c.d.d.fixed (InChunks shape.sizes (Some root)) c.first c.d.stored.array.type
         (layout_there image c.d.k.has.messages c.d.d c.d.k.has.content_blocks c.d.stored ∙ ap (λ (l : Layout). Some l) c.laid)
         ∙ ap (λ (n : ℕ). tagged_chunks image (c.m.at + 3) (record { sizes = shape.sizes; bytes = n }) root) (sym c.size)
 

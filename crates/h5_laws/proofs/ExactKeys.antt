@@ -1,14 +1,14 @@
 -- Where the exact keys of a tree name something; and exact keys where what stands at the bottom changes.
-use Rattle.std.proofs.Common.{◌≡◌, ℕ, zero, suc, ◌⊎◌, inl, inr, List, [], ◌∷◌, ◌++◌, length, refl, sym, ap, ap₂, ◌∙◌, subst}
+use Rattle.std.proofs.Common.{◌≡◌, ℕ, zero, suc, inl, inr, List, [], ◌∷◌, ◌++◌, length, refl, sym, ap, ◌∙◌, subst}
 use Rattle.std.specs.Prelude.{Option, None, Some}
 use Rattle.std.specs.List.{flat_map, AllByRecursion}
 use Rattle.h5_bytes.proofs.BlockLaws.{all_left, all_right}
 use Rattle.h5_laws.specs.KeyTrees.{KeyTree, items_in}
 use Rattle.h5_laws.specs.KeyEdits.{IsTaken, IsEmptied, Removes, AreAlike}
-use Rattle.h5_laws.specs.ExactKeys.{IsBehind, IsFirstKey, IsExact, EachKey, on_edge}
+use Rattle.h5_laws.specs.ExactKeys.{IsBehind, IsExact, EachKey, on_edge}
 use Rattle.h5_laws.specs.ExactWays.{AreAround, IsFirstOf}
 use Rattle.h5_laws.proofs.ExactKeysLast.{EndsAlike, ends_append, ends_same, ends_taken, some_there}
-use Rattle.h5_laws.proofs.ExactKeysRows.{IsChild, IsCut, edge_at, around_cut, rows_of, of_rows}
+use Rattle.h5_laws.proofs.ExactKeysRows.{IsChild, edge_at, around_cut, rows_of, of_rows}
 
 module _ {K B X : Type 0} (key_of : X → K) (lowest : K) (items : B → List X) where
   abbrev I : (height : ℕ) → KeyTree K B height → List X

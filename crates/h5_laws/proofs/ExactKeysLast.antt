@@ -1,7 +1,7 @@
 -- The last of two lists, one behind the other; and lists that end alike.
 use Rattle.std.proofs.Common.{◌≡◌, ◌⊎◌, inl, inr, List, [], ◌∷◌, ◌++◌, refl, sym, ap, ap₂, ◌∙◌, subst}
 use Rattle.std.proofs.lemmas.List.{append_assoc}
-use Rattle.h5_laws.specs.KeyEdits.{IsPut, IsTaken}
+use Rattle.h5_laws.specs.KeyEdits.{IsTaken}
 
 module _ {X : Type 0} where
   pub none_left : (xs ys : List X) → xs ++ ys ≡ [] → xs ≡ []

@@ -1,14 +1,14 @@
 -- Exact keys where keys give way, and where what is left without items goes.
-use Rattle.std.proofs.Common.{◌≡◌, ℕ, zero, suc, ◌⊎◌, inl, inr, List, [], ◌∷◌, ◌++◌, length, map, refl, sym, ap, ap₂, ◌∙◌, subst, arith}
+use Rattle.std.proofs.Common.{◌≡◌, ℕ, zero, suc, ◌⊎◌, inl, inr, List, [], ◌∷◌, ◌++◌, length, map, refl, sym, ap, ap₂, ◌∙◌, subst}
 use Rattle.std.specs.Prelude.{Option, None, Some, ⊤}
 use Rattle.std.specs.List.{flat_map}
 use Rattle.std.proofs.lemmas.Grind.{flat_map-append}
 use Rattle.h5_laws.specs.KeyTrees.{KeyTree, items_in}
-use Rattle.h5_laws.specs.KeyEdits.{Enters, IsEmptied, Removes, IsFirstRetired, AreRetired, RetiresKeys, AreAlike, Retires}
+use Rattle.h5_laws.specs.KeyEdits.{IsEmptied, Removes, IsFirstRetired, AreRetired, RetiresKeys, AreAlike, Retires}
 use Rattle.h5_laws.specs.ExactKeys.{IsBehind, IsExact, on_edge}
 use Rattle.h5_laws.specs.ExactWays.{AreAround, IsFirstOf}
 use Rattle.h5_laws.proofs.ExactKeysLast.{some_there}
-use Rattle.h5_laws.proofs.ExactKeysRows.{IsChild, IsCut, past, edge_at, around_some, around_cut, around_joined, from_cut, rows_of, of_rows}
+use Rattle.h5_laws.proofs.ExactKeysRows.{IsChild, past, edge_at, around_some, around_cut, around_joined, from_cut, rows_of, of_rows}
 use Rattle.h5_laws.proofs.ExactKeys.{edge_row, edge_exact}
 
 module _ {K B X : Type 0} (key_of : X → K) (lowest : K) (items : B → List X) where

@@ -1,14 +1,12 @@
 -- Exact keys of a tree of keys with one item more.
-use Rattle.std.proofs.Common.{◌≡◌, ℕ, zero, suc, ◌≤◌, ◌⊎◌, inl, inr, List, [], ◌∷◌, ◌++◌, length, refl, sym, ap, ◌∙◌, subst, arith}
+use Rattle.std.proofs.Common.{◌≡◌, ℕ, zero, suc, ◌≤◌, inl, inr, List, [], ◌∷◌, ◌++◌, length, refl, sym, ap, ◌∙◌, subst, arith}
 use Rattle.std.specs.Prelude.{Option, None, Some, ⊤}
-use Rattle.std.specs.List.{flat_map, AllByRecursion}
-use Rattle.std.proofs.lemmas.Grind.{flat_map-append}
-use Rattle.std.proofs.lemmas.List.{append-nil}
+use Rattle.std.specs.List.{AllByRecursion}
 use Rattle.h5_bytes.proofs.BlockLaws.{all_append, all_left, all_right, all_so}
 use Rattle.h5_laws.specs.Ladders.{Sides, LieBetween, IsOrderly}
 use Rattle.h5_laws.specs.KeyTrees.{KeyTree, items_in, IsSorted}
-use Rattle.h5_laws.specs.KeyEdits.{Grown, One, Two, IsPut, LetIn, Descends, IsHeld, Widens, IsHalved, Fits, Inserts, IsRaised}
-use Rattle.h5_laws.specs.ExactKeys.{IsBehind, IsExact, on_edge}
+use Rattle.h5_laws.specs.KeyEdits.{Grown, One, Two, IsPut, LetIn, Descends, IsHeld, Widens, Fits, Inserts, IsRaised}
+use Rattle.h5_laws.specs.ExactKeys.{IsBehind, IsExact}
 use Rattle.h5_laws.specs.ExactWays.{AreAround, IsFirstOf, IsExactFor}
 use Rattle.h5_laws.proofs.KeyDepth.{IsBushy}
 use Rattle.h5_laws.proofs.KeyInserts.{IsGrown, IsOpen, inserts_grown, opened, put_lies}

@@ -1,10 +1,10 @@
 -- Keys that stand for texts, beside the keys of items: what exact keys of groups ask of the order.
 use Rattle.std.proofs.Common.{◌≡◌, List, ℕ, [], refl}
-use Rattle.h5_model.specs.Format.Links.{Before, NotAfter}
+use Rattle.h5_model.specs.Format.Links.{Before}
 use Rattle.h5_model.proofs.TextOrder.{not_after_itself, before_le}
-use Rattle.h5_laws.specs.Ladders.{Sides, IsOrderly}
+use Rattle.h5_laws.specs.Ladders.{IsOrderly}
 use Rattle.h5_laws.specs.KeyEdits.{LetIn}
-use Rattle.h5_laws.specs.NameLadders.{key_sides, name_sides}
+use Rattle.h5_laws.specs.NameLadders.{key_sides}
 use Rattle.h5_laws.proofs.KeyInstances.{name_let_in, name_parts, name_through}
 use Rattle.h5_laws.proofs.NameLadders.{name_order}
 use Rattle.h5_laws.proofs.ExactKeysPut.{HasOwnKeys}

@@ -1,6 +1,6 @@
 -- The keys and children of a node with exact keys, in one row, and cut at a child.
 use Rattle.std.proofs.Common.{◌≡◌, ℕ, suc, List, [], ◌∷◌, ◌++◌, length, map, arith}
-use Rattle.std.specs.Prelude.{Option, None, Some}
+use Rattle.std.specs.Prelude.{Option, Some}
 use Rattle.h5_laws.specs.KeyTrees.{KeyTree, items_in}
 use Rattle.h5_laws.specs.ExactKeys.{IsBehind, AreBehind, AreAllBehind, IsExact, on_edge}
 use Rattle.h5_laws.specs.ExactWays.{AreAround, IsFirstOf}

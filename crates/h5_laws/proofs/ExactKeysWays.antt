@@ -1,11 +1,11 @@
 -- Exact keys of the nodes on a way, whose end keys give way to let an item in.
-use Rattle.std.proofs.Common.{◌≡◌, ℕ, zero, suc, ◌⊎◌, inl, inr, List, [], ◌∷◌, ◌++◌, length, refl, sym, ap, ◌∙◌, subst, arith}
+use Rattle.std.proofs.Common.{◌≡◌, ℕ, zero, suc, ◌⊎◌, inl, inr, List, [], ◌∷◌, ◌++◌, length, sym, ◌∙◌, subst}
 use Rattle.std.specs.Prelude.{Option, None, Some, ⊤}
-use Rattle.h5_laws.specs.Ladders.{Sides, IsOrderly}
+use Rattle.h5_laws.specs.Ladders.{Sides}
 use Rattle.h5_laws.specs.KeyTrees.{KeyTree, items_in}
-use Rattle.h5_laws.specs.ExactKeys.{IsBehind, IsExact, on_edge}
+use Rattle.h5_laws.specs.ExactKeys.{IsBehind, IsExact}
 use Rattle.h5_laws.specs.ExactWays.{AreAround, IsFirstOf, IsExactFor}
-use Rattle.h5_laws.proofs.ExactKeysRows.{IsChild, IsCut, edge_at, around_some, around_so, around_cut, from_cut, rows_of}
+use Rattle.h5_laws.proofs.ExactKeysRows.{IsChild, edge_at, around_some, around_so, around_cut, from_cut, rows_of}
 
 -- the key before a tree lets the item in, if there is one
 abbrev pub LetsIn : {K X : Type 0} → Sides K X → X → Option K → Type 0

@@ -5,7 +5,7 @@ use Rattle.std.specs.FinMap.{FinMap}
 use Rattle.h5_model.specs.Tree.Objects.{Tree}
 use Rattle.h5_model.specs.Format.Reads.{Placed, ReadsAs, Holds}
 use Rattle.h5_model.specs.Format.Reached.{Named, Reached}
-use Rattle.h5_model.specs.Faults.Breaches.{cut, ReachedBreach, BreachExcludesReads}
+use Rattle.h5_model.specs.Faults.Breaches.{up_to_end, ReachedBreach, BreachExcludesReads}
 use Rattle.h5_model.specs.declared.open_fault.Cause.{Cause}
 use Rattle.h5_model.specs.declared.open_fault.Cause.TheVariants.{Truncated, Overlap, GroupLinkedTwice, LinkCount, TooLarge, MissingMessage}
 use Rattle.h5_model.proofs.BreachLaws.{superblock_breach_excludes}
@@ -33,4 +33,4 @@ module _ (image : List ℕ) (table : FinMap nat_cmp ℕ) (tree : Tree) (placed :
 pub breach_excludes_reads : BreachExcludesReads
 breach_excludes_reads bytes cause at (inl super) table tree reads = superblock_breach_excludes bytes cause at super table tree reads
 breach_excludes_reads bytes cause at (inr (x, reached, same, breach)) table tree (placed, reads) =
-    reached_excluded (cut bytes) table tree placed reads x reached cause breach
+    reached_excluded (up_to_end bytes) table tree placed reads x reached cause breach

@@ -5,6 +5,7 @@ use Rattle.std.specs.Option.{option_and_then}
 use Rattle.std.specs.Ordering.{nat_cmp}
 use Rattle.std.specs.FinMap.{FinMap}
 use Rattle.h5_bytes.specs.Blocks.{Inside}
+use Rattle.h5_model.specs.Format.MessageTypes.{symbol_table_kind}
 use Rattle.h5_model.specs.Format.Messages.{Message, count_of}
 use Rattle.h5_model.specs.Format.Symbols.{Target}
 use Rattle.h5_model.specs.Tree.Objects.{Tree, Object, Dataset, ToObject, follow, links_of, links_in}
@@ -98,7 +99,7 @@ module _ (image : List ℕ) (table : FinMap nat_cmp ℕ) (tree : Tree) (placed :
     breach cause h = listed cause h.0 h.1 h.2
 
     -- the root is a group
-    root_table : depth ≡ 0 → count_of 17 ms ≡ 0 → ⊥
+    root_table : depth ≡ 0 → count_of symbol_table_kind ms ≡ 0 → ⊥
     root_table top none =
         let number : k.o.number ≡ 0 = root_number tree k.path k.o.number (k.long ∙ top) k.leads in
         let links : links_of tree 0 ≡ links_in k.o.object.content
@@ -117,8 +118,8 @@ module _ (image : List ℕ) (table : FinMap nat_cmp ℕ) (tree : Tree) (placed :
 
   -- the root's header has its Symbol Table message
   pub no_root_excluded : (depth header : ℕ) → KnownAt image table tree placed depth header → depth ≡ 0
-      → (messages : List Message) → AllMessages image header messages → count_of 17 messages ≡ 0 → ⊥
+      → (messages : List Message) → AllMessages image header messages → count_of symbol_table_kind messages ≡ 0 → ⊥
   no_root_excluded depth header k top messages all none =
       let here : AllMessages image k.0.o.header messages = subst (λ (a : ℕ). AllMessages image a messages) (sym k.1) all in
       let same = all_messages image k.0.o.header messages k.0.has.messages k.0.has.header_blocks here k.0.has.listed in
-      root_table depth k.0 top (subst (λ (x : List Message). count_of 17 x ≡ 0) same none)
+      root_table depth k.0 top (subst (λ (x : List Message). count_of symbol_table_kind x ≡ 0) same none)

@@ -6,7 +6,7 @@ use Rattle.std.specs.FinMap.{FinMap}
 use Rattle.std.specs.List.{Contains}
 use Rattle.h5_model.specs.Tree.Objects.{Tree, hard_links}
 use Rattle.h5_model.specs.Format.Reads.{Placed, Holds}
-use Rattle.h5_model.specs.Format.Reached.{Named, named, ObjectHeader, Reached}
+use Rattle.h5_model.specs.Format.Reached.{Named, naming_of, ObjectHeader, Reached}
 use Rattle.h5_model.specs.Faults.Breaches.{is_header, AreAllLinks}
 use Rattle.h5_laws.proofs.Lists.{In, in_contains, contains_in}
 use Rattle.h5_laws.proofs.Pigeonhole.{distinct_of_apart}
@@ -31,7 +31,7 @@ module _ (image : List ℕ) (table : FinMap nat_cmp ℕ) (tree : Tree) (placed :
     each : (field : ℕ) → Contains (fields_to header links) field → (y : Named) × Reached image y × (y.field ≡ field) × (y.at ≡ header) × IsTrue (is_header y.role)
     each field contained =
         let y = link_reached image table tree placed holds (field, header) (in_fields_to header field links (in_contains field (fields_to header links) contained)) in
-        (named field ObjectHeader header y.0, y.1, refl, refl, refl)
+        (naming_of field ObjectHeader header y.0, y.1, refl, refl, refl)
 
     all : (y : Named) → Reached image y → y.at ≡ header → IsTrue (is_header y.role) → Contains (fields_to header links) y.field
     all y reached here is =

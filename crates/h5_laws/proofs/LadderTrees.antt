@@ -3,7 +3,7 @@ use Rattle.std.proofs.Common.{◌≡◌, ℕ, zero, suc, ◌+◌, List, [], ◌�
 use Rattle.std.specs.List.{AllByRecursion, flat_map}
 use Rattle.std.proofs.lemmas.List.{append-nil}
 use Rattle.std.proofs.lemmas.Grind.{flat_map-append}
-use Rattle.h5_bytes.specs.Bytes.{undefined}
+use Rattle.h5_bytes.specs.Bytes.{undefined_address}
 use Rattle.h5_model.specs.Format.Rows.{Node, Reading, next_row, row_below}
 use Rattle.h5_model.specs.Format.Nodes.{Kind, HasTree, node_at, reading_of}
 use Rattle.h5_model.proofs.OneTree.{owned_is}
@@ -113,7 +113,7 @@ module _ {X : Type 0} (image : List ℕ) (kind : Kind) (root level : ℕ) (owned
       place = row_of V level at (root ∷ []) (subst (In at) (owned_is image kind root level owned children has) is_owned)
 
       level_there : (V at).level ≡ place.1
-      level_there = row_level V place.1 undefined at (row_below V place.0 (root ∷ []))
+      level_there = row_level V place.1 undefined_address at (row_below V place.0 (root ∷ []))
           (row_is V place.1 (row_below V place.0 (root ∷ []))
           (rows_below V place.0 place.1 level (root ∷ []) place.2 (tree_rows image kind root level owned children has))) place.3
 

@@ -7,6 +7,7 @@ use Rattle.std.specs.Ordering.{nat_cmp, eq_by_cmp}
 use Rattle.std.specs.Cmp.Lexicographic.{slice_cmp}
 use Rattle.std.specs.List.{AllByRecursion, AllZip, filter, filter_map, list_any, find, IsDistinct}
 use Rattle.h5_bytes.specs.declared.Block.{Block}
+use Rattle.h5_model.specs.Format.MessageTypes.{data_layout_kind, dataspace_kind, datatype_kind, symbol_table_kind}
 use Rattle.h5_model.specs.Format.Addresses.{symbol_table_of}
 use Rattle.h5_model.specs.Format.Messages.{Message, count_of, first_body}
 use Rattle.h5_model.specs.Format.Fixed.{Fixed}
@@ -18,7 +19,8 @@ use Rattle.h5_model.specs.Format.Layout.{InChunks, layout_of}
 use Rattle.h5_model.specs.Format.AttributeBody.{attribute_of}
 use Rattle.h5_model.specs.Format.Symbols.{Target}
 use Rattle.h5_model.specs.Tree.Objects.{Dataset, Attribute, Attributes}
-use Rattle.h5_model.specs.Format.Reads.{HasGroup, HasDataset, HasAttributes, is_attribute_message, IsFill, IsChunkSmall}
+use Rattle.h5_model.specs.Format.Reads.{HasGroup, HasDataset, HasAttributes, is_attribute_message}
+use Rattle.h5_model.specs.Format.Described.{IsFill, IsChunkSmall}
 use Rattle.h5_model.specs.Format.Reached.{extent_among, type_among, layout_among}
 use Rattle.h5_model.specs.Faults.HeaderFaults.{SomeBody, HasNameTwice, IsBadFill, IsLarge, stands_twice, stands}
 use Rattle.h5_laws.proofs.Lists.{In, in_all, in_contains}
@@ -120,7 +122,7 @@ module _ (image : List ℕ) (ms : List Message) (found : List (List ℕ × Targe
   no_body : (kind : ℕ) (Fails : List ℕ → Type 0) → of_group kind ≡ false → SomeBody kind ms Fails → ⊥
   no_body kind Fails not_group (m, at, is, fails) = no_message kind not_group m (in_contains m ms at) is
 
-  pub group_missing : count_of 17 ms ≡ 0 → ⊥
+  pub group_missing : count_of symbol_table_kind ms ≡ 0 → ⊥
   group_missing none = absurd (omega (arith, none, has.once))
 
   pub group_twice : IsTrue (list_any (stands_twice ms) (1 ∷ 3 ∷ 4 ∷ 5 ∷ 8 ∷ 17 ∷ [])) → ⊥
@@ -181,25 +183,25 @@ module _ (image : List ℕ) (ms : List Message) (found : List (List ℕ × Targe
 -- ---- datasets
 
 module _ (image : List ℕ) (ms : List Message) (d : Dataset) (blocks : List Block) (has : HasDataset image ms d blocks) where
-  no_tables : count_of 17 ms ≡ 0
+  no_tables : count_of symbol_table_kind ms ≡ 0
   no_tables = none_counted 17 ms (λ m at is. let no_way : false ≡ true = of_dataset_kind ms m 17 has.known at is in absurd (cc))
 
-  pub dataset_missing : (count_of 1 ms ≡ 0) ⊎ ((count_of 3 ms ≡ 0) ⊎ (count_of 8 ms ≡ 0)) → ⊥
-  dataset_missing (inl none) = absurd (omega (arith, none, has.one_space))
-  dataset_missing (inr (inl none)) = absurd (omega (arith, none, has.one_type))
-  dataset_missing (inr (inr none)) = absurd (omega (arith, none, has.one_layout))
+  pub dataset_missing : (count_of dataspace_kind ms ≡ 0) ⊎ ((count_of datatype_kind ms ≡ 0) ⊎ (count_of data_layout_kind ms ≡ 0)) → ⊥
+  dataset_missing (inl none) = absurd (omega (arith, none, has.array.one_space))
+  dataset_missing (inr (inl none)) = absurd (omega (arith, none, has.array.one_type))
+  dataset_missing (inr (inr none)) = absurd (omega (arith, none, has.array.one_layout))
 
   pub dataset_twice : IsTrue (list_any (stands_twice ms) (1 ∷ 3 ∷ 4 ∷ 5 ∷ 8 ∷ 17 ∷ [])) → ⊥
   dataset_twice h = never (list_any (stands_twice ms) (1 ∷ 3 ∷ 4 ∷ 5 ∷ 8 ∷ 17 ∷ [])) (none_any (stands_twice ms) (1 ∷ 3 ∷ 4 ∷ 5 ∷ 8 ∷ 17 ∷ []) (
-    not_twice 1 ms (omega (arith, has.one_space)),
+    not_twice 1 ms (omega (arith, has.array.one_space)),
     (
-      not_twice 3 ms (omega (arith, has.one_type)),
+      not_twice 3 ms (omega (arith, has.array.one_type)),
       (
-        not_twice 4 ms has.old_fills,
+        not_twice 4 ms has.array.old_fills,
         (
-          not_twice 5 ms has.fills,
+          not_twice 5 ms has.array.fills,
           (
-            not_twice 8 ms (omega (arith, has.one_layout)),
+            not_twice 8 ms (omega (arith, has.array.one_layout)),
             (not_twice 17 ms (omega (arith, no_tables)), tt),
           ),
         ),
@@ -211,10 +213,10 @@ module _ (image : List ℕ) (ms : List Message) (d : Dataset) (blocks : List Blo
   dataset_mixed h = never (stands ms 17) (not_there 17 ms no_tables) h
 
   pub dataset_space : SomeBody 1 ms (λ body. extent_of body ≡ None) → ⊥
-  dataset_space h = fails_not extent_of 1 ms (record { sizes = d.sizes; maxima = d.maxima }) (omega (arith, has.one_space)) has.space h
+  dataset_space h = fails_not extent_of 1 ms (record { sizes = d.sizes; maxima = d.maxima }) (omega (arith, has.array.one_space)) has.array.space h
 
   pub dataset_type : SomeBody 3 ms (λ body. fixed_of body ≡ None) → ⊥
-  dataset_type h = fails_not fixed_of 3 ms d.fixed (omega (arith, has.one_type)) has.type h
+  dataset_type h = fails_not fixed_of 3 ms d.fixed (omega (arith, has.array.one_type)) has.array.type h
 
   fill_fails : (kind : ℕ) (value : List ℕ → Option ℤ) (fill : Option ℤ) → count_of kind ms ≤ 1 → IsFill value (first_body kind ms) fill
       → SomeBody kind ms (λ body. value body ≡ None) → ⊥
@@ -227,8 +229,8 @@ module _ (image : List ℕ) (ms : List Message) (d : Dataset) (blocks : List Blo
   pub dataset_fill : (t : Fixed) → type_among ms ≡ Some t → IsBadFill ms t → ⊥
   dataset_fill t type bad = go (subst (IsBadFill ms) (type_is image ms d blocks has t type) bad) where
     go : IsBadFill ms d.fixed → ⊥
-    go (inl h) = fill_fails 4 (old_fill_value d.fixed) has.old_fill has.old_fills has.old_filled h
-    go (inr h) = fill_fails 5 (fill_value d.fixed) has.new_fill has.fills has.new_filled h
+    go (inl h) = fill_fails 4 (old_fill_value d.fixed) (has.array.filled).old_fill has.array.old_fills (has.array.filled).old_filled h
+    go (inr h) = fill_fails 5 (fill_value d.fixed) (has.array.filled).new_fill has.array.fills (has.array.filled).new_filled h
 
   pub dataset_layout : (e : Extent) (t : Fixed) → extent_among ms ≡ Some e → type_among ms ≡ Some t → SomeBody 8 ms (λ body. layout_of e.sizes t.size body ≡ None) → ⊥
   dataset_layout e t extent type bad =
@@ -236,7 +238,7 @@ module _ (image : List ℕ) (ms : List Message) (d : Dataset) (blocks : List Blo
       let size : t.size ≡ (d.fixed).size = ap (λ (x : Fixed). x.size) (type_is image ms d blocks has t type) in
       let here = subst (λ (ds : List ℕ). SomeBody 8 ms (λ body. layout_of ds t.size body ≡ None)) sizes bad in
       let there = subst (λ (n : ℕ). SomeBody 8 ms (λ body. layout_of d.sizes n body ≡ None)) size here in
-      fails_not (layout_of d.sizes (d.fixed).size) 8 ms has.layout (omega (arith, has.one_layout)) has.laid_out there
+      fails_not (layout_of d.sizes (d.fixed).size) 8 ms has.layout (omega (arith, has.array.one_layout)) has.array.laid_out there
 
   pub dataset_tables : SomeBody 17 ms (λ body. symbol_table_of body ≡ None) → ⊥
   dataset_tables (m, at, is, fails) = absurd (omega (arith, no_tables, counted 17 ms m (in_contains m ms at) is))
@@ -245,16 +247,16 @@ module _ (image : List ℕ) (ms : List Message) (d : Dataset) (blocks : List Blo
   chunk_small t sizes root type layout =
       let laid : InChunks sizes root ≡ has.layout = layout_is image ms d blocks has (InChunks sizes root) layout in
       let fixed : t ≡ d.fixed = type_is image ms d blocks has t type in
-      let small : IsChunkSmall d.fixed (InChunks sizes root) = subst (IsChunkSmall d.fixed) (sym laid) has.chunk_small in
+      let small : IsChunkSmall d.fixed (InChunks sizes root) = subst (IsChunkSmall d.fixed) (sym laid) has.array.chunk_small in
       subst (λ (f : Fixed). cells sizes * f.size ≤ 2 ^ 30) (sym fixed) small
 
   pub dataset_small : (attributes : Attributes) → HasAttributes ms attributes → IsLarge ms → ⊥
   dataset_small attributes are (inl (m, at, is, (e, says, large))) =
       let good : extent_of m.body ≡ Some (record { sizes = d.sizes; maxima = d.maxima })
-      = says_of extent_of 1 ms m (Some (record { sizes = d.sizes; maxima = d.maxima })) (omega (arith, has.one_space)) (in_contains m ms at) is has.space in
+      = says_of extent_of 1 ms m (Some (record { sizes = d.sizes; maxima = d.maxima })) (omega (arith, has.array.one_space)) (in_contains m ms at) is has.array.space in
       let both : Some e ≡ Some (record { sizes = d.sizes; maxima = d.maxima }) = sym says ∙ good in
       let same : e ≡ record { sizes = d.sizes; maxima = d.maxima } = cc in
       let cells_same : extent_cells e.sizes ≡ extent_cells d.sizes = ap (λ (x : Extent). extent_cells x.sizes) same in
-      absurd (omega (arith, large, has.small, cells_same))
+      absurd (omega (arith, large, has.array.small, cells_same))
   dataset_small attributes are (inr (inl h)) = attribute_size_excluded ms attributes are h
   dataset_small attributes are (inr (inr (t, sizes, root, type, layout, large))) = absurd (omega (arith, large, chunk_small t sizes root type layout))

@@ -7,6 +7,7 @@ use Rattle.std.specs.List.{AllZip, AllByRecursion, find}
 use Rattle.h5_bytes.specs.Bytes.{number_at}
 use Rattle.h5_bytes.specs.Blocks.{block}
 use Rattle.h5_bytes.specs.declared.Block.{Block}
+use Rattle.h5_model.specs.Format.MessageTypes.{symbol_table_kind}
 use Rattle.h5_model.specs.Format.Addresses.{continuation_of, symbol_table_of}
 use Rattle.h5_model.specs.Tree.Places.{cells}
 use Rattle.h5_model.specs.Format.Messages.{Message, count_of}
@@ -41,7 +42,7 @@ pub record KnownGroup (image : List ℕ) (table : FinMap nat_cmp ℕ) (tree : Tr
   pub linked : HasLinks image (leaf_k image) (internal_k image) root heap found k.has.content_blocks
   pub same : AllZip (IsSame table) (entries links) found
   pub in_group : AllByRecursion InGroup k.has.messages
-  pub once : count_of 17 k.has.messages ≡ 1
+  pub once : count_of symbol_table_kind k.has.messages ≡ 1
   pub m : Message
   pub first : find (λ x. x.kind == 17) k.has.messages ≡ Some m
   pub says : symbol_table_of m.body ≡ Some (record { tree = root; heap = heap })

@@ -3,6 +3,7 @@ use Rattle.std.proofs.Common.{◌≡◌, ◌≢◌, ◌⊎◌, inl, inr, ℕ, �
 use Rattle.std.proofs.lemmas.Bool.Decides.{nat_tests}
 use Rattle.std.specs.Prelude.{◌==◌, ◌||◌, not, IsSome, is_some, nat_le, bit_and}
 use Rattle.std.specs.List.{AllByRecursion}
+use Rattle.std.proofs.lemmas.Bool.{or_cases}
 use Rattle.h5_bytes.specs.Bytes.{byte_at}
 use Rattle.h5_bytes.specs.Blocks.{Inside}
 use Rattle.h5_bytes.specs.declared.Block.{Block}
@@ -11,7 +12,6 @@ use Rattle.h5_model.specs.Format.Addresses.{continuation_of}
 use Rattle.h5_model.specs.Format.Messages.{Message, HasMessages, IsContinued}
 use Rattle.h5_model.specs.Format.Reached.{Met, MessageAt, kind_at, size_at}
 use Rattle.h5_model.specs.Faults.HeaderFaults.{IsMisfit, SomeMessage, is_known, is_new_style}
-use Rattle.h5_model.proofs.ReachLaws.{either}
 use Rattle.h5_laws.proofs.Lists.{In, in_all}
 use Rattle.h5_laws.proofs.Heads.{Headed, headed, standing}
 use Rattle.h5_laws.proofs.Objects.{of_group, of_dataset}
@@ -25,15 +25,15 @@ is_listed : (k n : ℕ) → (k == n) ≡ true → In n allowed → In k allowed
 is_listed k n same at = let e : n ≡ k = grind (arith, nat_tests) in subst (λ (x : ℕ). In x allowed) e at
 
 common_allowed : (k : ℕ) → ((k == 0 || k == 16) || (k == 12 || ((k == 13 || k == 14) || k == 18))) ≡ true → In k allowed
-common_allowed k h = elim (either (k == 0 || k == 16) (k == 12 || ((k == 13 || k == 14) || k == 18)) h) [
-  | inl a ↦ elim (either (k == 0) (k == 16) a) [
+common_allowed k h = elim (or_cases (k == 0 || k == 16) (k == 12 || ((k == 13 || k == 14) || k == 18)) h) [
+  | inl a ↦ elim (or_cases (k == 0) (k == 16) a) [
     | inl e ↦ is_listed k 0 e (inr (inl refl))
     | inr e ↦ is_listed k 16 e (inr (inr (inl refl)))
   ]
-  | inr b ↦ elim (either (k == 12) ((k == 13 || k == 14) || k == 18) b) [
+  | inr b ↦ elim (or_cases (k == 12) ((k == 13 || k == 14) || k == 18) b) [
     | inl e ↦ is_listed k 12 e (inr (inr (inr (inl refl))))
-    | inr c ↦ elim (either (k == 13 || k == 14) (k == 18) c) [
-      | inl d ↦ elim (either (k == 13) (k == 14) d) [
+    | inr c ↦ elim (or_cases (k == 13 || k == 14) (k == 18) c) [
+      | inl d ↦ elim (or_cases (k == 13) (k == 14) d) [
         | inl e ↦ is_listed k 13 e (inr (inr (inr (inr (inl refl)))))
         | inr e ↦ is_listed k 14 e (inr (inr (inr (inr (inr (inl refl))))))
       ]
@@ -43,24 +43,24 @@ common_allowed k h = elim (either (k == 0 || k == 16) (k == 12 || ((k == 13 || k
 ]
 
 group_allowed : (k : ℕ) → of_group k ≡ true → In k allowed
-group_allowed k h = elim (either (k == 17) ((k == 0 || k == 16) || (k == 12 || ((k == 13 || k == 14) || k == 18))) h) [
+group_allowed k h = elim (or_cases (k == 17) ((k == 0 || k == 16) || (k == 12 || ((k == 13 || k == 14) || k == 18))) h) [
   | inl e ↦ is_listed k 17 e (inl refl)
   | inr c ↦ common_allowed k c
 ]
 
 dataset_allowed : (k : ℕ) → of_dataset k ≡ true → In k allowed
-dataset_allowed k h = elim (either ((k == 1 || k == 3) || (k == 4 || k == 5)) (k == 8 || ((k == 0 || k == 16) || (k == 12 || ((k == 13 || k == 14) || k == 18)))) h) [
-  | inl a ↦ elim (either (k == 1 || k == 3) (k == 4 || k == 5) a) [
-    | inl b ↦ elim (either (k == 1) (k == 3) b) [
+dataset_allowed k h = elim (or_cases ((k == 1 || k == 3) || (k == 4 || k == 5)) (k == 8 || ((k == 0 || k == 16) || (k == 12 || ((k == 13 || k == 14) || k == 18)))) h) [
+  | inl a ↦ elim (or_cases (k == 1 || k == 3) (k == 4 || k == 5) a) [
+    | inl b ↦ elim (or_cases (k == 1) (k == 3) b) [
       | inl e ↦ is_listed k 1 e (inr (inr (inr (inr (inr (inr (inr (inl refl))))))))
       | inr e ↦ is_listed k 3 e (inr (inr (inr (inr (inr (inr (inr (inr (inl refl)))))))))
     ]
-    | inr b ↦ elim (either (k == 4) (k == 5) b) [
+    | inr b ↦ elim (or_cases (k == 4) (k == 5) b) [
       | inl e ↦ is_listed k 4 e (inr (inr (inr (inr (inr (inr (inr (inr (inr (inl refl))))))))))
       | inr e ↦ is_listed k 5 e (inr (inr (inr (inr (inr (inr (inr (inr (inr (inr (inl refl)))))))))))
     ]
   ]
-  | inr a ↦ elim (either (k == 8) ((k == 0 || k == 16) || (k == 12 || ((k == 13 || k == 14) || k == 18))) a) [
+  | inr a ↦ elim (or_cases (k == 8) ((k == 0 || k == 16) || (k == 12 || ((k == 13 || k == 14) || k == 18))) a) [
     | inl e ↦ is_listed k 8 e (inr (inr (inr (inr (inr (inr (inr (inr (inr (inr (inr (inl refl))))))))))))
     | inr c ↦ common_allowed k c
   ]

@@ -2,7 +2,7 @@
 use Rattle.std.proofs.Common.{◌≡◌, inl, inr, ℕ, zero, suc, ◌+◌, ◌-◌, List, [], ◌∷◌, ◌++◌, refl, ◌∙◌, subst, arith, true, false}
 use Rattle.std.proofs.lemmas.Bool.Decides.{nat_tests}
 use Rattle.std.specs.Prelude.{◌==◌, ◌&&◌, not, IsTrue}
-use Rattle.h5_bytes.specs.Bytes.{undefined}
+use Rattle.h5_bytes.specs.Bytes.{undefined_address}
 use Rattle.h5_model.specs.Format.Rows.{Reading, IsRow, AreRows, first_or_undefined, row_below}
 use Rattle.h5_model.specs.Format.Nodes.{Kind, HasTree, node_at, node_bytes, entries_in}
 use Rattle.h5_model.specs.Format.Reached.{level_at}
@@ -24,10 +24,10 @@ unfolding last_or
 last_is left n [] = refl
 last_is left n (m ∷ before) = last_is n m before
 
-last_undefined : (before : List ℕ) → last_or undefined before ≡ last_or_undefined before
+last_undefined : (before : List ℕ) → last_or undefined_address before ≡ last_or_undefined before
 unfolding last_or
 last_undefined [] = refl
-last_undefined (n ∷ before) = last_is undefined n before
+last_undefined (n ∷ before) = last_is undefined_address n before
 
 row_at : (V : Reading) (level left n : ℕ) (before after : List ℕ) → IsRow V level left (before ++ n ∷ after)
     → ((V n).left ≡ last_or left before) × ((V n).right ≡ first_or_undefined after)
@@ -42,8 +42,8 @@ module _ (image : List ℕ) (kind : Kind) (root level : ℕ) (owned children : L
       let top : level_at image kind root ≡ level = level_is image kind root level owned children has in
       let rows : AreRows V (level - depth) (row_below V depth (root ∷ []))
       = rows_below V depth (level - depth) level (root ∷ []) (omega (arith, low, top)) (tree_rows image kind root level owned children has) in
-      let is : IsRow V (level - depth) undefined (before ++ at ∷ after) = subst (IsRow V (level - depth) undefined) row (row_is V (level - depth) (row_below V depth (root ∷ [])) rows) in
-      let says = row_at V (level - depth) undefined at before after is in
+      let is : IsRow V (level - depth) undefined_address (before ++ at ∷ after) = subst (IsRow V (level - depth) undefined_address) row (row_is V (level - depth) (row_below V depth (root ∷ [])) rows) in
+      let says = row_at V (level - depth) undefined_address at before after is in
       elim wrong [
         | inl left ↦ left (says.0 ∙ last_undefined before)
         | inr right ↦ right says.1
@@ -54,7 +54,7 @@ module _ (image : List ℕ) (kind : Kind) (root level : ℕ) (owned children : L
     level_right =
         let V = node_at image kind in
         let rows = rows_below V d l level (root ∷ []) e (tree_rows image kind root level owned children has) in
-        row_level V l undefined at (row_below V d (root ∷ [])) (row_is V l (row_below V d (root ∷ [])) rows) there
+        row_level V l undefined_address at (row_below V d (root ∷ [])) (row_is V l (row_below V d (root ∷ [])) rows) there
 
     -- only a root at level 0 is empty
     empty_excluded : entries_in (node_bytes image kind at) ≡ 0 → IsTrue (not (at == root && l == 0)) → ⊥

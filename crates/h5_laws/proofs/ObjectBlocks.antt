@@ -71,9 +71,9 @@ content-blocks image ms blocks (inl (found, has)) =
 content-blocks image ms blocks (inr (d, has)) =
     let table : find (λ x. x.kind == 17) ms ≡ None
     = find_none 17 ms (λ m at is. let never : false ≡ true = of_dataset_kind ms m 17 has.known at is in absurd (cc)) in
-    let first = said_first (layout_of d.sizes d.fixed.size) 8 ms has.layout has.laid_out in
+    let first = said_first (layout_of d.sizes d.fixed.size) 8 ms has.layout has.array.laid_out in
     ap₂ (λ (a b : List Tagged). blocks_in (a ++ b)) (no_table_tags image ms table)
-    (layout_tags image ms first.0 d.fixed has.layout first.1 has.type (layout_there image ms d blocks has))
+    (layout_tags image ms first.0 d.fixed has.layout first.1 has.array.type (layout_there image ms d blocks has))
     ∙ data-blocks image d.fixed has.layout has.chunks blocks has.stored first.0.at
 
 pub object-blocks : (image : List ℕ) (table : FinMap nat_cmp ℕ) (header : ℕ) (object : Object) (blocks : List Block) (has : HasObject image table header object blocks)

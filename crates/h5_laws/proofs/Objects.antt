@@ -8,6 +8,7 @@ use Rattle.std.specs.Cmp.Lexicographic.{nat_list_cmp_total}
 use Rattle.std.specs.FinMap.{FinMap, get, entries}
 use Rattle.std.specs.List.{AllZip, AllByRecursion}
 use Rattle.h5_bytes.specs.declared.Block.{Block}
+use Rattle.h5_model.specs.Format.MessageTypes.{symbol_table_kind}
 use Rattle.h5_model.specs.Format.Addresses.{SymbolTable, symbol_table_of}
 use Rattle.h5_model.specs.Format.Messages.{Message, count_of, first_body}
 use Rattle.h5_model.specs.Format.Symbols.{Target, Header}
@@ -139,9 +140,9 @@ module _ (image : List ℕ) (table : FinMap nat_cmp ℕ) (tree : Tree) (placed :
       → (g : KnownGroup image table tree placed depth root heap) × (g.m ≡ m) × (g.k ≡ k)
   group_known depth k m root heap at is says = elim (content_cases image table k.has.messages k.o.object.content k.has.content_blocks k.has.content) [
     | inl group ↦
-        let low : count_of 17 k.has.messages ≤ 1 = omega (arith, (group.3).once) in
-        let body : first_body 17 k.has.messages ≡ Some m.body = only_body 17 k.has.messages m low at is in
-        let chosen : option_and_then symbol_table_of (first_body 17 k.has.messages) ≡ Some (record { tree = root; heap = heap }) = ap (option_and_then symbol_table_of) body ∙ says in
+        let low : count_of symbol_table_kind k.has.messages ≤ 1 = omega (arith, (group.3).once) in
+        let body : first_body symbol_table_kind k.has.messages ≡ Some m.body = only_body 17 k.has.messages m low at is in
+        let chosen : option_and_then symbol_table_of (first_body symbol_table_kind k.has.messages) ≡ Some (record { tree = root; heap = heap }) = ap (option_and_then symbol_table_of) body ∙ says in
         let same : (group.3).symbol_table ≡ record { tree = root; heap = heap } = some_same _ _ _ (group.3).chosen chosen in (
           record {
             k = k;

@@ -18,7 +18,7 @@ use Rattle.h5_model.specs.Format.Symbols.{IsSymbolNode, symbol_block, symbol_byt
 use Rattle.h5_model.specs.Format.Superblock.{leaf_k, internal_k}
 use Rattle.h5_model.specs.Tree.Objects.{Tree}
 use Rattle.h5_model.specs.Format.Reads.{Placed, Holds}
-use Rattle.h5_model.specs.Format.Reached.{named, Role, ObjectHeader, GroupNode, SymbolNode, Reached, by_block, group_root, level_at, entry_in, size_at, kind_at}
+use Rattle.h5_model.specs.Format.Reached.{naming_of, Role, ObjectHeader, GroupNode, SymbolNode, Reached, by_block, group_root, level_at, entry_in, size_at, kind_at}
 use Rattle.h5_model.proofs.OneTree.{level_is, children_are}
 use Rattle.h5_laws.proofs.Lists.{In, in_all, in_map, from_flat, from_table}
 use Rattle.h5_laws.proofs.Rows.{row_after}
@@ -34,12 +34,12 @@ unfolding symbol_table_of
 long_table s bytes says = go (nat_le 16 (length bytes)) refl says where
   go : (t : Bool) → nat_le 16 (length bytes) ≡ t → (if t then Some (record { tree = number_at bytes 0 8; heap = number_at bytes 8 8 }) else None) ≡ Some s
       → (16 ≤ length bytes) × (s ≡ record { tree = number_at bytes 0 8; heap = number_at bytes 8 8 })
-  go true holds named = (let long : 16 ≤ length bytes = grind (arith, nat_tests, holds) in long, let same : s ≡ record { tree = number_at bytes 0 8; heap = number_at bytes 8 8 } = cc in same)
-  go false holds named = absurd (let never : None ≡ Some s = named in cc)
+  go true holds given = (let long : 16 ≤ length bytes = grind (arith, nat_tests, holds) in long, let same : s ≡ record { tree = number_at bytes 0 8; heap = number_at bytes 8 8 } = cc in same)
+  go false holds given = absurd (let never : None ≡ Some s = given in cc)
 
 -- a block of this role at this address is reached, so many links below the root
 abbrev pub IsReached : List ℕ → Role → ℕ → ℕ → Type 0
-IsReached image role at depth = (field : ℕ) × Reached image (named field role at depth)
+IsReached image role at depth = (field : ℕ) × Reached image (naming_of field role at depth)
 
 children_of : (image : List ℕ) (kind : Kind) (node c : ℕ) → In c (node_at image kind node).children
     → (i : ℕ) × (i < entries_in (node_bytes image kind node)) × (child_in kind (node_bytes image kind node) i ≡ c)
@@ -83,11 +83,11 @@ module _ (image : List ℕ) (table : FinMap nat_cmp ℕ) (tree : Tree) (placed :
       let a = number_at image (met.at + 8) 8 in
       let b = number_at image (met.at + 16) 8 in
       let kind_is : kind_at image met.at ≡ 17 = met.kind ∙ (find_in 17 g.k.has.messages g.m g.first).1 in
-      let y = named (met.at + 8) (group_root image a b) a depth in
+      let y = naming_of (met.at + 8) (group_root image a b) a depth in
       let there : Reached image y = by_block reached.1 (inl (met.at, met.fits, long, inr (inl (kind_is, refl)))) (omega (arith, long, met.inside)) in (
         met.at + 8,
-        subst (λ (r : ℕ). Reached image (named (met.at + 8) (group_root image r heap) r depth)) (sym root_is)
-            (subst (λ (h : ℕ). Reached image (named (met.at + 8) (group_root image a h) a depth)) (sym heap_is) there),
+        subst (λ (r : ℕ). Reached image (naming_of (met.at + 8) (group_root image r heap) r depth)) (sym root_is)
+            (subst (λ (h : ℕ). Reached image (naming_of (met.at + 8) (group_root image a h) a depth)) (sym heap_is) there),
       )
 
   inside : Inside (length image) ((tree_blocks kind g.linked.owned ++ map (symbol_block (leaf_k image)) g.linked.symbol_nodes) ++ heap_blocks image heap)
@@ -123,9 +123,9 @@ module _ (image : List ℕ) (table : FinMap nat_cmp ℕ) (tree : Tree) (placed :
       let whole = node_inside at (row_owned image kind root g.linked.level g.linked.owned g.linked.symbol_nodes g.linked.tree d l at e row) in
       let below = if l == 0 then SymbolNode root heap else GroupNode root heap (l - 1) in
       let place = at + key_place kind i.0 + 8 in
-      let y : Reached image (named place below (child_in kind (node_bytes image kind at) i.0) depth)
+      let y : Reached image (naming_of place below (child_in kind (node_bytes image kind at) i.0) depth)
       = by_block there.1 (level, (i.0, i.1, low, refl)) (omega (arith, low, whole)) in
-      (place, subst (λ (a : ℕ). Reached image (named place below a depth)) i.2 y)
+      (place, subst (λ (a : ℕ). Reached image (naming_of place below a depth)) i.2 y)
 
   rows_reached : (d l at : ℕ) → d + l ≡ g.linked.level → In at (row_below V d (root ∷ [])) → IsReached image (GroupNode root heap l) at depth
   rows_reached zero l at e (inl same) =
@@ -149,7 +149,7 @@ module _ (image : List ℕ) (table : FinMap nat_cmp ℕ) (tree : Tree) (placed :
 
   -- an entry that names a header
   pub entry_reached : (node i : ℕ) → In node g.linked.symbol_nodes → i < symbols_in (symbol_bytes image (leaf_k image) node) → (entry_in image node i).cache ≢ 2
-      → Reached image (named (node + 16 + 40 * i) ObjectHeader (entry_in image node i).header (depth + 1))
+      → Reached image (naming_of (node + 16 + 40 * i) ObjectHeader (entry_in image node i).header (depth + 1))
   entry_reached node i member low hard =
       let there = symbols_reached node member in
       let formed = in_all (λ a. IsSymbolNode (leaf_k image) (symbol_bytes image (leaf_k image) a)) node g.linked.symbol_nodes g.linked.formed member in

@@ -3,13 +3,13 @@ use Rattle.std.proofs.Common.{◌≡◌, inl, inr, ℕ, zero, suc, ◌+◌, ◌<
 use Rattle.std.proofs.lemmas.List.{map-append}
 use Rattle.std.proofs.lemmas.Simd.{map-map}
 use Rattle.std.specs.List.{flat_map, range_with_len}
-use Rattle.h5_bytes.specs.Bytes.{undefined}
+use Rattle.h5_bytes.specs.Bytes.{undefined_address}
 use Rattle.h5_bytes.specs.Tables.{table}
 use Rattle.h5_model.specs.Format.Rows.{Reading, IsRow, AreRows, next_row, row_below, nodes}
 use Rattle.h5_model.specs.Format.Nodes.{Kind, node_at, node_of, node_bytes, entries_in, key_place, child_in}
 use Rattle.h5_laws.proofs.Lists.{In, in_left, in_right, in_either, in_flat, in_map, in_table}
 
-pub row_is : (V : Reading) (level : ℕ) (row : List ℕ) → AreRows V level row → IsRow V level undefined row
+pub row_is : (V : Reading) (level : ℕ) (row : List ℕ) → AreRows V level row → IsRow V level undefined_address row
 row_is V zero row are = are
 row_is V (suc level) row are = are.0
 

@@ -17,7 +17,7 @@ use Rattle.h5_model.specs.Format.Nodes.{group_kind, node_bytes, key_place, child
 use Rattle.h5_model.specs.Format.Superblock.{internal_k}
 use Rattle.h5_model.specs.Tree.Objects.{Tree}
 use Rattle.h5_model.specs.Format.Reads.{Placed, Holds}
-use Rattle.h5_model.specs.Format.Reached.{Named, named, Role, ObjectHeader, Continuation, GroupNode, SymbolNode, HeapHeader, Segment, Data, ChunkNode, Chunk, Reached, by_superblock, by_block, Names, FittingAt, FromMessage, FromHeader, FromNode, FromSymbols, FromLayout, AllMessages, Shape, shape_kind, Met, size_at, entry_in}
+use Rattle.h5_model.specs.Format.Reached.{Named, naming_of, Role, ObjectHeader, Continuation, GroupNode, SymbolNode, HeapHeader, Segment, Data, ChunkNode, Chunk, Reached, by_superblock, by_block, Names, FittingAt, FromMessage, FromHeader, FromNode, FromSymbols, FromLayout, AllMessages, Shape, shape_kind, Met, size_at, entry_in}
 use Rattle.h5_model.proofs.OneTree.{level_is}
 use Rattle.h5_laws.proofs.Lists.{In}
 use Rattle.h5_laws.proofs.Heads.{Headed, headed, standing, two_numbers, names_block}
@@ -150,7 +150,7 @@ module _ (image : List ℕ) (table : FinMap nat_cmp ℕ) (tree : Tree) (placed :
       let role = below_role level (SymbolNode root heap) (GroupNode root heap) in
       let place = at + key_place kind i + 8 in
       let child = child_in kind (node_bytes image kind at) i in
-      subst (λ (w : Named). Located image table tree placed w w.role) (sym (is ∙ ap (λ (r : Role). named place r child depth) role)) (record {
+      subst (λ (w : Named). Located image table tree placed w w.role) (sym (is ∙ ap (λ (r : Role). naming_of place r child depth) role)) (record {
         g = k.g;
         down = suc k.down;
         levels = omega (arith, k.levels);
@@ -177,7 +177,7 @@ module _ (image : List ℕ) (table : FinMap nat_cmp ℕ) (tree : Tree) (placed :
       let role = below_role level (Chunk shape.bytes) (ChunkNode shape root) in
       let place = at + key_place kind i + kind.key_length in
       let child = child_in kind (node_bytes image kind at) i in
-      subst (λ (w : Named). Located image table tree placed w w.role) (sym (is ∙ ap (λ (r : Role). named place r child depth) role)) (record {
+      subst (λ (w : Named). Located image table tree placed w w.role) (sym (is ∙ ap (λ (r : Role). naming_of place r child depth) role)) (record {
         c = k.c;
         down = suc k.down;
         levels = omega (arith, k.levels);

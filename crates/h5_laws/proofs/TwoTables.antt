@@ -11,7 +11,7 @@ use Rattle.h5_model.specs.Format.Messages.{Message}
 use Rattle.h5_model.specs.Format.Symbols.{Target, Header, Text}
 use Rattle.h5_model.specs.Format.Reads.{Placed, IsSame, HasAttributes, HasContent, HasObject, Holds, ReadsAs, is_kept, kept_of}
 use Rattle.h5_model.specs.Tree.Objects.{Tree, Object, Content, Group, Array, Link, ToObject, Soft}
-use Rattle.h5_model.specs.Tree.Renumbered.{renumbered, IsRenumbered}
+use Rattle.h5_model.specs.Tree.Renumbered.{renumbered_link, IsRenumbered}
 use Rattle.h5_model.proofs.RowLaws.{same_number, equal_number}
 use Rattle.h5_model.proofs.OneReading.{one_messages, one_group, one_dataset, one_attributes, no_table}
 use Rattle.h5_laws.proofs.Lists.{In}
@@ -84,7 +84,7 @@ module _ (image : List ℕ) (table table' : FinMap nat_cmp ℕ) (tree tree' : Tr
 
   -- ---- one header
 
-  same_link : (l m : List ℕ × Link) (f : List ℕ × Target) → IsSame table l f → IsSame table' m f → m ≡ (l.0, renumbered there l.1)
+  same_link : (l m : List ℕ × Link) (f : List ℕ × Target) → IsSame table l f → IsSame table' m f → m ≡ (l.0, renumbered_link there l.1)
   same_link (name, ToObject a) (name', ToObject b) (name'', Header h) left right =
       ap₂ (λ (x : List ℕ) (n : ℕ). (x, ToObject n)) (right.0 ∙ sym left.0) (sym (numbered_by image table' tree' placed' reads' table a b h left.1 right.1))
   same_link (name, ToObject a) (name', m) (name'', Text text) left right = absurd left
@@ -95,7 +95,7 @@ module _ (image : List ℕ) (table table' : FinMap nat_cmp ℕ) (tree tree' : Tr
       ap₂ (λ (x y : List ℕ). (x, Soft y)) (right.0 ∙ sym left.0) (right.1 ∙ sym left.1)
 
   same_links : (ls ms : List (List ℕ × Link)) (found : List (List ℕ × Target)) → AllZip (IsSame table) ls found → AllZip (IsSame table') ms found
-      → ms ≡ map (λ e. (e.0, renumbered there e.1)) ls
+      → ms ≡ map (λ e. (e.0, renumbered_link there e.1)) ls
   same_links [] [] found left right = refl
   same_links [] (m ∷ ms) [] left right = absurd right
   same_links [] (m ∷ ms) (f ∷ found) left right = absurd left

@@ -9,7 +9,7 @@ use Rattle.std.specs.Option.{option_map_or, option_and_then}
 use Rattle.h5_model.specs.Tree.Objects.{Tree, Link, ToObject, Soft, Links, Object, Group, Array, Dataset, dataset_in, dataset_of, with_object, only_reached, is_reached}
 use Rattle.h5_model.specs.Tree.Paths.{parent_at, object_at}
 use Rattle.h5_model.specs.Views.Selection.{Slab, axes_of}
-use Rattle.h5_model.specs.Edits.Applied.{State, state_after, applied, linked, unlinked, linked_to, with_links, with_dataset, with_attributes, with_object_at, new_object, new_dataset, attribute_from, written, resized}
+use Rattle.h5_model.specs.Edits.Applied.{State, state_after, with_edit, with_link_at, without_link_at, with_hard_link, with_links, with_dataset, with_attributes, with_object_at, new_object, new_dataset, attribute_from, with_selection, with_sizes}
 use Rattle.h5_model.specs.declared.edits.Edit.{Edit}
 use Rattle.h5_model.specs.declared.edits.Edit.TheVariants.{CreateGroup, CreateDataset, HardLink, SoftLink, Unlink, SetAttr, RemoveAttr, Write, Resize}
 use Rattle.h5_model.proofs.StateLaws.{passes, passes-with_object, same_number}
@@ -29,35 +29,35 @@ size-with_links size change o = elim (o.content) as (λ content. has_other_size 
   | Array d ↦ refl
 ]
 
-size-written : (size : ℕ) (slab : Slab) (values : List ℤ) (o : Object) → has_other_size size (with_dataset (written slab values) o) ≡ has_other_size size o
-size-written size slab values o = elim (o.content) as (λ content. has_other_size size (with_dataset (written slab values) (record o { content = content })) ≡ has_other_size size (record o { content = content })) [
+size-written : (size : ℕ) (slab : Slab) (values : List ℤ) (o : Object) → has_other_size size (with_dataset (with_selection slab values) o) ≡ has_other_size size o
+size-written size slab values o = elim (o.content) as (λ content. has_other_size size (with_dataset (with_selection slab values) (record o { content = content })) ≡ has_other_size size (record o { content = content })) [
   | Group links ↦ refl
   | Array d ↦ refl
 ]
 
-size-resized : (size : ℕ) (dims : List ℕ) (o : Object) → has_other_size size (with_dataset (resized dims) o) ≡ has_other_size size o
-size-resized size dims o = elim (o.content) as (λ content. has_other_size size (with_dataset (resized dims) (record o { content = content })) ≡ has_other_size size (record o { content = content })) [
+size-resized : (size : ℕ) (dims : List ℕ) (o : Object) → has_other_size size (with_dataset (with_sizes dims) o) ≡ has_other_size size o
+size-resized size dims o = elim (o.content) as (λ content. has_other_size size (with_dataset (with_sizes dims) (record o { content = content })) ≡ has_other_size size (record o { content = content })) [
   | Group links ↦ refl
   | Array d ↦ refl
 ]
 
-sizes-linked : (tree : Tree) (path : List ℕ) (link : Link) → SameSizes tree (linked tree path link)
+sizes-linked : (tree : Tree) (path : List ℕ) (link : Link) → SameSizes tree (with_link_at tree path link)
 unfolding SameSizes
 sizes-linked tree path link size m = elim (parent_at tree path) as (λ p. passes (has_other_size size) (option_map_or (λ p. with_object tree p.0 (with_links (λ links. insert links p.1 link))) p tree) m ≡ passes (has_other_size size) tree m) [
   | None ↦ refl
   | Some p ↦ passes-with_object (has_other_size size) (with_links (λ links. insert links p.1 link)) tree p.0 m (λ o there. size-with_links size (λ links. insert links p.1 link) o)
 ]
 
-sizes-unlinked : (tree : Tree) (path : List ℕ) → SameSizes tree (unlinked tree path)
+sizes-unlinked : (tree : Tree) (path : List ℕ) → SameSizes tree (without_link_at tree path)
 unfolding SameSizes
 sizes-unlinked tree path size m = elim (parent_at tree path) as (λ p. passes (has_other_size size) (option_map_or (λ p. with_object tree p.0 (with_links (λ links. remove links p.1))) p tree) m ≡ passes (has_other_size size) tree m) [
   | None ↦ refl
   | Some p ↦ passes-with_object (has_other_size size) (with_links (λ links. remove links p.1)) tree p.0 m (λ o there. size-with_links size (λ links. remove links p.1) o)
 ]
 
-sizes-linked_to : (tree : Tree) (target path : List ℕ) → SameSizes tree (linked_to tree target path)
+sizes-linked_to : (tree : Tree) (target path : List ℕ) → SameSizes tree (with_hard_link tree target path)
 unfolding SameSizes
-sizes-linked_to tree target path size m = elim (object_at tree target) as (λ o. passes (has_other_size size) (option_map_or (λ number. linked tree path (ToObject number)) o tree) m ≡ passes (has_other_size size) tree m) [
+sizes-linked_to tree target path size m = elim (object_at tree target) as (λ o. passes (has_other_size size) (option_map_or (λ number. with_link_at tree path (ToObject number)) o tree) m ≡ passes (has_other_size size) tree m) [
   | None ↦ refl
   | Some number ↦ sizes-linked tree path (ToObject number) size m
 ]
@@ -87,18 +87,18 @@ size_reached tree size m before =
 -- an object whose number was given out has no other size after an edit
 size_kept : (s : State) (edit : Edit) (size m : ℕ) → m < s.next → passes (has_other_size size) s.tree m ≡ false
     → passes (has_other_size size) (state_after s edit).tree m ≡ false
-unfolding applied SameSizes
-size_kept s (CreateGroup path) size m low before = size_beside (linked s.tree path (ToObject s.next)) s.next (new_object (Group empty)) size m low (sizes-linked s.tree path (ToObject s.next) size m ∙ before)
-size_kept s (CreateDataset path spec) size m low before = size_beside (linked s.tree path (ToObject s.next)) s.next (new_object (Array (new_dataset spec))) size m low (sizes-linked s.tree path (ToObject s.next) size m ∙ before)
+unfolding with_edit SameSizes
+size_kept s (CreateGroup path) size m low before = size_beside (with_link_at s.tree path (ToObject s.next)) s.next (new_object (Group empty)) size m low (sizes-linked s.tree path (ToObject s.next) size m ∙ before)
+size_kept s (CreateDataset path spec) size m low before = size_beside (with_link_at s.tree path (ToObject s.next)) s.next (new_object (Array (new_dataset spec))) size m low (sizes-linked s.tree path (ToObject s.next) size m ∙ before)
 size_kept s (HardLink target path) size m low before = sizes-linked_to s.tree target path size m ∙ before
 size_kept s (SoftLink text path) size m low before = sizes-linked s.tree path (Soft text) size m ∙ before
-size_kept s (Unlink path) size m low before = size_reached (unlinked s.tree path) size m (sizes-unlinked s.tree path size m ∙ before)
+size_kept s (Unlink path) size m low before = size_reached (without_link_at s.tree path) size m (sizes-unlinked s.tree path size m ∙ before)
 size_kept s (SetAttr path attr) size m low before = sizes-with_object_at (with_attributes (λ a. insert a attr.name (attribute_from attr))) (λ r o. refl) s.tree path size m ∙ before
 size_kept s (RemoveAttr path name) size m low before = sizes-with_object_at (with_attributes (λ a. remove a name)) (λ r o. refl) s.tree path size m ∙ before
 size_kept s (Write path hyper values) size m low before =
-    sizes-with_object_at (with_dataset (written (axes_of hyper) values)) (λ r o. size-written r (axes_of hyper) values o) s.tree path size m ∙ before
+    sizes-with_object_at (with_dataset (with_selection (axes_of hyper) values)) (λ r o. size-written r (axes_of hyper) values o) s.tree path size m ∙ before
 size_kept s (Resize path dims) size m low before =
-    sizes-with_object_at (with_dataset (resized dims)) (λ r o. size-resized r dims o) s.tree path size m ∙ before
+    sizes-with_object_at (with_dataset (with_sizes dims)) (λ r o. size-resized r dims o) s.tree path size m ∙ before
 
 -- ---- by the datasets
 

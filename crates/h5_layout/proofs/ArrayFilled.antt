@@ -16,6 +16,7 @@ use Rattle.h5_model.specs.Format.Chunks.{Chunks}
 use Rattle.h5_model.specs.Format.Fixed.{Fixed, IsFixed, fits}
 use Rattle.h5_model.specs.Format.Layout.{InBlock, InChunks, Layout}
 use Rattle.h5_model.specs.Format.Reached.{Shape}
+use Rattle.h5_model.specs.Format.Described.{Described}
 use Rattle.h5_model.specs.Tree.Grid.{corner_of, inner_of}
 use Rattle.h5_model.specs.Tree.Places.{cells, index_of, place_of}
 use Rattle.h5_model.specs.Tree.Sound.{AreOf}
@@ -26,7 +27,6 @@ use Rattle.h5_space.specs.Space.{Space}
 use Rattle.h5_laws.proofs.Lists.{In, contains_in, in_contains}
 use Rattle.h5_chunks.specs.Told.{chunks_told}
 use Rattle.h5_layout.specs.Data.{chunk_shape, stored_chunks}
-use Rattle.h5_layout.specs.Described.{Described}
 use Rattle.h5_layout.specs.Filled.{HasFilledChunks, cells_of_fill}
 use Rattle.h5_layout.specs.Lacking.{lacks_cells}
 use Rattle.h5_layout.specs.NewChunks.{AreMissing}

@@ -7,10 +7,12 @@ use Rattle.h5_bytes.specs.Blocks.{block, cover, holds, Inside, Keeps}
 use Rattle.h5_bytes.specs.declared.Block.{Block}
 use Rattle.h5_bytes.proofs.BlockLaws.{cover-append}
 use Rattle.h5_bytes.proofs.PartLaws.{length-part, length-with_part, part-with_part_same, with_part-with_part}
+use Rattle.h5_model.specs.Format.MessageTypes.{data_layout_kind}
 use Rattle.h5_model.specs.Format.Layout.{Layout, layout_of}
 use Rattle.h5_model.specs.Format.Messages.{Message, count_of, first_body, reference_count}
-use Rattle.h5_model.specs.Format.Reads.{IsChunkSmall, is_attribute_message, is_kept, kept_of}
+use Rattle.h5_model.specs.Format.Reads.{is_attribute_message, is_kept, kept_of}
 use Rattle.h5_model.specs.Format.Superblock.{k_values}
+use Rattle.h5_model.specs.Format.Described.{IsChunkSmall, Described, HasArray}
 use Rattle.h5_model.proofs.KLaws.{same_chunk, same_length}
 use Rattle.h5_space.specs.Moves.{Moves, Spends}
 use Rattle.h5_space.specs.Space.{Space}
@@ -28,7 +30,6 @@ use Rattle.h5_header.proofs.KeptLaws.{listed-same}
 use Rattle.h5_chunks.proofs.SuperblockStays.{k_stays, superblock_of}
 use Rattle.h5_layout.specs.ArrayEdits.{IsArrayApart, IsArrayMoved, array_blocks, described_in}
 use Rattle.h5_layout.specs.Data.{AreDataRead, data_blocks}
-use Rattle.h5_layout.specs.Described.{Described, HasArray}
 use Rattle.h5_layout.specs.LayoutEdits.{IsLayoutWritten}
 use Rattle.h5_layout.specs.Told.{array_told}
 use Rattle.h5_layout.proofs.Relaid.{relaid}
@@ -215,14 +216,14 @@ module _ (old mid new : Space) (m : Listed) (was : IsArrayApart old m)
   messages : HasNewBody 8 was_said said (part x.at x.size new.bytes)
   messages = subst (λ (ms : List Message). HasNewBody 8 ms said (part x.at x.size new.bytes)) (said_still old mid m was [] bs none taken) written.messages
 
-  body_was : first_body 8 was_said ≡ Some (part x.at x.size old.bytes)
+  body_was : first_body data_layout_kind was_said ≡ Some (part x.at x.size old.bytes)
   body_was = first_body-in old.bytes 8 m.list ∙ ap (option_map (λ (y : Placed). part y.at y.size old.bytes)) wrote.found
 
   body_still : part x.at x.size mid.bytes ≡ part x.at x.size old.bytes
   body_still =
-      let now : first_body 8 (messages_in mid.bytes m.list) ≡ Some (part x.at x.size mid.bytes)
+      let now : first_body data_layout_kind (messages_in mid.bytes m.list) ≡ Some (part x.at x.size mid.bytes)
       = first_body-in mid.bytes 8 m.list ∙ ap (option_map (λ (y : Placed). part y.at y.size mid.bytes)) wrote.found in
-      same_body (part x.at x.size mid.bytes) (part x.at x.size old.bytes) (sym now ∙ ap (first_body 8) (said_still old mid m was [] bs none taken) ∙ body_was) where
+      same_body (part x.at x.size mid.bytes) (part x.at x.size old.bytes) (sym now ∙ ap (first_body data_layout_kind) (said_still old mid m was [] bs none taken) ∙ body_was) where
         same_body : (p q : List ℕ) → Some p ≡ Some q → p ≡ q
         same_body p q same = cc
 

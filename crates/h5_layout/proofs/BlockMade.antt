@@ -13,7 +13,7 @@ use Rattle.h5_model.specs.Edits.Refusal.{is_chunked}
 use Rattle.h5_model.specs.Format.Cells.{cells_of}
 use Rattle.h5_model.specs.Format.Fixed.{IsFixed, fits}
 use Rattle.h5_model.specs.Format.Layout.{InBlock, Layout, layout_of}
-use Rattle.h5_model.specs.Format.Reads.{storage_of}
+use Rattle.h5_model.specs.Format.Described.{storage_of, Described}
 use Rattle.h5_model.specs.Tree.Places.{cells}
 use Rattle.h5_model.specs.Views.Selection.{Slab, selection_of}
 use Rattle.h5_space.specs.Lending.{with_bytes_at}
@@ -23,7 +23,6 @@ use Rattle.h5_space.proofs.MovesLaws.{moves_take, moves_then, moves_write}
 use Rattle.h5_header.specs.Listed.{Listed}
 use Rattle.h5_layout.specs.ArrayEdits.{IsArrayApart, IsArrayMoved, described_in}
 use Rattle.h5_layout.specs.Data.{AreDataRead, data_blocks, dataset_told}
-use Rattle.h5_layout.specs.Described.{Described}
 use Rattle.h5_layout.specs.Filled.{cells_of_fill}
 use Rattle.h5_layout.specs.Lacking.{lacks_cells, stored_all}
 use Rattle.h5_layout.specs.LayoutEdits.{IsLayoutWritten}

@@ -4,6 +4,7 @@ use Rattle.std.specs.Prelude.{option_and_then, nat_lt, is_none}
 use Rattle.std.specs.Option.{option_or}
 use Rattle.std.proofs.lemmas.Bool.Decides.{nat_tests}
 use Rattle.std.proofs.lemmas.Option.{same_Some}
+use Rattle.h5_model.specs.Format.MessageTypes.{data_layout_kind, fill_value_kind, old_fill_value_kind}
 use Rattle.h5_model.specs.Format.Messages.{Message, first_body}
 use Rattle.h5_model.specs.Format.Fixed.{Fixed}
 use Rattle.h5_model.specs.Tree.Places.{cells, extent_cells}
@@ -12,12 +13,11 @@ use Rattle.h5_model.specs.Format.Datatype.{fixed_of}
 use Rattle.h5_model.specs.Format.Fill.{fill_value, old_fill_value}
 use Rattle.h5_model.specs.Format.Layout.{Layout, InMessage, InBlock, InChunks, layout_of}
 use Rattle.h5_model.specs.Format.Reached.{extent_among, type_among, layout_among}
-use Rattle.h5_model.specs.Format.Reads.{IsFill, IsChunkSmall}
+use Rattle.h5_model.specs.Format.Described.{IsFill, IsChunkSmall, Described, HasArray, HasFill}
 use Rattle.h5_model.specs.Faults.HeaderFaults.{SomeBody, IsBadFill, IsLarge, ListBreach}
 use Rattle.h5_model.specs.declared.open_fault.Cause.{Cause}
 use Rattle.h5_model.specs.declared.open_fault.Cause.TheVariants.{DataspaceForm, DatatypeForm, FillForm, LayoutForm, TooLarge}
 use Rattle.h5_header.specs.Kinds.{IsOfDataset}
-use Rattle.h5_layout.specs.Described.{Described, HasArray, HasFill}
 use Rattle.h5_layout.specs.Judged.{space_breach, type_breach, is_bad, fill_breach, is_chunk_large, layout_breach, breach_in}
 use Rattle.h5_header.proofs.FoundLaws.{found, among_some, among_none}
 
@@ -36,8 +36,8 @@ small_chunk t (InChunks sizes root) h = grind (arith, nat_tests)
 pub no_breach : (ms : List Message) (a : Described) → HasArray ms a → breach_in ms ≡ None
 no_breach ms a h =
     let small : nat_lt (2 ^ 40) (extent_cells a.sizes) ≡ false = let few = h.small in grind (arith, nat_tests) in
-    let old = sound_fill (old_fill_value a.fixed) (first_body 4 ms) (h.filled).old_fill (h.filled).old_filled in
-    let new = sound_fill (fill_value a.fixed) (first_body 5 ms) (h.filled).new_fill (h.filled).new_filled in
+    let old = sound_fill (old_fill_value a.fixed) (first_body old_fill_value_kind ms) (h.filled).old_fill (h.filled).old_filled in
+    let new = sound_fill (fill_value a.fixed) (first_body fill_value_kind ms) (h.filled).new_fill (h.filled).new_filled in
     let chunk = small_chunk a.fixed a.layout h.chunk_small in
     rw (h.space, small, h.type, old, new, h.laid_out, chunk) refl
 
@@ -76,17 +76,17 @@ module _ (image : List ℕ) (header : ℕ) (ms : List Message) (of : IsOfDataset
     | Some v ↦ λ some is. absurd (cc)
   ] refl bad
 
-  bad_fill : (t : Fixed) (old new : Bool) → is_bad (old_fill_value t) (first_body 4 ms) ≡ old → is_bad (fill_value t) (first_body 5 ms) ≡ new → (old || new) ≡ true → IsBadFill ms t
-  bad_fill t true new p q h = inl (bad_body 4 (old_fill_value t) (first_body 4 ms) refl p)
-  bad_fill t false true p q h = inr (bad_body 5 (fill_value t) (first_body 5 ms) refl q)
+  bad_fill : (t : Fixed) (old new : Bool) → is_bad (old_fill_value t) (first_body old_fill_value_kind ms) ≡ old → is_bad (fill_value t) (first_body fill_value_kind ms) ≡ new → (old || new) ≡ true → IsBadFill ms t
+  bad_fill t true new p q h = inl (bad_body 4 (old_fill_value t) (first_body old_fill_value_kind ms) refl p)
+  bad_fill t false true p q h = inr (bad_body 5 (fill_value t) (first_body fill_value_kind ms) refl q)
   bad_fill t false false p q h = absurd (cc)
 
   of_fill : fill_breach ms (type_among ms) ≡ Some cause → ListBreach image header ms cause
   of_fill h = elim (type_among ms) as (λ o. type_among ms ≡ o → fill_breach ms o ≡ Some cause → ListBreach image header ms cause) [
     | None ↦ λ e is. absurd (cc)
     | Some t ↦ λ e is.
-        let old : Bool = is_bad (old_fill_value t) (first_body 4 ms) in
-        let new : Bool = is_bad (fill_value t) (first_body 5 ms) in
+        let old : Bool = is_bad (old_fill_value t) (first_body old_fill_value_kind ms) in
+        let new : Bool = is_bad (fill_value t) (first_body fill_value_kind ms) in
         elim (old || new) as (λ b. (old || new) ≡ b → cond b (Some FillForm) None ≡ Some cause → ListBreach image header ms cause) [
           | true ↦ λ bad same. is_cause FillForm (t, e, bad_fill t old new refl refl bad) same
           | false ↦ λ bad same. absurd (cc)
@@ -100,7 +100,7 @@ module _ (image : List ℕ) (header : ℕ) (ms : List Message) (of : IsOfDataset
       let above : 2 ^ 30 < cells sizes * t.size = grind (arith, nat_tests) in
       inr (inr (t, sizes, root, e, l, above))
 
-  among_layout : (e : Extent) (t : Fixed) → extent_among ms ≡ Some e → type_among ms ≡ Some t → layout_among ms ≡ option_and_then (layout_of e.sizes t.size) (first_body 8 ms)
+  among_layout : (e : Extent) (t : Fixed) → extent_among ms ≡ Some e → type_among ms ≡ Some t → layout_among ms ≡ option_and_then (layout_of e.sizes t.size) (first_body data_layout_kind ms)
   among_layout e t p q = rw (p, q) refl
 
   of_layout : (e : Extent) → extent_among ms ≡ Some e → layout_breach (type_among ms) (layout_among ms) ≡ Some cause → ListBreach image header ms cause
@@ -139,9 +139,9 @@ module _ (image : List ℕ) (header : ℕ) (ms : List Message) (of : IsOfDataset
 
 -- the layout breaks the first rule where sizes, type and fill values break none
 pub late_breach : (ms : List Message) (e : Extent) (t : Fixed) (fill : ℤ) (cause : Cause) → extent_among ms ≡ Some e → extent_cells e.sizes ≤ 2 ^ 40 → type_among ms ≡ Some t → HasFill ms t fill
-    → layout_breach (Some t) (option_and_then (layout_of e.sizes t.size) (first_body 8 ms)) ≡ Some cause → breach_in ms ≡ Some cause
+    → layout_breach (Some t) (option_and_then (layout_of e.sizes t.size) (first_body data_layout_kind ms)) ≡ Some cause → breach_in ms ≡ Some cause
 late_breach ms e t fill cause space small type filled h =
     let few : nat_lt (2 ^ 40) (extent_cells e.sizes) ≡ false = grind (arith, nat_tests) in
-    let old = sound_fill (old_fill_value t) (first_body 4 ms) filled.old_fill filled.old_filled in
-    let new = sound_fill (fill_value t) (first_body 5 ms) filled.new_fill filled.new_filled in
+    let old = sound_fill (old_fill_value t) (first_body old_fill_value_kind ms) filled.old_fill filled.old_filled in
+    let new = sound_fill (fill_value t) (first_body fill_value_kind ms) filled.new_fill filled.new_filled in
     rw (space, few, type, old, new) h

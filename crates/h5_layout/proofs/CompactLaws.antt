@@ -5,6 +5,7 @@ use Rattle.std.specs.Borrow.{Bor}
 use Rattle.std.specs.Option.{option_copied, IsSome}
 use Rattle.std.specs.List.{find}
 use Rattle.std.proofs.lemmas.Option.{same_Some}
+use Rattle.h5_model.specs.Format.MessageTypes.{data_layout_kind}
 use Rattle.h5_model.specs.Format.Messages.{count_of, first_body}
 use Rattle.h5_header.specs.Listed.{messages_in, IsWithin}
 use Rattle.h5_header.specs.declared.message.Message.{Message as Placed}
@@ -14,9 +15,9 @@ use Rattle.h5_header.proofs.FoundLaws.{first_body-in, none_stands, within_at}
 
 -- where there is one message, it is found
 pub message_found : (image : List ℕ) (list : List Placed) (r : Option (Bor Placed)) → option_copied r ≡ find (λ (m : Placed). m.kind == 8) list
-    → count_of 8 (messages_in image list) ≡ 1 → IsSome r
+    → count_of data_layout_kind (messages_in image list) ≡ 1 → IsSome r
 message_found image list None is once =
-    let none : first_body 8 (messages_in image list) ≡ None = first_body-in image 8 list ∙ ap (option_map (λ (m : Placed). _)) (sym is) in
+    let none : first_body data_layout_kind (messages_in image list) ≡ None = first_body-in image 8 list ∙ ap (option_map (λ (m : Placed). _)) (sym is) in
     absurd (omega (arith, none_stands 8 (messages_in image list) none, once))
 message_found image list (Some b) is once = refl
 

@@ -11,6 +11,7 @@ use Rattle.h5_bytes.specs.declared.Block.{Block}
 use Rattle.h5_bytes.proofs.FieldLaws.{number_at-same}
 use Rattle.h5_bytes.proofs.PartLaws.{length-part, length-with_part, part-part, part-with_part_same, part-with_part_other, with_part-with_part}
 use Rattle.h5_bytes.proofs.TableLaws.{table_same}
+use Rattle.h5_model.specs.Format.MessageTypes.{data_layout_kind}
 use Rattle.h5_model.specs.Edits.Applied.{with_cells}
 use Rattle.h5_model.specs.Format.Cells.{value_in, cells_of}
 use Rattle.h5_model.specs.Format.Chunks.{Chunks}
@@ -18,6 +19,7 @@ use Rattle.h5_model.specs.Format.Fixed.{Fixed, IsFixed, fits, bytes_of}
 use Rattle.h5_model.specs.Format.Layout.{Layout, InMessage, InBlock, InChunks, layout_of, compact_layout, contiguous_layout, chunked_layout}
 use Rattle.h5_model.specs.Format.Messages.{Message, first_body}
 use Rattle.h5_model.specs.Format.Plain.{cells_bytes}
+use Rattle.h5_model.specs.Format.Described.{Described, HasArray}
 use Rattle.h5_model.specs.Tree.Places.{cells, place_of, index_of}
 use Rattle.h5_model.proofs.FixedLaws.{length-bytes_of}
 use Rattle.h5_model.proofs.PlaceLaws.{place-index}
@@ -31,7 +33,6 @@ use Rattle.h5_laws.proofs.InPlace.CellWrites.{cells_in, cell_written}
 use Rattle.h5_msg.proofs.WordLaws.{and_left, and_right}
 use Rattle.h5_layout.specs.Compact.{compact_at}
 use Rattle.h5_layout.specs.Data.{dataset_told}
-use Rattle.h5_layout.specs.Described.{Described, HasArray}
 use Rattle.h5_layout.proofs.Relaid.{relaid}
 use Rattle.h5_layout.proofs.WriteLaws.{with_part-none, with_part-append}
 
@@ -152,7 +153,7 @@ module _ (old : List ℕ) (list : List Placed) (within : IsWithin (length old) l
 
   form : IsCompact a.sizes a.fixed.size (part x.at x.size old) bytes
   form =
-      let body : first_body 8 (messages_in old list) ≡ Some (part x.at x.size old) = first_body-in old 8 list ∙ ap (option_map (λ (m : Placed). part m.at m.size old)) found in
+      let body : first_body data_layout_kind (messages_in old list) ≡ Some (part x.at x.size old) = first_body-in old 8 list ∙ ap (option_map (λ (m : Placed). part m.at m.size old)) found in
       is_compact a.sizes a.fixed.size (part x.at x.size old) bytes
       (sym (ap (option_and_then (layout_of a.sizes a.fixed.size)) body) ∙ has.laid_out ∙ ap (λ (l : Layout). Some l) laid)
 

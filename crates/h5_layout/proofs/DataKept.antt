@@ -9,10 +9,10 @@ use Rattle.h5_model.specs.Format.Fixed.{Fixed}
 use Rattle.h5_model.specs.Format.Layout.{Layout, InMessage, InBlock, InChunks}
 use Rattle.h5_model.specs.Format.Reads.{HasData}
 use Rattle.h5_model.specs.Format.Superblock.{chunk_k}
+use Rattle.h5_model.specs.Format.Described.{Described}
 use Rattle.h5_model.proofs.Frames.{cell-same}
 use Rattle.h5_chunks.proofs.ToldLaws.{chunks_told-same, chunk_blocks_told-same, chunks_read-same}
 use Rattle.h5_layout.specs.Data.{AreDataRead, chunk_shape, data_blocks, stored_chunks}
-use Rattle.h5_layout.specs.Described.{Described}
 use Rattle.h5_layout.specs.Trimmed.{grid_cell}
 
 module _ (image : List ℕ) (t : Fixed) where

@@ -15,11 +15,11 @@ use Rattle.h5_bytes.proofs.PartLaws.{length-part}
 use Rattle.h5_model.specs.Format.Cells.{cell_of, value_in}
 use Rattle.h5_model.specs.Format.Fixed.{Fixed, IsFixed, fits}
 use Rattle.h5_model.specs.Format.Layout.{Layout, InMessage, InBlock, InChunks}
+use Rattle.h5_model.specs.Format.Described.{Described}
 use Rattle.h5_model.specs.Tree.Places.{cells, index_of}
 use Rattle.h5_model.proofs.PlaceLaws.{place-index}
 use Rattle.h5_shape.proofs.Products.{cells_le}
 use Rattle.h5_layout.specs.Data.{AreDataRead, IsSoundDataset, dataset_told, stored_chunks}
-use Rattle.h5_layout.specs.Described.{Described}
 use Rattle.h5_layout.specs.Stored.{IsArray, has_room}
 use Rattle.h5_layout.proofs.CellLaws.{map_ranges}
 

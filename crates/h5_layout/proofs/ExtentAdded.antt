@@ -6,6 +6,7 @@ use Rattle.std.specs.List.{AllByRecursion, filter}
 use Rattle.std.proofs.lemmas.List.{length-append}
 use Rattle.std.proofs.lemmas.List.Elements.{filter-append}
 use Rattle.h5_bytes.specs.Bytes.{part}
+use Rattle.h5_model.specs.Format.MessageTypes.{dataspace_kind, datatype_kind, symbol_table_kind}
 use Rattle.h5_model.specs.Format.Datatype.{fixed_of}
 use Rattle.h5_model.specs.Format.Extent.{Extent, extent_of}
 use Rattle.h5_model.specs.Format.Messages.{Message, count_of, first_body}
@@ -89,10 +90,10 @@ module _ (front : List Message) (x nil : Message) (back : List Message) (was : x
   blank_body : (k : ℕ) → (0 == k) ≡ false → (1 == k) ≡ false → first_body k blank ≡ first_body k before
   blank_body k none space = first_filtered k blank ∙ ap first_of (blank_others (λ (n : ℕ). n == k) none space) ∙ sym (first_filtered k before)
 
-  pub blank_type : first_body 3 blank ≡ first_body 3 before
+  pub blank_type : first_body datatype_kind blank ≡ first_body datatype_kind before
   blank_type = blank_body 3 refl refl
 
-  none_left : count_of 1 before ≡ 1 → count_of 1 blank ≡ 0
+  none_left : count_of dataspace_kind before ≡ 1 → count_of dataspace_kind blank ≡ 0
   none_left once =
       let others = alone 1 front x back was once in
       let none : of_type 1 blank ≡ []
@@ -102,10 +103,10 @@ module _ (front : List Message) (x nil : Message) (back : List Message) (was : x
   -- ---- and another is put in
 
   module _ (ms' : List Message) (body : List ℕ) (adds : AddsMessage blank ms' 1 body) (is : IsOfDataset before) where
-    one_space : count_of 1 ms' ≡ 1
+    one_space : count_of dataspace_kind ms' ≡ 1
     one_space = omega (arith, adds_count 1 blank ms' 1 body refl refl adds, none_left (is.once).0)
 
-    space_body : first_body 1 ms' ≡ Some body
+    space_body : first_body dataspace_kind ms' ≡ Some body
     space_body =
         let among = adds_among (λ (k : ℕ). k == 1) blank ms' 1 body refl refl refl refl adds in
         let none : among.front ++ among.back ≡ [] = sym among.before ∙ none_of 1 blank (none_left (is.once).0) in
@@ -114,13 +115,13 @@ module _ (front : List Message) (x nil : Message) (back : List Message) (was : x
           only [] bs at none = refl
           only (f ∷ fs) bs at none = absurd (cc)
 
-    types : count_of 3 ms' ≡ count_of 3 before
+    types : count_of datatype_kind ms' ≡ count_of datatype_kind before
     types = omega (arith, adds_count 3 blank ms' 1 body refl refl adds, blank_count 3 refl refl)
 
-    tables : count_of 17 ms' ≡ count_of 17 before
+    tables : count_of symbol_table_kind ms' ≡ count_of symbol_table_kind before
     tables = omega (arith, adds_count 17 blank ms' 1 body refl refl adds, blank_count 17 refl refl)
 
-    moved_said : IsPutInBlock blank ms' 1 body → option_and_then fixed_of (first_body 3 ms') ≡ option_and_then fixed_of (first_body 3 blank)
+    moved_said : IsPutInBlock blank ms' 1 body → option_and_then fixed_of (first_body datatype_kind ms') ≡ option_and_then fixed_of (first_body datatype_kind blank)
     moved_said made = elim made.may_move [
       | inl table ↦
           let there : of_type 17 blank ≡ of_type 17 made.front ++ made.moved ∷ of_type 17 (made.middle ++ made.back)
@@ -131,22 +132,22 @@ module _ (front : List Message) (x nil : Message) (back : List Message) (was : x
       | inr datatype ↦
           let put : Message = record { kind = 1; at = made.place + 32; body = body } in
           let moved : Message = record { kind = (made.moved).kind; at = made.place + 8; body = part 0 16 (made.moved).body } in
-          let one : count_of 3 before ≡ 1 = ((is.once).1).0 in
+          let one : count_of datatype_kind before ≡ 1 = ((is.once).1).0 in
           let after : ms' ≡ (made.front ++ made.named ∷ made.middle) ++ moved ∷ (put ∷ made.back)
           = made.after ∙ sym (append_assoc made.front (made.named ∷ made.middle) (moved ∷ (put ∷ made.back))) in
-          let there : first_body 3 blank ≡ Some (made.moved).body
-          = ap (first_body 3) made.before
-          ∙ only_body 3 made.front made.moved (made.middle ++ made.back) datatype (ap (count_of 3) (sym made.before) ∙ blank_count 3 refl refl ∙ one) in
-          let here : first_body 3 ms' ≡ Some (part 0 16 (made.moved).body)
-          = ap (first_body 3) after
-          ∙ only_body 3 (made.front ++ made.named ∷ made.middle) moved (put ∷ made.back) datatype (ap (count_of 3) (sym after) ∙ types ∙ one) in
+          let there : first_body datatype_kind blank ≡ Some (made.moved).body
+          = ap (first_body datatype_kind) made.before
+          ∙ only_body 3 made.front made.moved (made.middle ++ made.back) datatype (ap (count_of datatype_kind) (sym made.before) ∙ blank_count 3 refl refl ∙ one) in
+          let here : first_body datatype_kind ms' ≡ Some (part 0 16 (made.moved).body)
+          = ap (first_body datatype_kind) after
+          ∙ only_body 3 (made.front ++ made.named ∷ made.middle) moved (put ∷ made.back) datatype (ap (count_of datatype_kind) (sym after) ∙ types ∙ one) in
           ap (option_and_then fixed_of) here ∙ moved_type (made.moved).body made.wide ∙ sym (ap (option_and_then fixed_of) there)
     ]
 
-    datatype : option_and_then fixed_of (first_body 3 ms') ≡ option_and_then fixed_of (first_body 3 before)
-    datatype = elim adds as (λ _. option_and_then fixed_of (first_body 3 ms') ≡ option_and_then fixed_of (first_body 3 blank)) [
+    datatype : option_and_then fixed_of (first_body datatype_kind ms') ≡ option_and_then fixed_of (first_body datatype_kind before)
+    datatype = elim adds as (λ _. option_and_then fixed_of (first_body datatype_kind ms') ≡ option_and_then fixed_of (first_body datatype_kind blank)) [
       | inl there ↦
-          let same : first_body 3 ms' ≡ first_body 3 blank
+          let same : first_body datatype_kind ms' ≡ first_body datatype_kind blank
           = first_filtered 3 ms' ∙ ap first_of (same_in_nil (λ (k : ℕ). k == 3) blank ms' body refl refl there) ∙ sym (first_filtered 3 blank) in
           ap (option_and_then fixed_of) same
       | inr made ↦ moved_said made

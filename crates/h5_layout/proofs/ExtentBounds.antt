@@ -7,12 +7,13 @@ use Rattle.std.proofs.lemmas.Bool.Decides.{nat_tests}
 use Rattle.std.proofs.lemmas.List.FromFn.{length-map-range_with_len}
 use Rattle.std.proofs.lemmas.Option.{cond_some, option_and_then_some}
 use Rattle.std.proofs.Math.Nat.{mul-le-mul_left, mul-le-mul_right}
-use Rattle.h5_bytes.specs.Bytes.{number_at, undefined}
+use Rattle.h5_bytes.specs.Bytes.{number_at, undefined_address}
+use Rattle.h5_model.specs.Format.MessageTypes.{dataspace_kind}
 use Rattle.h5_model.specs.Edits.Refusal.{are_maxima, some_above}
 use Rattle.h5_model.specs.Format.Extent.{Extent, extent_in, extent_of, has_maxima, is_dataspace, maximum_from, maximum_in, rank_in, size_in}
 use Rattle.h5_model.specs.Format.Messages.{Message, first_body}
+use Rattle.h5_model.specs.Format.Described.{Described, HasArray}
 use Rattle.h5_model.specs.Tree.Places.{extent_cells}
-use Rattle.h5_layout.specs.Described.{Described, HasArray}
 use Rattle.h5_layout.specs.Extents.{CanHaveSizes}
 
 -- ---- sizes
@@ -43,14 +44,14 @@ sizes_below (d ∷ ds) most few = elim (d == 0) as (λ b. (d == 0) ≡ b → con
 
 abbrev IsUnmarked : Option ℕ → Type 0
 IsUnmarked None = Unit {0}
-IsUnmarked (Some n) = (n == undefined) ≡ false
+IsUnmarked (Some n) = (n == undefined_address) ≡ false
 
 module _ (body : List ℕ) where
   maximum_unmarked : (k : ℕ) → size_in body k ≤ 2 ^ 40 → IsUnmarked (maximum_in body k)
   maximum_unmarked k low =
       let n = number_at body (8 + 8 * rank_in body + 8 * k) 8 in
       elim (has_maxima body) as (λ b. IsUnmarked (cond b (maximum_from n) (Some (size_in body k)))) [
-        | true ↦ elim (n == undefined) as (λ c. (n == undefined) ≡ c → IsUnmarked (cond c None (Some n))) [
+        | true ↦ elim (n == undefined_address) as (λ c. (n == undefined_address) ≡ c → IsUnmarked (cond c None (Some n))) [
           | true ↦ λ is. tt
           | false ↦ λ is. is
         ] refl
@@ -103,7 +104,7 @@ bounded (d ∷ ds) (Some n ∷ ms) ranked below unmarked =
 
 module _ (ms : List Message) (a : Described) (has : HasArray ms a) where
   extent_read : IsReadExtent (record { sizes = a.sizes; maxima = a.maxima })
-  extent_read = option_and_then_some extent_of (first_body 1 ms) (record { sizes = a.sizes; maxima = a.maxima }) has.space
+  extent_read = option_and_then_some extent_of (first_body dataspace_kind ms) (record { sizes = a.sizes; maxima = a.maxima }) has.space
       (λ body there told. read_extent body (record { sizes = a.sizes; maxima = a.maxima }) told)
 
   pub few_sizes : length a.sizes ≤ 32

@@ -7,8 +7,8 @@ use Rattle.h5_bytes.proofs.BlockLaws.{cover-append}
 use Rattle.h5_model.specs.Edits.Refusal.{is_chunked}
 use Rattle.h5_model.specs.Format.Layout.{Layout, InMessage, InBlock, InChunks}
 use Rattle.h5_model.specs.Format.Messages.{Message}
-use Rattle.h5_model.specs.Format.Reads.{storage_of}
 use Rattle.h5_model.specs.Format.Superblock.{chunk_k, k_values}
+use Rattle.h5_model.specs.Format.Described.{storage_of, Described, HasArray}
 use Rattle.h5_model.proofs.KLaws.{same_chunk, same_length}
 use Rattle.h5_space.specs.Space.{Space}
 use Rattle.h5_space.specs.Whole.{IsApart}
@@ -19,7 +19,6 @@ use Rattle.h5_header.specs.declared.message.Message.{Message as Placed}
 use Rattle.h5_chunks.proofs.SuperblockStays.{k_stays, superblock_of}
 use Rattle.h5_layout.specs.ArrayEdits.{IsArrayApart, IsArrayMoved, array_blocks, described_in}
 use Rattle.h5_layout.specs.Data.{AreDataRead, data_blocks, stored_chunks}
-use Rattle.h5_layout.specs.Described.{Described, HasArray}
 use Rattle.h5_layout.specs.ExtentNow.{HasExtentNow}
 use Rattle.h5_layout.specs.Extents.{CanHaveSizes, HasSizesNow}
 use Rattle.h5_layout.specs.Trimmed.{grid_cell}

@@ -9,6 +9,7 @@ use Rattle.std.proofs.lemmas.List.Quantifiers.{position-Some}
 use Rattle.std.proofs.lemmas.Option.{slice_get_within}
 use Rattle.h5_bytes.specs.declared.Block.{Block}
 use Rattle.h5_bytes.proofs.BlockLaws.{cover-append}
+use Rattle.h5_model.specs.Format.MessageTypes.{datatype_kind}
 use Rattle.h5_model.specs.Format.Datatype.{fixed_of}
 use Rattle.h5_model.specs.Format.Extent.{Extent, extent_of}
 use Rattle.h5_model.specs.Format.Messages.{Message, first_body, prefix_at, reference_count}
@@ -19,7 +20,7 @@ use Rattle.h5_space.proofs.MovesLaws.{moves_apart, moves_then}
 use Rattle.h5_header.specs.Added.{AddsMessage, HasMovable}
 use Rattle.h5_header.specs.Kinds.{IsOfDataset}
 use Rattle.h5_header.specs.Listed.{Listed, message_in, messages_in}
-use Rattle.h5_header.specs.Standing.{IsStanding, blanked, kept_at, none, nowhere}
+use Rattle.h5_header.specs.Standing.{IsStanding, with_nil, kept_at, none, nowhere}
 use Rattle.h5_header.specs.declared.message.Message.{Message as Placed}
 use Rattle.h5_header.proofs.CutLaws.{IsCut, cut_by_place}
 use Rattle.h5_header.proofs.MovableLaws.{movable_type, standing_padded}
@@ -54,7 +55,7 @@ blocks_apart s m is p =
     omega (arith, is.apart p, cover-append p m.blocks (data_blocks s.bytes a.fixed a.layout))
 
 module _ (old mid : Space) (m n : Listed) (was : IsArrayApart old m) (k : ℕ) (low : k < length m.list) (kind : (kept_at m.list k).kind ≡ 1)
-    (blank : messages_in mid.bytes n.list ≡ blanked (messages_in old.bytes m.list) k) (stands : IsStanding mid.bytes n) (moves : Moves old mid m.blocks n.blocks) where
+    (blank : messages_in mid.bytes n.list ≡ with_nil (messages_in old.bytes m.list) k) (stands : IsStanding mid.bytes n) (moves : Moves old mid m.blocks n.blocks) where
   abbrev ms : List Message
   ms = messages_in old.bytes m.list
 
@@ -73,8 +74,8 @@ module _ (old mid : Space) (m n : Listed) (was : IsArrayApart old m) (k : ℕ) (
   mid_is : messages_in mid.bytes n.list ≡ cut.front ++ nil ∷ cut.back
   mid_is = blank ∙ cut.put nil
 
-  same_type : first_body 3 (messages_in mid.bytes n.list) ≡ first_body 3 ms
-  same_type = ap (first_body 3) mid_is ∙ blank_type cut.front x nil cut.back x_kind refl ∙ ap (first_body 3) (sym cut.whole)
+  same_type : first_body datatype_kind (messages_in mid.bytes n.list) ≡ first_body datatype_kind ms
+  same_type = ap (first_body datatype_kind) mid_is ∙ blank_type cut.front x nil cut.back x_kind refl ∙ ap (first_body datatype_kind) (sym cut.whole)
 
   mid_movable : HasMovable (messages_in mid.bytes n.list)
   mid_movable = movable_type (messages_in mid.bytes n.list) (described_in old.bytes m).fixed (standing_padded mid.bytes n stands)

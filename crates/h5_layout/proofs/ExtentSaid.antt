@@ -5,16 +5,17 @@ use Rattle.std.specs.Prelude.{option_and_then, option_map}
 use Rattle.std.specs.List.{filter, find}
 use Rattle.std.proofs.lemmas.Option.{same_Some}
 use Rattle.h5_bytes.specs.declared.Block.{Block}
+use Rattle.h5_model.specs.Format.MessageTypes.{data_layout_kind}
 use Rattle.h5_model.specs.Edits.Refusal.{is_chunked}
 use Rattle.h5_model.specs.Format.Extent.{Extent}
 use Rattle.h5_model.specs.Format.Fill.{fill_value, old_fill_value}
 use Rattle.h5_model.specs.Format.Layout.{Layout, InMessage, InBlock, InChunks, layout_of, compact_layout, contiguous_layout, chunked_layout}
 use Rattle.h5_model.specs.Format.Messages.{Message, count_of, first_body}
-use Rattle.h5_model.specs.Format.Reads.{IsFill, kept_of, storage_of}
+use Rattle.h5_model.specs.Format.Reads.{kept_of}
+use Rattle.h5_model.specs.Format.Described.{IsFill, storage_of, Described, HasArray}
 use Rattle.h5_model.specs.Tree.Places.{cells, extent_cells}
 use Rattle.h5_header.specs.Kinds.{IsOfDataset}
 use Rattle.h5_layout.specs.ArrayEdits.{AreOthersKept}
-use Rattle.h5_layout.specs.Described.{Described, HasArray}
 use Rattle.h5_layout.specs.ExtentNow.{SaysExtent}
 
 -- ---- the messages of one type
@@ -132,7 +133,7 @@ module _ (ms ms' : List Message) (e : Extent) (says : SaysExtent ms ms' e) where
       filled = (has.filled).filled;
     };
     laid_out = ap (option_and_then (layout_of e.sizes a.fixed.size)) (same_body 8 layouts)
-        ∙ layout_still a.sizes e.sizes a.fixed.size a.layout (first_body 8 ms) chunked ranked has.laid_out;
+        ∙ layout_still a.sizes e.sizes a.fixed.size a.layout (first_body data_layout_kind ms) chunked ranked has.laid_out;
     small = few;
     chunk_small = has.chunk_small;
   }

@@ -1,7 +1,7 @@
 -- A Dataspace message with maxima, written where it stands: the header says the new extent (File Format Specification 3.0, section
 -- IV.A.2.b).
 use Rattle.std.proofs.Common.{◌≡◌, ◌≢◌, ℕ, ◌+◌, ◌*◌, ◌≤◌, Bool, true, false, not, ◌==◌, List, length, Option, Some, None, refl, sym, ap, ◌∙◌, subst, arith}
-use Rattle.std.specs.Prelude.{nat_le, option_and_then, option_map}
+use Rattle.std.specs.Prelude.{option_and_then, option_map}
 use Rattle.std.specs.List.{find}
 use Rattle.std.specs.Borrow.{Bor}
 use Rattle.std.specs.Option.{IsSome, option_copied, option_map_or}
@@ -10,9 +10,11 @@ use Rattle.std.proofs.lemmas.List.FromFn.{length-map-range_with_len}
 use Rattle.std.proofs.lemmas.Option.{cond_some}
 use Rattle.h5_bytes.specs.Bytes.{part, with_part}
 use Rattle.h5_bytes.proofs.PartLaws.{length-part, part-with_part_same}
+use Rattle.h5_model.specs.Format.MessageTypes.{dataspace_kind}
 use Rattle.h5_model.specs.Format.Datatype.{fixed_of}
 use Rattle.h5_model.specs.Format.Extent.{Extent, extent_in, extent_of, has_maxima, is_dataspace, rank_in, size_in}
 use Rattle.h5_model.specs.Format.Messages.{Message, first_body, reference_count}
+use Rattle.h5_model.specs.Format.Described.{Described}
 use Rattle.h5_space.specs.Lending.{with_bytes_at}
 use Rattle.h5_space.specs.Moves.{Spends}
 use Rattle.h5_space.specs.Space.{Space}
@@ -22,18 +24,10 @@ use Rattle.h5_header.proofs.BesideLaws.{moves_covered, spends_write}
 use Rattle.h5_header.proofs.FirstWritten.{HasNewBody, IsBodyWritten, body_written, new_first, same_count, same_filter, same_first, written_covered}
 use Rattle.h5_header.proofs.FoundLaws.{first_body-in, none_stands, within_at}
 use Rattle.h5_layout.specs.ArrayEdits.{IsArrayApart, described_in}
-use Rattle.h5_layout.specs.Described.{Described}
 use Rattle.h5_layout.specs.ExtentNow.{HasExtentNow}
 use Rattle.h5_layout.specs.Extents.{lacks_maxima}
 
 -- ---- how long a body is that is read
-
-pub form_long : (body : List ℕ) (e : Extent) → extent_of body ≡ Some e → 8 ≤ length body
-unfolding extent_of
-form_long body e is =
-    let form : is_dataspace body ≡ true = (cond_some (is_dataspace body) (extent_in body) e is).0 in
-    let long : nat_le 8 (length body) ≡ true = grind (arith, nat_tests, form) in
-    grind (arith, nat_tests, long)
 
 -- with maxima there are twice as many numbers
 pub maxima_long : (body : List ℕ) (e : Extent) → extent_of body ≡ Some e → has_maxima body ≡ true → 8 + 16 * length e.sizes ≤ length body
@@ -50,7 +44,7 @@ pub extent_found : (s : Space) (m : Listed) → IsArrayApart s m → (x : Placed
 extent_found s m is = go (find (λ (y : Placed). y.kind == 1) m.list) refl where
   go : (o : Option Placed) → find (λ (y : Placed). y.kind == 1) m.list ≡ o → (x : Placed) × (find (λ (y : Placed). y.kind == 1) m.list ≡ Some x)
   go None none =
-      let no_body : first_body 1 (messages_in s.bytes m.list) ≡ None
+      let no_body : first_body dataspace_kind (messages_in s.bytes m.list) ≡ None
       = first_body-in s.bytes 1 m.list ∙ ap (option_map (λ (y : Placed). part y.at y.size s.bytes)) none in
       absurd (omega (arith, none_stands 1 (messages_in s.bytes m.list) no_body, is.array.one_space))
   go (Some x) found = (x, found)
@@ -73,7 +67,7 @@ module _ (old : Space) (m : Listed) (was : IsArrayApart old m) (x : Placed) (fou
   pub extent_inside : x.at + x.size ≤ length old.bytes
   extent_inside = within_at (length old.bytes) 1 m.list x was.standing.within found
 
-  body_is : first_body 1 ms ≡ Some (part x.at x.size old.bytes)
+  body_is : first_body dataspace_kind ms ≡ Some (part x.at x.size old.bytes)
   body_is = first_body-in old.bytes 1 m.list ∙ ap (option_map (λ (y : Placed). part y.at y.size old.bytes)) found
 
   not_without : (body : Option (List ℕ)) (bytes : List ℕ) → body ≡ Some bytes
@@ -89,7 +83,7 @@ module _ (old : Space) (m : Listed) (was : IsArrayApart old m) (x : Placed) (fou
       let says : extent_of (part x.at x.size old.bytes) ≡ Some (record { sizes = a.sizes; maxima = a.maxima })
       = sym (ap (option_and_then extent_of) body_is) ∙ was.array.space in
       let long = maxima_long (part x.at x.size old.bytes) (record { sizes = a.sizes; maxima = a.maxima }) says
-      (not_without (first_body 1 ms) (part x.at x.size old.bytes) body_is has) in
+      (not_without (first_body dataspace_kind ms) (part x.at x.size old.bytes) body_is has) in
       omega (arith, long, ranked, length-part x.at x.size old.bytes extent_inside)
 
   module _ (w : List ℕ) (long : length w ≡ x.size) (e : Extent) (says : extent_of w ≡ Some e) (new : Space) (image : new ≡ with_bytes_at old x.at w) where

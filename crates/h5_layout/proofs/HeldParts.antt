@@ -2,13 +2,13 @@
 use Rattle.std.proofs.Common.{◌≡◌, ℕ, ◌<◌, ℤ, List, [], ◌∷◌, length, get_or, map, refl, sym, ap}
 use Rattle.std.proofs.lemmas.List.FromFn.{fill_by_all}
 use Rattle.std.specs.Prelude.{slice_index_or}
-use Rattle.h5_model.specs.Edits.Applied.{cell_or_fill, resized}
+use Rattle.h5_model.specs.Edits.Applied.{cell_or_fill, with_sizes}
 use Rattle.h5_model.specs.Tree.Objects.{Dataset}
 use Rattle.h5_model.specs.Tree.Places.{cells, index_of}
+use Rattle.h5_model.specs.Format.Described.{Described}
 use Rattle.h5_model.proofs.PlaceLaws.{inside-index, place-index}
 use Rattle.h5_chunks.proofs.InsideLaws.{is_inside_from}
 use Rattle.h5_layout.specs.Data.{dataset_told, stored_chunks}
-use Rattle.h5_layout.specs.Described.{Described}
 use Rattle.h5_layout.specs.HeldChunks.{chunk_values, held_cells, held_chunks}
 
 -- the offsets of some chunks with their cells
@@ -21,7 +21,7 @@ firsts d chunk (offsets ∷ others) = ap (λ (xs : List (List ℕ)). offsets ∷
 
 module _ (image : List ℕ) (a : Described) (chunk sizes : List ℕ) where
   abbrev after : Dataset
-  after = resized sizes (dataset_told image a)
+  after = with_sizes sizes (dataset_told image a)
 
   -- their offsets are those of the chunks that hold a cell of the extent
   pub held_offsets : map (λ (p : List ℕ × List ℤ). p.0) (held_cells image a chunk sizes).parts ≡ held_chunks sizes (stored_chunks image a.fixed a.layout)
@@ -32,7 +32,7 @@ module _ (image : List ℕ) (a : Described) (chunk sizes : List ℕ) where
   held_parts = ap (map (handed_of after chunk)) (sym held_offsets)
 
 -- an array that gets the sizes it has is the same
-pub resized_own : (d : Dataset) → length d.cells ≡ cells d.sizes → resized d.sizes d ≡ d
+pub resized_own : (d : Dataset) → length d.cells ≡ cells d.sizes → with_sizes d.sizes d ≡ d
 resized_own d counted = ap (λ (cs : List ℤ). record d { cells = cs }) (sym (fill_by_all (λ place. cell_or_fill d (index_of d.sizes place)) d.cells (cells d.sizes) d.fill counted each)) where
   each : (place : ℕ) → place < cells d.sizes → get_or d.cells place d.fill ≡ cell_or_fill d (index_of d.sizes place)
   each place low =

@@ -13,10 +13,11 @@ use Rattle.std.proofs.lemmas.List.FromFn.{get_or-map-range_with_len}
 use Rattle.std.proofs.lemmas.Nat.{div-add-mod', div-mul-add, mod-mul-add}
 use Rattle.h5_bytes.specs.Bytes.{part}
 use Rattle.h5_bytes.specs.Tables.{table}
-use Rattle.h5_model.specs.Edits.Applied.{cell_or_fill, resized}
+use Rattle.h5_model.specs.Edits.Applied.{cell_or_fill, with_sizes}
 use Rattle.h5_model.specs.Format.Cells.{cell_of, value_in, value_in_chunk}
 use Rattle.h5_model.specs.Format.Chunks.{Chunks, IsOffset, offsets_in}
 use Rattle.h5_model.specs.Format.Layout.{Layout, InChunks}
+use Rattle.h5_model.specs.Format.Described.{Described}
 use Rattle.h5_model.specs.Tree.Grid.{corner_of, inner_of}
 use Rattle.h5_model.specs.Tree.Objects.{Dataset}
 use Rattle.h5_model.specs.Tree.Places.{IsInside, cells, index_of, is_inside, place_of}
@@ -28,7 +29,6 @@ use Rattle.h5_chunks.specs.Keys.{index_from}
 use Rattle.h5_chunks.specs.declared.held.ChunkPlace.{ChunkPlace}
 use Rattle.h5_chunks.proofs.InsideLaws.{inside_of}
 use Rattle.h5_layout.specs.Data.{chunk_shape, dataset_told, stored_chunks}
-use Rattle.h5_layout.specs.Described.{Described}
 use Rattle.h5_layout.specs.HeldChunks.{chunk_values, held_cells}
 use Rattle.h5_layout.specs.Kept.{KeptChunks, chunks_below_root, corner_value, kept_cells, chunks_kept, kept_values, slices_kept, smaller_sizes}
 use Rattle.h5_layout.specs.Stored.{IsArray, has_room}
@@ -109,7 +109,7 @@ inner_back (c ∷ cs) (o ∷ os) (i ∷ is) aligned h =
 
 -- ---- a cell of the array once it has its new sizes
 
-resized_cell : (sizes : List ℕ) (d : Dataset) (index : List ℕ) → cell_or_fill (resized sizes d) index ≡ cond (is_inside sizes index) (cell_or_fill d index) d.fill
+resized_cell : (sizes : List ℕ) (d : Dataset) (index : List ℕ) → cell_or_fill (with_sizes sizes d) index ≡ cond (is_inside sizes index) (cell_or_fill d index) d.fill
 resized_cell sizes d index = by_test (is_inside sizes index) refl where
   cell : ℤ
   cell = slice_index_or (map (λ place. cell_or_fill d (index_of sizes place)) (range_with_len 0 (cells sizes))) (place_of sizes index) d.fill
@@ -151,7 +151,7 @@ module _ (image : List ℕ) (a : Described) (chunk : List ℕ) (root : Option �
     -- one cell
     value_kept : (place : ℕ) → place < cells chunk
         → corner_value a.fixed a.fill chunk (slices_kept kept chunk offsets) bytes place
-        ≡ cell_or_fill (resized sizes (dataset_told image a)) (index_from offsets (index_of chunk place))
+        ≡ cell_or_fill (with_sizes sizes (dataset_told image a)) (index_from offsets (index_of chunk place))
     value_kept place low =
         ap (λ b. cond b (value_in a.fixed bytes place) a.fill)
         (slices_inside kept chunk offsets inner ranks aligned inside ∙ smaller_inside a.sizes sizes index rank)
@@ -178,9 +178,9 @@ module _ (image : List ℕ) (a : Described) (chunk : List ℕ) (root : Option �
           by_tests false true outside = sym (ap (λ b. cond b (slice_index_or (dataset_told image a).cells (place_of a.sizes index) a.fill) a.fill) outside)
 
     pub values_kept : table (corner_value a.fixed a.fill chunk (slices_kept kept chunk offsets) bytes) (cells chunk)
-        ≡ chunk_values (resized sizes (dataset_told image a)) chunk offsets
+        ≡ chunk_values (with_sizes sizes (dataset_told image a)) chunk offsets
     values_kept = map_ranges (corner_value a.fixed a.fill chunk (slices_kept kept chunk offsets) bytes)
-        (λ place. cell_or_fill (resized sizes (dataset_told image a)) (index_from offsets (index_of chunk place))) 0 0 (cells chunk)
+        (λ place. cell_or_fill (with_sizes sizes (dataset_told image a)) (index_from offsets (index_of chunk place))) 0 0 (cells chunk)
         (λ j low. let same : 0 + j ≡ j = omega arith in value_kept (0 + j) (omega (arith, low)))
 
   -- ---- all chunks that hold a cell of the extent
@@ -198,7 +198,7 @@ module _ (image : List ℕ) (a : Described) (chunk : List ℕ) (root : Option �
     Part = List ℕ × List ℤ
 
     abbrev handed : List ℕ → Part
-    handed offsets = (offsets, chunk_values (resized sizes (dataset_told image a)) chunk offsets)
+    handed offsets = (offsets, chunk_values (with_sizes sizes (dataset_told image a)) chunk offsets)
 
     -- no other offsets are equal to these
     alike : (offsets other : List ℕ) → slice_cmp nat_cmp offsets other ≡ Equal → is_inside sizes other ≡ is_inside sizes offsets
@@ -215,13 +215,13 @@ module _ (image : List ℕ) (a : Described) (chunk : List ℕ) (root : Option �
           by_test false found n h = absurd (cc)
 
     stored_kept : (p : ChunkPlace) → In p places
-        → kept_values k p ≡ chunk_values (resized sizes (dataset_told image a)) chunk (offsets_in (length chunk) p.key.now)
+        → kept_values k p ≡ chunk_values (with_sizes sizes (dataset_told image a)) chunk (offsets_in (length chunk) p.key.now)
     stored_kept p there =
         let is = in_all (IsChunkPlace image (chunk_shape a.fixed chunk)) p places each there in
         values_kept sizes rank ranks (offsets_in (length chunk) p.key.now) is.keyed.aligned p.at (stored_there p there)
 
     same_parts : (ps : List ChunkPlace)
-        → ((p : ChunkPlace) → In p ps → kept_values k p ≡ chunk_values (resized sizes (dataset_told image a)) chunk (offsets_in (length chunk) p.key.now))
+        → ((p : ChunkPlace) → In p ps → kept_values k p ≡ chunk_values (with_sizes sizes (dataset_told image a)) chunk (offsets_in (length chunk) p.key.now))
         → (kept_cells k ps).parts ≡ map handed (map (λ (e : Entry). e.0) (map (place_entry (length chunk)) ps))
     same_parts [] each = refl
     same_parts (p ∷ ps) each =

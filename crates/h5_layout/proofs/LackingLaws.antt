@@ -8,13 +8,13 @@ use Rattle.h5_bytes.specs.declared.Block.{Block}
 use Rattle.h5_laws.proofs.Lists.{In, contains_in, in_contains}
 use Rattle.h5_model.specs.Format.Chunks.{Chunks}
 use Rattle.h5_model.specs.Format.Layout.{Layout, InMessage, InBlock, InChunks}
+use Rattle.h5_model.specs.Format.Described.{Described}
 use Rattle.h5_model.specs.Tree.Grid.{corner_of}
 use Rattle.h5_model.specs.Tree.Places.{IsInside, index_of, place_of}
 use Rattle.h5_model.specs.Views.Selection.{Slab, selected_cells, selection_of}
 use Rattle.h5_model.proofs.PlaceLaws.{index-place}
 use Rattle.h5_layout.specs.ArrayChunks.{ArrayChunks, IsInChunksOf}
 use Rattle.h5_layout.specs.Data.{stored_chunks}
-use Rattle.h5_layout.specs.Described.{Described}
 use Rattle.h5_layout.specs.HeldChunks.{IsChunkMet}
 use Rattle.h5_layout.specs.Lacking.{IsFound, IsMissing, IsMissingIn, lacks_cells}
 use Rattle.h5_layout.specs.NewChunks.{AreMissing}

@@ -4,7 +4,7 @@ use Rattle.std.specs.Prelude.{◌&&◌, nat_le}
 use Rattle.std.specs.List.{list_any, range_with_len}
 use Rattle.std.proofs.lemmas.Bool.Decides.{nat_tests}
 use Rattle.std.proofs.lemmas.Option.{same_Some, cond_some}
-use Rattle.h5_bytes.specs.Bytes.{byte_at, little_bytes, number_at, undefined, with_part}
+use Rattle.h5_bytes.specs.Bytes.{byte_at, little_bytes, number_at, undefined_address, with_part}
 use Rattle.h5_bytes.specs.Blocks.{block}
 use Rattle.h5_bytes.specs.declared.Block.{Block}
 use Rattle.h5_bytes.proofs.FieldLaws.{number_at-with_field, number_at-with_part_other}
@@ -107,7 +107,7 @@ module _ (sizes : List ℕ) (size : ℕ) (body : List ℕ) (l : Option Block) (w
         let not_compact : (byte_at body' 1 == 0) ≡ false = ap (λ (b : ℕ). b == 0) (front 1 (omega arith)) ∙ of_block.1 in
         let class : (byte_at body' 1 == 1) ≡ true = ap (λ (b : ℕ). b == 1) (front 1 (omega arith)) ∙ of_block.2 in
         let there : nat_le 18 (length body') ≡ true = grind (arith, nat_tests, long, block_room) in
-        let defined : (number_at body' 2 8 == undefined) ≡ false = grind (arith, nat_tests, address, low) in
+        let defined : (number_at body' 2 8 == undefined_address) ≡ false = grind (arith, nat_tests, address, low) in
         let fits : nat_le (cells sizes * size) (number_at body' 10 8) ≡ true = grind (arith, nat_tests, length_there, enough) in
         rw (head, not_compact, class, there, defined, fits) (ap₂ (λ (a n : ℕ). Some (InBlock (Some (block a n)))) address length_there)
 
@@ -183,5 +183,5 @@ module _ (sizes : List ℕ) (size : ℕ) (body chunk : List ℕ) (l : Option ℕ
         let no_block : (byte_at named 1 == 1) ≡ false = ap (λ (b : ℕ). b == 1) (named_front 1 (omega arith)) ∙ of_chunks.2 in
         let class : (byte_at named 1 == 2) ≡ true = ap (λ (b : ℕ). b == 2) (named_front 1 (omega arith)) ∙ of_chunks.3 in
         let address : number_at named 3 8 ≡ root = number_at-with_field body 3 8 root (omega (arith, tree_room)) (omega (arith, low)) in
-        let defined : (number_at named 3 8 == undefined) ≡ false = grind (arith, nat_tests, address, low) in
+        let defined : (number_at named 3 8 == undefined_address) ≡ false = grind (arith, nat_tests, address, low) in
         rw (head, not_compact, no_block, class, still_met, defined) (ap₂ (λ (c : List ℕ) (r : ℕ). Some (InChunks c (Some r))) (same_numbers ∙ numbers) address)

@@ -8,7 +8,7 @@ use Rattle.h5_bytes.specs.Bytes.{byte_at}
 use Rattle.h5_bytes.specs.declared.Block.{Block}
 use Rattle.h5_model.specs.Edits.Refusal.{is_chunked}
 use Rattle.h5_model.specs.Format.Layout.{Layout, InMessage, InBlock, InChunks, layout_of, compact_layout, contiguous_layout, chunked_layout}
-use Rattle.h5_model.specs.Format.Reads.{storage_of}
+use Rattle.h5_model.specs.Format.Described.{storage_of}
 use Rattle.h5_model.specs.Tree.Places.{cells}
 
 -- a layout is of one of three classes

@@ -12,7 +12,7 @@ use Rattle.h5_bytes.specs.declared.Block.{Block}
 use Rattle.h5_model.specs.Format.Cells.{value_in}
 use Rattle.h5_model.specs.Format.Fixed.{Fixed}
 use Rattle.h5_model.specs.Format.Layout.{Layout, InMessage, InBlock, InChunks}
-use Rattle.h5_model.specs.Format.Reads.{storage_of}
+use Rattle.h5_model.specs.Format.Described.{storage_of, Described}
 use Rattle.h5_model.specs.Tree.Objects.{Dataset}
 use Rattle.h5_model.specs.Tree.Places.{cells}
 use Rattle.h5_model.specs.Views.Selection.{Slab, Within, is_one_run, is_run, selection_of}
@@ -22,7 +22,6 @@ use Rattle.h5_shape.specs.declared.runs.CellRun.{CellRun}
 use Rattle.h5_shape.specs.Runs.{AreMaximal, cell_runs, places_in}
 use Rattle.h5_shape.proofs.RunLaws.{is_single, places_of_runs, run-single, runs-maximal, single-steps}
 use Rattle.h5_layout.specs.Data.{AreDataRead, dataset_told, stored_chunks}
-use Rattle.h5_layout.specs.Described.{Described}
 use Rattle.h5_layout.specs.Lent.{AreInLine, IsLent}
 use Rattle.h5_layout.specs.Runs.{AreCellBytes}
 use Rattle.h5_layout.specs.Stored.{IsArray, IsUnchunked, data_in}

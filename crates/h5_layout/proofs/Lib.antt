@@ -5,7 +5,6 @@ pub mod CellLaws
 pub mod BufferLaws
 pub mod PieceLaws
 pub mod DataLaws
-pub mod ArrayLaws
 pub mod BreachLaws
 pub mod RoomLaws
 pub mod RunStorageLaws

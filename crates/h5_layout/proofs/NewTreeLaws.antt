@@ -8,6 +8,7 @@ use Rattle.h5_bytes.specs.Blocks.{Inside, Keeps, block, cover}
 use Rattle.h5_bytes.specs.declared.Block.{Block}
 use Rattle.h5_bytes.proofs.BlockLaws.{cover-append}
 use Rattle.h5_bytes.proofs.PartLaws.{length-part}
+use Rattle.h5_model.specs.Format.MessageTypes.{data_layout_kind}
 use Rattle.h5_model.specs.Format.Fixed.{Fixed}
 use Rattle.h5_model.specs.Format.Layout.{InBlock, InChunks, Layout, layout_of}
 use Rattle.h5_model.specs.Format.Messages.{first_body}
@@ -15,6 +16,7 @@ use Rattle.h5_model.specs.Format.Nodes.{Kind, node_at, tree_blocks}
 use Rattle.h5_model.specs.Format.Reached.{Shape, level_at, shape_kind}
 use Rattle.h5_model.specs.Format.Rows.{Reading, nodes}
 use Rattle.h5_model.specs.Format.Superblock.{chunk_k}
+use Rattle.h5_model.specs.Format.Described.{Described, HasArray}
 use Rattle.h5_model.proofs.KLaws.{same_chunk}
 use Rattle.h5_model.specs.Tree.Places.{cells}
 use Rattle.h5_space.specs.Moves.{Moves, Spends}
@@ -28,7 +30,6 @@ use Rattle.h5_chunks.proofs.ToldLaws.{chunk_blocks_told-same, chunks_read-same, 
 use Rattle.h5_layout.specs.ArrayEdits.{IsArrayApart, IsArrayMoved, described_in}
 use Rattle.h5_chunks.specs.Edited.{AreChunksApart}
 use Rattle.h5_layout.specs.Data.{AreDataRead, chunk_shape, data_blocks}
-use Rattle.h5_layout.specs.Described.{Described, HasArray}
 use Rattle.h5_layout.specs.LayoutEdits.{HasLayoutRoom, IsLayoutWritten}
 use Rattle.h5_layout.specs.NewTrees.{IsTreeNamed}
 use Rattle.h5_layout.proofs.ArrayMoved.{body_now, layout_k, layout_long, layout_moved, layout_spends, layout_told_now, layout_was, taken_keeps}
@@ -48,11 +49,11 @@ pub layout_found : (image : List ℕ) (list : List Placed) → IsWithin (length 
 layout_found image list within a has = go (find (λ (m : Placed). m.kind == 8) list) refl where
   go : (found : Option Placed) → find (λ (m : Placed). m.kind == 8) list ≡ found → IsLayoutFound image list a
   go None none =
-      let body : first_body 8 (messages_in image list) ≡ None = first_body-in image 8 list ∙ ap (option_map (λ (m : Placed). part m.at m.size image)) none in
+      let body : first_body data_layout_kind (messages_in image list) ≡ None = first_body-in image 8 list ∙ ap (option_map (λ (m : Placed). part m.at m.size image)) none in
       let never : None ≡ Some a.layout = sym (ap (option_and_then (layout_of a.sizes a.fixed.size)) body) ∙ has.laid_out in
       absurd (cc)
   go (Some x) here =
-      let body : first_body 8 (messages_in image list) ≡ Some (part x.at x.size image) = first_body-in image 8 list ∙ ap (option_map (λ (m : Placed). part m.at m.size image)) here in
+      let body : first_body data_layout_kind (messages_in image list) ≡ Some (part x.at x.size image) = first_body-in image 8 list ∙ ap (option_map (λ (m : Placed). part m.at m.size image)) here in
       record {
         place = x;
         found = here;

@@ -4,20 +4,19 @@ use Rattle.std.specs.Prelude.{◌==◌, is_none}
 use Rattle.std.specs.Ordering.{nat_cmp}
 use Rattle.std.specs.Cmp.Lexicographic.{slice_cmp}
 use Rattle.std.specs.FinMap.{get, get-empty}
-use Rattle.h5_bytes.specs.Bytes.{undefined}
+use Rattle.h5_bytes.specs.Bytes.{undefined_address}
 use Rattle.h5_model.specs.Edits.Refusal.{is_chunked}
 use Rattle.h5_model.specs.Format.Cells.{cell_of}
 use Rattle.h5_model.specs.Format.Layout.{InChunks, Layout, address_from}
-use Rattle.h5_model.specs.Format.Reads.{storage_of}
+use Rattle.h5_model.specs.Format.Described.{storage_of, Described}
 use Rattle.h5_layout.specs.ArrayChunks.{IsChunked}
 use Rattle.h5_layout.specs.Data.{stored_chunks}
-use Rattle.h5_layout.specs.Described.{Described}
 use Rattle.h5_layout.specs.Trimmed.{IsTrimmed}
 use Rattle.h5_layout.proofs.OutsideChunks.{chunked_is}
 
 -- an address is none where it is undefined
-pub none_where : (n : ℕ) (root : Option ℕ) → address_from n ≡ root → (n == undefined) ≡ is_none root
-none_where n root is = by_test (n == undefined) ∙ ap is_none is where
+pub none_where : (n : ℕ) (root : Option ℕ) → address_from n ≡ root → (n == undefined_address) ≡ is_none root
+none_where n root is = by_test (n == undefined_address) ∙ ap is_none is where
   by_test : (b : Bool) → b ≡ is_none (cond b None (Some n))
   by_test true = refl
   by_test false = refl

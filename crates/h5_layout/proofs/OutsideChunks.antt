@@ -8,14 +8,13 @@ use Rattle.h5_model.specs.Format.Chunks.{Chunks}
 use Rattle.h5_model.specs.Format.Fixed.{Fixed, IsFixed, fits}
 use Rattle.h5_model.specs.Edits.Refusal.{is_chunked}
 use Rattle.h5_model.specs.Format.Layout.{InBlock, InChunks, InMessage, Layout}
-use Rattle.h5_model.specs.Format.Reads.{storage_of}
+use Rattle.h5_model.specs.Format.Described.{storage_of, Described}
 use Rattle.h5_model.specs.Tree.Places.{cells, is_inside}
 use Rattle.h5_chunks.specs.Lists.{ChunkOffsets, offsets_across, offsets_outside, reaches_beyond}
 use Rattle.h5_chunks.specs.Shapes.{AreChunkSizes}
 use Rattle.h5_chunks.specs.Told.{chunks_told}
 use Rattle.h5_layout.specs.ArrayChunks.{ArrayChunks, AreSoundChunks, IsChunked, IsInChunksOf}
 use Rattle.h5_layout.specs.Data.{chunk_shape, stored_chunks}
-use Rattle.h5_layout.specs.Described.{Described}
 use Rattle.h5_layout.specs.Judged.{is_chunk_large}
 use Rattle.h5_layout.specs.Trimmed.{chunk_list}
 use Rattle.h5_layout.proofs.KeptValues.{layout_parts}

@@ -10,6 +10,7 @@ use Rattle.h5_bytes.specs.declared.Block.{Block}
 use Rattle.h5_header.specs.declared.message.Message.{Message as Placed}
 use Rattle.h5_model.specs.Format.Fixed.{Fixed, IsFixed}
 use Rattle.h5_model.specs.Format.Layout.{Layout, InMessage, InBlock, InChunks}
+use Rattle.h5_model.specs.Format.Described.{Described}
 use Rattle.h5_model.specs.Tree.Grid.{corner_of, inner_of}
 use Rattle.h5_model.specs.Tree.Places.{cells, index_of, place_of}
 use Rattle.h5_model.proofs.PlainValues.{size-low}
@@ -20,7 +21,6 @@ use Rattle.h5_layout.specs.CellPlaces.{IsIndexOf, IsLineAt, IsUnstored}
 use Rattle.h5_layout.specs.ChunkCells.{AreBeside, chunk_of, place_in_chunk}
 use Rattle.h5_layout.specs.Compact.{IsRunAt}
 use Rattle.h5_layout.specs.Data.{AreDataRead, stored_chunks}
-use Rattle.h5_layout.specs.Described.{Described}
 use Rattle.h5_layout.specs.GridKept.{GridKept, grid_in}
 use Rattle.h5_layout.specs.Standing.{IsStandingAt, address_at, address_of, is_stored_cell, is_stored_in}
 use Rattle.h5_layout.specs.Judged.{is_chunk_large}

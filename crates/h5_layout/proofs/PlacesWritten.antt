@@ -12,6 +12,7 @@ use Rattle.h5_model.specs.Format.Messages.{Message}
 use Rattle.h5_model.specs.Format.Plain.{cells_bytes}
 use Rattle.h5_model.specs.Format.Reached.{Shape}
 use Rattle.h5_model.specs.Format.Superblock.{superblock_length}
+use Rattle.h5_model.specs.Format.Described.{Described, HasArray}
 use Rattle.h5_model.specs.Tree.Grid.{corner_of}
 use Rattle.h5_model.specs.Tree.Places.{cells, index_of}
 use Rattle.h5_chunks.specs.Cursor.{IsCursor}
@@ -19,7 +20,6 @@ use Rattle.h5_chunks.specs.Read.{AreChunksRead}
 use Rattle.h5_chunks.specs.Told.{chunks_told}
 use Rattle.h5_layout.specs.CellPlaces.{ArePlacesOf, DoStandAs, IsLineAt, IsUnstored, KeptPlaces}
 use Rattle.h5_layout.specs.Data.{AreDataRead, data_blocks, stored_chunks}
-use Rattle.h5_layout.specs.Described.{Described, HasArray}
 use Rattle.h5_layout.specs.FoundChunks.{AreChunksBeside}
 use Rattle.h5_layout.specs.Standing.{IsStandingAt}
 use Rattle.h5_layout.specs.declared.places.CellStand.{CellStand}

@@ -5,9 +5,8 @@ use Rattle.h5_model.specs.Format.Datatype.{fixed_of}
 use Rattle.h5_model.specs.Format.Extent.{extent_of}
 use Rattle.h5_model.specs.Format.Layout.{Layout, layout_of}
 use Rattle.h5_model.specs.Format.Messages.{Message, count_of}
-use Rattle.h5_model.specs.Format.Reads.{IsChunkSmall}
+use Rattle.h5_model.specs.Format.Described.{IsChunkSmall, Described, HasArray}
 use Rattle.h5_header.proofs.FirstWritten.{HasNewBody, new_first, same_count, same_first}
-use Rattle.h5_layout.specs.Described.{Described, HasArray}
 
 pub relaid : (was said : List Message) (body : List ℕ) → HasNewBody 8 was said body → (a : Described) → HasArray was a
     → (l : Layout) → layout_of a.sizes a.fixed.size body ≡ Some l → IsChunkSmall a.fixed l → HasArray said (record a { layout = l })

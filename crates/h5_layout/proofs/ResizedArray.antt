@@ -4,13 +4,12 @@ use Rattle.std.specs.FinMap.{get}
 use Rattle.h5_model.specs.Edits.Refusal.{is_chunked}
 use Rattle.h5_model.specs.Format.Chunks.{Chunks}
 use Rattle.h5_model.specs.Format.Layout.{Layout, InBlock, InChunks, InMessage}
-use Rattle.h5_model.specs.Format.Reads.{storage_of}
+use Rattle.h5_model.specs.Format.Described.{storage_of, Described}
 use Rattle.h5_model.specs.Tree.Places.{cells, index_of}
 use Rattle.h5_space.specs.Space.{Space}
 use Rattle.h5_header.specs.Listed.{Listed}
 use Rattle.h5_layout.specs.ArrayEdits.{described_in}
 use Rattle.h5_layout.specs.Data.{dataset_told, stored_chunks}
-use Rattle.h5_layout.specs.Described.{Described}
 use Rattle.h5_layout.specs.Extents.{CanHaveSizes, HasSizesNow}
 use Rattle.h5_layout.specs.Kept.{smaller_sizes}
 use Rattle.h5_layout.specs.Resized.{IsArrayResized}

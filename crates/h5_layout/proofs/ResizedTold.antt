@@ -1,12 +1,12 @@
 -- An array that was trimmed is, with its new sizes, the array that a resize gives (File Format Specification 3.0, section IV.A.2.b).
 use Rattle.std.proofs.Common.{◌≡◌, ℕ, ◌+◌, List, length, Bool, true, false, cond, Option, refl, sym, ap, ap₂, ◌∙◌, arith}
 use Rattle.std.specs.Prelude.{◌&&◌, slice_index_or}
-use Rattle.h5_model.specs.Edits.Applied.{cell_or_fill, resized}
+use Rattle.h5_model.specs.Edits.Applied.{cell_or_fill, with_sizes}
 use Rattle.h5_model.specs.Edits.Refusal.{is_chunked}
 use Rattle.h5_model.specs.Format.Cells.{cell_of, cells_of}
 use Rattle.h5_model.specs.Format.Chunks.{Chunks}
 use Rattle.h5_model.specs.Format.Layout.{Layout, InChunks}
-use Rattle.h5_model.specs.Format.Reads.{storage_of}
+use Rattle.h5_model.specs.Format.Described.{storage_of, Described}
 use Rattle.h5_model.specs.Tree.Places.{cells, index_of, is_inside, place_of}
 use Rattle.h5_model.proofs.PlaceLaws.{inside-index}
 use Rattle.h5_space.specs.Space.{Space}
@@ -15,7 +15,6 @@ use Rattle.h5_msg.proofs.WordLaws.{and_right}
 use Rattle.h5_chunks.proofs.InsideLaws.{inside_of, is_inside_from}
 use Rattle.h5_layout.specs.ArrayEdits.{described_in}
 use Rattle.h5_layout.specs.Data.{dataset_told, stored_chunks}
-use Rattle.h5_layout.specs.Described.{Described}
 use Rattle.h5_layout.specs.Kept.{smaller_sizes}
 use Rattle.h5_layout.specs.Trimmed.{IsTrimmed, IsTrimmedTo, grid_cell}
 use Rattle.h5_layout.proofs.CellLaws.{map_ranges}
@@ -66,7 +65,7 @@ module _ (old new : Space) (m : Listed) (chunk : List ℕ) (root : Option ℕ) (
         same ∙ done.trimmed.filled index (long ∙ sym both_long) (in_both index ∙ ap (λ p. p && is_inside sizes index) is)
         ∙ ap (λ (x : Described). x.fill) done.told ∙ no_cell index is
 
-  all_cells : cells_of new.bytes a.fixed a.fill sizes a.layout (there new.bytes) ≡ (resized sizes (dataset_told old.bytes a)).cells
+  all_cells : cells_of new.bytes a.fixed a.fill sizes a.layout (there new.bytes) ≡ (with_sizes sizes (dataset_told old.bytes a)).cells
   all_cells = map_ranges (λ place. cell_of new.bytes a.fixed a.fill sizes a.layout (there new.bytes) (index_of sizes place))
       (λ place. cell_or_fill (dataset_told old.bytes a) (index_of sizes place)) 0 0 (cells sizes)
       (λ j low.
@@ -78,9 +77,9 @@ module _ (old new : Space) (m : Listed) (chunk : List ℕ) (root : Option ℕ) (
   storage_apart : storage_of sizes a.layout ≡ storage_of a.sizes a.layout
   storage_apart = ap (storage_of sizes) laid ∙ sym (ap (storage_of a.sizes) laid)
 
-  pub resized_told : dataset_told new.bytes (record (described_in new.bytes m) { sizes = sizes }) ≡ resized sizes (dataset_told old.bytes (described_in old.bytes m))
+  pub resized_told : dataset_told new.bytes (record (described_in new.bytes m) { sizes = sizes }) ≡ with_sizes sizes (dataset_told old.bytes (described_in old.bytes m))
   resized_told =
-      let is : dataset_told new.bytes (record a { sizes = sizes }) ≡ resized sizes (dataset_told old.bytes a)
+      let is : dataset_told new.bytes (record a { sizes = sizes }) ≡ with_sizes sizes (dataset_told old.bytes a)
       = λ i. record { fixed = a.fixed; sizes = sizes; maxima = a.maxima; storage = storage_apart i; fill = a.fill; cells = all_cells i } in
       ap (λ (x : Described). dataset_told new.bytes (record x { sizes = sizes })) done.told ∙ is
 

@@ -18,7 +18,7 @@ use Rattle.std.specs.Option.{option_map_or}
 use Rattle.h5_shape.proofs.Products.{cells_le}
 use Rattle.h5_model.proofs.PlaceLaws.{place-index}
 use Rattle.h5_model.specs.Format.Messages.{Message}
-use Rattle.h5_layout.specs.Described.{Described, HasArray, described_dataset}
+use Rattle.h5_model.specs.Format.Described.{Described, HasArray, described_dataset}
 use Rattle.h5_header.proofs.FoundLaws.{among_some}
 use Rattle.h5_layout.proofs.BreachLaws.{small_chunk}
 use Rattle.h5_bytes.proofs.PartLaws.{length-part}

@@ -12,7 +12,7 @@ use Rattle.h5_model.specs.Format.Chunks.{Chunks}
 use Rattle.h5_model.specs.Format.Fixed.{Fixed}
 use Rattle.h5_model.specs.Format.Layout.{InBlock, InChunks, InMessage, Layout}
 use Rattle.h5_model.specs.Format.Reached.{Shape}
-use Rattle.h5_model.specs.Format.Reads.{storage_of}
+use Rattle.h5_model.specs.Format.Described.{storage_of, Described}
 use Rattle.h5_model.specs.Tree.Grid.{corner_of, inner_of}
 use Rattle.h5_model.specs.Tree.Objects.{Chunked, Compact, Contiguous}
 use Rattle.h5_model.specs.Tree.Places.{cells, index_of, place_of}
@@ -24,7 +24,6 @@ use Rattle.h5_shape.specs.declared.runs.CellRun.{CellRun}
 use Rattle.h5_layout.specs.ArrayChunks.{ArrayChunks, IsInChunksOf}
 use Rattle.h5_layout.specs.ChunkCells.{AreBeside, left_in_row}
 use Rattle.h5_layout.specs.Data.{AreDataRead, chunk_shape, stored_chunks}
-use Rattle.h5_layout.specs.Described.{Described}
 use Rattle.h5_layout.specs.HeldChunks.{IsChunkMet}
 use Rattle.h5_layout.specs.Kept.{chunks_below_root}
 use Rattle.h5_layout.specs.Lacking.{stored_storage}

@@ -18,6 +18,7 @@ use Rattle.h5_model.specs.Format.Layout.{Layout, InMessage, InBlock, InChunks, l
 use Rattle.h5_model.specs.Format.Messages.{Message}
 use Rattle.h5_model.specs.Format.Plain.{cells_bytes}
 use Rattle.h5_model.specs.Format.Superblock.{k_values, superblock_length}
+use Rattle.h5_model.specs.Format.Described.{Described, HasArray}
 use Rattle.h5_model.proofs.KLaws.{k_values_stay, same_chunk, same_length}
 use Rattle.h5_model.specs.Tree.Places.{cells, index_of}
 use Rattle.h5_model.proofs.FixedLaws.{value_back, length-bytes_of}
@@ -34,7 +35,6 @@ use Rattle.h5_chunks.specs.Cursor.{IsCursor}
 use Rattle.h5_chunks.specs.Read.{AreChunksRead}
 use Rattle.h5_chunks.specs.declared.cursor.ChunkCursor.{ChunkCursor}
 use Rattle.h5_layout.specs.Data.{AreDataRead, chunk_shape, data_blocks, dataset_told, stored_chunks}
-use Rattle.h5_layout.specs.Described.{Described, HasArray}
 use Rattle.h5_layout.specs.Standing.{IsStandingAt, address_of, blocks_with_cells, cell_blocks}
 use Rattle.h5_layout.specs.Stored.{has_room}
 use Rattle.h5_layout.proofs.StandingLaws.{HasBoxes, IsHeld, box_blocks, boxed, boxes_of, cover_data, held_cell, node_blocks, nowhere, one_cell, stands}

@@ -6,14 +6,13 @@ use Rattle.h5_model.specs.Format.Datatype.{fixed_of}
 use Rattle.h5_model.specs.Format.Fixed.{IsFixed}
 use Rattle.h5_model.specs.Format.Layout.{InChunks, Layout, layout_of}
 use Rattle.h5_model.specs.Format.Messages.{Message}
-use Rattle.h5_model.specs.Format.Reads.{IsChunkSmall}
+use Rattle.h5_model.specs.Format.Described.{IsChunkSmall, Described, HasArray}
 use Rattle.h5_model.specs.Tree.Places.{cells}
 use Rattle.h5_model.proofs.PlainValues.{size-low}
 use Rattle.h5_header.proofs.FoundLaws.{among_some}
 use Rattle.h5_chunks.specs.Shapes.{AreChunkSizes}
 use Rattle.h5_chunks.specs.Edited.{CanBeStored}
 use Rattle.h5_layout.specs.Data.{chunk_shape}
-use Rattle.h5_layout.specs.Described.{Described, HasArray}
 use Rattle.h5_layout.proofs.FillLaws.{type_sound}
 use Rattle.h5_layout.proofs.KeptValues.{chunk_rank}
 use Rattle.h5_layout.proofs.LayoutBodies.{some_rank}

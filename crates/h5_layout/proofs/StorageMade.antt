@@ -9,7 +9,7 @@ use Rattle.h5_model.specs.Format.Cells.{cell_of, cells_of, value_in_chunk}
 use Rattle.h5_model.specs.Format.Chunks.{Chunks, IsOffset}
 use Rattle.h5_model.specs.Format.Fixed.{IsFixed, fits}
 use Rattle.h5_model.specs.Format.Layout.{InChunks, Layout}
-use Rattle.h5_model.specs.Format.Reads.{storage_of}
+use Rattle.h5_model.specs.Format.Described.{storage_of, Described}
 use Rattle.h5_model.specs.Tree.Grid.{corner_of, inner_of}
 use Rattle.h5_model.specs.Tree.Objects.{Storage}
 use Rattle.h5_model.specs.Tree.Places.{IsInside, cells, index_of, place_of}
@@ -22,7 +22,6 @@ use Rattle.h5_chunks.specs.Told.{chunk_blocks_told, chunks_told}
 use Rattle.h5_layout.specs.ArrayChunks.{ArrayChunks}
 use Rattle.h5_layout.specs.ArrayEdits.{IsArrayApart, IsArrayMoved, described_in}
 use Rattle.h5_layout.specs.Data.{AreDataRead, chunk_shape, data_blocks, dataset_told, stored_chunks}
-use Rattle.h5_layout.specs.Described.{Described}
 use Rattle.h5_layout.specs.Filled.{AreToStore, HasFilledChunks, cells_of_fill}
 use Rattle.h5_layout.specs.HeldChunks.{IsChunkMet}
 use Rattle.h5_layout.specs.Lacking.{lacks_cells, stored_all, stored_storage}

@@ -12,13 +12,12 @@ use Rattle.h5_model.specs.Format.Fixed.{Fixed, IsFixed, value_at}
 use Rattle.h5_model.specs.Tree.Places.{cells, index_of}
 use Rattle.h5_model.specs.Tree.Objects.{Storage, Contiguous}
 use Rattle.h5_model.specs.Format.Layout.{Layout, InMessage, InBlock, InChunks}
-use Rattle.h5_model.specs.Format.Reads.{storage_of}
 use Rattle.h5_model.specs.Format.Cells.{cell_of, value_in}
+use Rattle.h5_model.specs.Format.Described.{storage_of, Described, described_dataset}
 use Rattle.h5_model.specs.Scripts.Answers.{stored_values}
 use Rattle.h5_model.proofs.PlainValues.{size-low}
 use Rattle.h5_model.proofs.StoredValues.{length-stored, index-stored}
 use Rattle.h5_model.proofs.ValueLaws.{value_at-moved}
-use Rattle.h5_layout.specs.Described.{Described, described_dataset}
 use Rattle.h5_layout.specs.Stored.{AreFilled, AreStored, IsUnchunked, data_in, has_room}
 use Rattle.h5_layout.proofs.RoomLaws.{data_cell, data_room}
 

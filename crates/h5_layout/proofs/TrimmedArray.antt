@@ -13,6 +13,7 @@ use Rattle.h5_model.specs.Format.Chunks.{Chunks}
 use Rattle.h5_model.specs.Format.Fixed.{Fixed}
 use Rattle.h5_model.specs.Format.Layout.{Layout, InChunks}
 use Rattle.h5_model.specs.Format.Reached.{Shape}
+use Rattle.h5_model.specs.Format.Described.{Described}
 use Rattle.h5_model.specs.Tree.Grid.{corner_of, inner_of}
 use Rattle.h5_model.specs.Tree.Places.{IsInside, cells, index_of, is_inside, place_of}
 use Rattle.h5_model.proofs.PlaceLaws.{index-place, place_below}
@@ -30,7 +31,6 @@ use Rattle.h5_layout.specs.ArrayEdits.{IsArrayApart, IsArrayMoved, described_in}
 use Rattle.h5_chunks.specs.Edited.{AreChunksApart, HasChunksNow}
 use Rattle.h5_chunks.specs.Lists.{offsets_across, reaches_beyond}
 use Rattle.h5_layout.specs.Data.{AreDataRead, chunk_shape, data_blocks, stored_chunks}
-use Rattle.h5_layout.specs.Described.{Described}
 use Rattle.h5_layout.specs.Kept.{slices_kept}
 use Rattle.h5_layout.specs.HeldChunks.{held_chunks}
 use Rattle.h5_layout.specs.Trimmed.{IsTrimmed, IsTrimmedTo, grid_cell}

@@ -3,9 +3,9 @@ use Rattle.std.specs.Prelude.{◌≡◌, ℕ, ◌*◌, ◌^◌, ◌<◌, ◌≤�
 use Rattle.std.specs.List.{AllByRecursion}
 use Rattle.h5_model.specs.Format.Fixed.{Fixed, IsFixed, fits}
 use Rattle.h5_model.specs.Format.Layout.{InChunks, Layout}
+use Rattle.h5_model.specs.Format.Described.{Described}
 use Rattle.h5_model.specs.Tree.Places.{cells}
 use Rattle.h5_chunks.specs.Shapes.{AreChunkSizes}
-use Rattle.h5_layout.specs.Described.{Described}
 
 abbrev pub IsChunked : Layout → Type 0
 IsChunked layout = (chunk : List ℕ) × (root : Option ℕ) × (layout ≡ InChunks chunk root)

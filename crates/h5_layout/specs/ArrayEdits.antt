@@ -6,6 +6,7 @@ use Rattle.h5_bytes.specs.declared.Block.{Block}
 use Rattle.h5_model.specs.Format.Messages.{Message, prefix_at, reference_count}
 use Rattle.h5_model.specs.Format.Reads.{is_attribute_message, is_kept, kept_of}
 use Rattle.h5_model.specs.Format.Superblock.{chunk_k, k_values, superblock_length}
+use Rattle.h5_model.specs.Format.Described.{Described, HasArray}
 use Rattle.h5_space.specs.Moves.{Moves}
 use Rattle.h5_space.specs.Space.{Space}
 use Rattle.h5_space.specs.Whole.{IsApart}
@@ -14,7 +15,6 @@ use Rattle.h5_header.specs.Kinds.{IsOfDataset}
 use Rattle.h5_header.specs.Listed.{Listed, messages_in}
 use Rattle.h5_header.specs.Standing.{IsStanding}
 use Rattle.h5_layout.specs.Data.{AreDataRead, data_blocks}
-use Rattle.h5_layout.specs.Described.{Described, HasArray}
 use Rattle.h5_layout.specs.Told.{array_told, layout_told, type_told}
 
 -- the array that a header with these messages tells, in an image

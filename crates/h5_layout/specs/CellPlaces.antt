@@ -4,10 +4,10 @@ use Rattle.std.specs.Prelude.{◌≡◌, ℕ, ◌+◌, ◌*◌, ◌<◌, ◌≤�
 use Rattle.h5_header.specs.declared.message.Message.{Message as Placed}
 use Rattle.h5_model.specs.Format.Fixed.{Fixed}
 use Rattle.h5_model.specs.Format.Layout.{Layout, InMessage, InBlock, InChunks}
+use Rattle.h5_model.specs.Format.Described.{Described}
 use Rattle.h5_model.specs.Tree.Places.{cells}
 use Rattle.h5_layout.specs.Compact.{compact_at}
 use Rattle.h5_layout.specs.Data.{chunk_shape}
-use Rattle.h5_layout.specs.Described.{Described}
 use Rattle.h5_layout.specs.GridKept.{GridKept, IsGridKept}
 use Rattle.h5_layout.specs.Standing.{is_stored_cell}
 use Rattle.h5_layout.specs.declared.places.CellStand.{CellStand}

@@ -4,8 +4,8 @@ use Rattle.std.specs.Prelude.{◌≡◌, ℕ, ◌+◌, ◌*◌, ◌==◌, ◌⊎
 use Rattle.std.specs.List.{find}
 use Rattle.h5_model.specs.Format.Layout.{InMessage}
 use Rattle.h5_model.specs.Format.MessageTypes.{data_layout_kind}
+use Rattle.h5_model.specs.Format.Described.{Described}
 use Rattle.h5_header.specs.declared.message.Message.{Message as Placed}
-use Rattle.h5_layout.specs.Described.{Described}
 use Rattle.h5_layout.specs.Standing.{IsStandingAt}
 
 -- the data of a compact layout: in the body of the first Data Layout message, behind its version, its class and the size

@@ -7,11 +7,11 @@ use Rattle.h5_model.specs.Format.Chunks.{Chunks}
 use Rattle.h5_model.specs.Format.Fixed.{Fixed, IsFixed, fits}
 use Rattle.h5_model.specs.Format.Layout.{Layout, InMessage, InBlock, InChunks}
 use Rattle.h5_model.specs.Format.Reached.{Shape}
+use Rattle.h5_model.specs.Format.Described.{Described, described_dataset}
 use Rattle.h5_model.specs.Tree.Objects.{Dataset}
 use Rattle.h5_model.specs.Tree.Places.{cells}
 use Rattle.h5_chunks.specs.Read.{AreChunksRead}
 use Rattle.h5_chunks.specs.Told.{chunks_told, chunk_blocks_told}
-use Rattle.h5_layout.specs.Described.{Described, described_dataset}
 
 -- chunks of these sizes, of as many bytes as their cells take
 abbrev pub chunk_shape : Fixed → List ℕ → Shape

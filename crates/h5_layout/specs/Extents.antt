@@ -5,13 +5,12 @@ use Rattle.h5_model.specs.Edits.Refusal.{is_chunked, some_above}
 use Rattle.h5_model.specs.Format.Extent.{has_maxima}
 use Rattle.h5_model.specs.Format.MessageTypes.{dataspace_kind}
 use Rattle.h5_model.specs.Format.Messages.{Message, first_body}
-use Rattle.h5_model.specs.Format.Reads.{storage_of}
+use Rattle.h5_model.specs.Format.Described.{storage_of, Described}
 use Rattle.h5_model.specs.Tree.Places.{extent_cells}
 use Rattle.h5_space.specs.Space.{Space}
 use Rattle.h5_header.specs.Listed.{Listed, messages_in}
 use Rattle.h5_layout.specs.ArrayEdits.{IsArrayMoved, described_in}
 use Rattle.h5_layout.specs.Data.{stored_chunks}
-use Rattle.h5_layout.specs.Described.{Described}
 use Rattle.h5_layout.specs.Trimmed.{grid_cell}
 
 -- the messages have a Dataspace message, which has no maxima: other sizes need another one

@@ -3,10 +3,11 @@
 use Rattle.std.specs.Prelude.{◌≡◌, ℕ, ℤ, List, [], ◌∷◌, map}
 use Rattle.std.specs.FinMap.{entries, retain_keys}
 use Rattle.std.specs.List.{AllByRecursion, AllZip, Contains, range_with_len}
-use Rattle.h5_model.specs.Edits.Applied.{cell_or_fill, resized}
+use Rattle.h5_model.specs.Edits.Applied.{cell_or_fill, with_sizes}
 use Rattle.h5_model.specs.Format.Chunks.{Chunks, IsOffset}
 use Rattle.h5_model.specs.Format.Fixed.{Fixed}
 use Rattle.h5_model.specs.Format.Links.{Before}
+use Rattle.h5_model.specs.Format.Described.{Described}
 use Rattle.h5_model.specs.Scripts.Reading.{cell_at}
 use Rattle.h5_model.specs.Tree.Grid.{corner_of}
 use Rattle.h5_model.specs.Tree.Objects.{Dataset}
@@ -14,7 +15,6 @@ use Rattle.h5_model.specs.Tree.Places.{IsInside, cells, index_of, is_inside}
 use Rattle.h5_model.specs.Views.Selection.{Selected, Slab}
 use Rattle.h5_chunks.specs.Keys.{index_from}
 use Rattle.h5_layout.specs.Data.{dataset_told, stored_chunks}
-use Rattle.h5_layout.specs.Described.{Described}
 
 -- ---- which chunks
 
@@ -63,5 +63,5 @@ abbrev pub held_cells : List ℕ → Described → List ℕ → List ℕ → Hel
 held_cells image a chunk sizes = record {
   fixed = a.fixed;
   chunk = chunk;
-  parts = map (λ offsets. (offsets, chunk_values (resized sizes (dataset_told image a)) chunk offsets)) (held_chunks sizes (stored_chunks image a.fixed a.layout));
+  parts = map (λ offsets. (offsets, chunk_values (with_sizes sizes (dataset_told image a)) chunk offsets)) (held_chunks sizes (stored_chunks image a.fixed a.layout));
 }

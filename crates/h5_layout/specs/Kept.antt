@@ -9,6 +9,7 @@ use Rattle.h5_model.specs.Format.Cells.{value_in}
 use Rattle.h5_model.specs.Format.Chunks.{Chunks, offsets_in}
 use Rattle.h5_model.specs.Format.Fixed.{Fixed, IsFixed, fits}
 use Rattle.h5_model.specs.Format.Reached.{Shape}
+use Rattle.h5_model.specs.Format.Described.{Described}
 use Rattle.h5_model.specs.Tree.Places.{cells, index_of, is_inside}
 use Rattle.h5_chunks.specs.Held.{IsChunkPlace}
 use Rattle.h5_chunks.specs.Shapes.{AreChunkSizes}
@@ -16,7 +17,6 @@ use Rattle.h5_chunks.specs.Told.{chunks_told}
 use Rattle.h5_chunks.specs.declared.held.ChunkPlace.{ChunkPlace}
 use Rattle.h5_layout.specs.ArrayChunks.{ArrayChunks}
 use Rattle.h5_layout.specs.Data.{chunk_shape}
-use Rattle.h5_layout.specs.Described.{Described}
 use Rattle.h5_layout.specs.HeldChunks.{HeldCells}
 
 -- chunks of these sizes in an image; a cell whose index is below the kept sizes has its value, and another the fill

@@ -3,11 +3,11 @@
 use Rattle.std.specs.Prelude.{◌≡◌, ℕ, Bool, false, true, nat_lt, not, Option, Some, None, List}
 use Rattle.std.specs.List.{list_any}
 use Rattle.h5_model.specs.Format.Layout.{Layout, InBlock, InChunks}
+use Rattle.h5_model.specs.Format.Described.{Described}
 use Rattle.h5_model.specs.Tree.Objects.{Dataset, Storage, Compact, Contiguous, Chunked}
 use Rattle.h5_model.specs.Tree.Places.{cells}
 use Rattle.h5_model.specs.Views.Selection.{Slab, selection_of}
 use Rattle.h5_layout.specs.ArrayChunks.{IsInChunksOf}
-use Rattle.h5_layout.specs.Described.{Described}
 use Rattle.h5_layout.specs.NewChunks.{AreMissing}
 use Rattle.h5_layout.specs.Standing.{is_stored_cell}
 use Rattle.h5_layout.specs.declared.lacking.Missing.{Missing}

@@ -5,7 +5,6 @@ pub mod CellPlaces
 pub mod Compact
 pub mod ChunkCells
 pub mod Data
-pub mod Described
 pub mod Extents
 pub mod FoundChunks
 pub mod GridKept

@@ -4,9 +4,9 @@ use Rattle.std.specs.FinMap.{get}
 use Rattle.std.specs.List.{Contains}
 use Rattle.h5_model.specs.Tree.Places.{cells}
 use Rattle.h5_model.specs.Views.Selection.{Slab, Within}
+use Rattle.h5_model.specs.Format.Described.{Described}
 pub use Rattle.h5_chunks.specs.Lists.{ChunkOffsets}
 use Rattle.h5_layout.specs.Data.{stored_chunks}
-use Rattle.h5_layout.specs.Described.{Described}
 use Rattle.h5_layout.specs.HeldChunks.{AreRising, IsChunkMet}
 
 -- These are the chunks of the array, ascending, that hold a selected cell and are not stored. Each selected cell is one of the array.

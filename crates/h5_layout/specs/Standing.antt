@@ -6,10 +6,10 @@ use Rattle.h5_bytes.specs.declared.Block.{Block}
 use Rattle.h5_model.specs.Format.Chunks.{Chunks}
 use Rattle.h5_model.specs.Format.Fixed.{Fixed}
 use Rattle.h5_model.specs.Format.Layout.{Layout, InMessage, InBlock, InChunks}
+use Rattle.h5_model.specs.Format.Described.{Described}
 use Rattle.h5_model.specs.Tree.Grid.{corner_of, inner_of}
 use Rattle.h5_model.specs.Tree.Places.{cells, index_of, place_of}
 use Rattle.h5_layout.specs.Data.{stored_chunks}
-use Rattle.h5_layout.specs.Described.{Described}
 
 -- the address of the cell at an index, in the block of the data or in its chunk, where it is stored there
 abbrev pub address_of : Fixed → List ℕ → Layout → Chunks → List ℕ → Option ℕ

@@ -6,8 +6,8 @@ use Rattle.h5_model.specs.Edits.Refusal.{is_chunked}
 use Rattle.h5_model.specs.Format.Chunks.{Chunks}
 use Rattle.h5_model.specs.Format.Layout.{Layout, InChunks}
 use Rattle.h5_model.specs.Format.Reached.{Shape, level_at, shape_kind}
-use Rattle.h5_model.specs.Format.Reads.{storage_of}
 use Rattle.h5_model.specs.Format.Superblock.{chunk_k, k_values}
+use Rattle.h5_model.specs.Format.Described.{storage_of, Described}
 use Rattle.h5_model.specs.Tree.Places.{cells}
 use Rattle.h5_model.specs.Views.Selection.{Slab}
 use Rattle.h5_space.specs.Space.{Space}
@@ -17,7 +17,6 @@ use Rattle.h5_chunks.specs.Edited.{AreChunksApart, IsFullAt, chunk_node_length}
 use Rattle.h5_chunks.specs.Told.{chunks_told}
 use Rattle.h5_layout.specs.ArrayEdits.{IsArrayMoved, described_in}
 use Rattle.h5_layout.specs.Data.{chunk_shape, dataset_told}
-use Rattle.h5_layout.specs.Described.{Described}
 use Rattle.h5_layout.specs.Lacking.{lacks_cells, stored_all}
 use Rattle.h5_layout.specs.Trimmed.{IsTrimmed}
 use Rattle.h5_layout.specs.declared.lacking.Missing.{Missing}

@@ -2,10 +2,10 @@
 use Rattle.std.specs.Prelude.{◌≡◌, ◌≢◌, ℕ, ◌+◌, ◌*◌, ◌^◌, ◌≤◌, ◌==◌, Bool, true, false, nat_le, Option, None, Some, List, length, replicate}
 use Rattle.h5_model.specs.Tree.Places.{cells, extent_cells}
 use Rattle.h5_model.specs.Format.Layout.{Layout, InMessage, InBlock, InChunks}
+use Rattle.h5_model.specs.Format.Described.{Described}
 use Rattle.h5_bytes.specs.Bytes.{part}
 use Rattle.h5_model.specs.Scripts.Answers.{stored_values}
 use Rattle.h5_model.specs.Tree.Objects.{Dataset, Contiguous}
-use Rattle.h5_layout.specs.Described.{Described}
 use Rattle.h5_layout.specs.Judged.{is_chunk_large}
 
 -- the data that a layout names have room for cells of these sizes and so many bytes; of chunks there are as many sizes

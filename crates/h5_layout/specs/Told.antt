@@ -7,7 +7,7 @@ use Rattle.h5_model.specs.Format.Extent.{Extent}
 use Rattle.h5_model.specs.Format.Fill.{fill_value, old_fill_value, chosen_fill}
 use Rattle.h5_model.specs.Format.Layout.{Layout, InBlock}
 use Rattle.h5_model.specs.Format.Reached.{extent_among, type_among, layout_among}
-use Rattle.h5_layout.specs.Described.{Described, array_of}
+use Rattle.h5_model.specs.Format.Described.{Described, array_of}
 
 -- what a message that is missing or malformed would tell is that of one cell of one byte, which is stored nowhere
 abbrev pub extent_told : List Message → Extent

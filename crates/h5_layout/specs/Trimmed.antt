@@ -4,6 +4,7 @@ use Rattle.std.specs.FinMap.{get}
 use Rattle.h5_model.specs.Format.Cells.{cell_of}
 use Rattle.h5_model.specs.Format.Layout.{InChunks}
 use Rattle.h5_model.specs.Format.Plain.{cells_bytes}
+use Rattle.h5_model.specs.Format.Described.{Described}
 use Rattle.h5_model.specs.Tree.Places.{IsInside, cells, is_inside}
 use Rattle.h5_space.specs.Space.{Space}
 use Rattle.h5_header.specs.Listed.{Listed, messages_in}
@@ -11,7 +12,6 @@ use Rattle.h5_chunks.specs.Lists.{ChunkOffsets, offsets_across, offsets_outside}
 use Rattle.h5_layout.specs.ArrayChunks.{ArrayChunks}
 use Rattle.h5_layout.specs.ArrayEdits.{IsArrayMoved, described_in}
 use Rattle.h5_layout.specs.Data.{stored_chunks}
-use Rattle.h5_layout.specs.Described.{Described}
 use Rattle.h5_layout.specs.Kept.{corner_values, slices_kept}
 use Rattle.h5_layout.specs.declared.trimmed.Outside.{Outside}
 

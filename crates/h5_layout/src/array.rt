@@ -7,8 +7,8 @@ ghost use Rattle.h5_bytes.specs.Bytes.{part};
 ghost use Rattle.h5_model.specs.Format.Fixed.{fits};
 ghost use Rattle.h5_model.specs.Tree.Places.{cells as cells_of, IsInside};
 ghost use Rattle.h5_model.specs.Format.Cells.{value_in as value_at_place};
+ghost use Rattle.h5_model.specs.Format.Described.{array_of, described_dataset};
 ghost use Rattle.h5_msg.specs.Layouts.{layout_in};
-ghost use Rattle.h5_layout.specs.Described.{array_of, described_dataset};
 ghost use Rattle.h5_layout.specs.Stored.{AreFilled, AreStored, IsArray, IsUnchunked, data_in};
 
 use h5_bytes::Block;
@@ -42,7 +42,7 @@ impl<'a> Model for ArrayRef<'a> {
     ghost use Rattle.std.specs.Prelude.{◌≡◌, true};
     ghost use Rattle.h5_model.specs.Format.Fixed.{fits};
     ghost use Rattle.h5_msg.specs.Layouts.{layout_in};
-    ghost use Rattle.h5_layout.specs.Described.{Described, array_of};
+    ghost use Rattle.h5_model.specs.Format.Described.{Described, array_of};
     ghost use Rattle.h5_layout.specs.Maxima.{AreMaximaOf, maxima_in};
     ghost use Rattle.h5_layout.specs.Stored.{IsArray};
 

@@ -13,15 +13,9 @@ ghost use Rattle.h5_layout.specs.Extents.{CanHaveSizes, HasExtentRoom, HasSizesN
 use crate::bodies::one_body;
 use h5_header::{Messages, find_message};
 use h5_model::message_type::DATASPACE;
-use h5_msg::{dataspace_length, read_dataspace, write_bounded_dataspace};
+use h5_msg::{dataspace_length, has_maxima, read_dataspace, write_bounded_dataspace};
 use h5_shape::MAX_RANK;
 use h5_space::Image;
-
-/// Where the flags of a Dataspace message stand in its body.
-const FLAGS: usize = 2;
-
-/// The flags of a Dataspace message that has maxima.
-const HAS_MAXIMA: u8 = 1;
 
 /// Whether the Dataspace message of an array has no maxima, so that other sizes need another message. Takes no memory.
 ///
@@ -30,7 +24,7 @@ pub fn lacks_maxima(image: &Image, messages: &Messages) -> bool
     requires array { IsArrayApart image.now messages.now }
     ensures { result ≡ lacks_any (messages_in image.now.bytes messages.now.list) }
 {
-    one_body(image, messages, DATASPACE)[FLAGS] != HAS_MAXIMA
+    !has_maxima(one_body(image, messages, DATASPACE))
 }
 
 /// Gives an array in chunks other sizes in its header, where that stands. Its chunks stay. Takes no memory.
@@ -75,7 +69,7 @@ fn read_maxima<'a>(
     for k in 0..rank {
         room[k] = extent.maximum(k);
     }
-    (body[FLAGS] != HAS_MAXIMA, &room[..rank])
+    (!has_maxima(body), &room[..rank])
 }
 
 /// The sizes of an array as its Dataspace message has them, written to the front of `room`. No other message is read.

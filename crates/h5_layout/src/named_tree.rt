@@ -4,7 +4,7 @@
 ghost use Rattle.std.specs.Prelude.{◌≡◌, ℕ, Option, List, true, is_none};
 ghost use Rattle.h5_model.specs.Edits.Refusal.{is_chunked};
 ghost use Rattle.h5_model.specs.Format.Layout.{InChunks};
-ghost use Rattle.h5_model.specs.Format.Reads.{storage_of};
+ghost use Rattle.h5_model.specs.Format.Described.{storage_of};
 ghost use Rattle.h5_layout.specs.ArrayEdits.{IsArrayApart, described_in};
 ghost use Rattle.h5_layout.specs.Trimmed.{IsTrimmed};
 

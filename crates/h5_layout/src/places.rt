@@ -8,7 +8,7 @@ ghost use Rattle.h5_header.specs.declared.message.Message.{Message as Placed};
 ghost use Rattle.h5_layout.specs.CellPlaces.{ArePlacesOf, DoStandAs, IsStoredAmong};
 ghost use Rattle.h5_layout.specs.Compact.{IsRunAt};
 ghost use Rattle.h5_layout.specs.Data.{AreDataRead};
-ghost use Rattle.h5_layout.specs.Described.{Described, HasArray};
+ghost use Rattle.h5_model.specs.Format.Described.{Described, HasArray};
 ghost use Rattle.h5_layout.specs.Told.{array_told};
 
 use crate::address::StoredRun;

@@ -2,10 +2,10 @@
 
 ghost use Rattle.std.specs.Prelude.{◌≡◌, Ok, Some, true, length, IfOk, IfErr};
 ghost use Rattle.h5_model.specs.Format.Fixed.{IsFixed, fits};
+ghost use Rattle.h5_model.specs.Format.Described.{Described, HasArray, HasFill};
 ghost use Rattle.h5_model.specs.Faults.HeaderFaults.{ListBreach};
 ghost use Rattle.h5_header.specs.Kinds.{IsOfDataset};
 ghost use Rattle.h5_header.specs.Listed.{messages_in, IsWithin};
-ghost use Rattle.h5_layout.specs.Described.{Described, HasArray, HasFill};
 ghost use Rattle.h5_layout.specs.Judged.{breach_in, fill_breach};
 ghost use Rattle.h5_layout.specs.Told.{array_told};
 

@@ -1,7 +1,7 @@
 //! An array of other sizes (File Format Specification 3.0, section IV.A.2.b).
 
 ghost use Rattle.std.specs.Prelude.{◌≡◌, length};
-ghost use Rattle.h5_layout.specs.Described.{array_of};
+ghost use Rattle.h5_model.specs.Format.Described.{array_of};
 ghost use Rattle.h5_layout.specs.Stored.{IsArray};
 
 use crate::array::ArrayRef;

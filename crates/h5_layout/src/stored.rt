@@ -4,10 +4,10 @@ ghost use Rattle.std.specs.Prelude.{◌≡◌, ◌+◌, ◌^◌, ◌<◌, ◌≤
 ghost use Rattle.h5_model.specs.Edits.Refusal.{is_chunked};
 ghost use Rattle.h5_model.specs.Tree.Objects.{Chunked};
 ghost use Rattle.h5_model.specs.Tree.Places.{IsInside, cells as cells_of};
-ghost use Rattle.h5_model.specs.Format.Reads.{storage_of};
 ghost use Rattle.h5_model.specs.Scripts.Reading.{cell_at};
 ghost use Rattle.h5_model.specs.Views.Selection.{Within, is_one_run, selection_of};
 ghost use Rattle.h5_model.specs.Views.Shown.{is_in_line, is_lent, selected_values};
+ghost use Rattle.h5_model.specs.Format.Described.{storage_of};
 ghost use Rattle.h5_shape.specs.Runs.{cell_runs};
 ghost use Rattle.h5_layout.specs.Data.{AreDataRead, IsSoundDataset, dataset_told};
 ghost use Rattle.h5_layout.specs.Lent.{AreInLine, IsLent, IsStandingSelection};

@@ -3,9 +3,8 @@
 
 ghost use Rattle.std.specs.Prelude.{◌≡◌, ◌<◌, ◌≤◌, Some, length, slice_get, slice_index};
 ghost use Rattle.h5_model.specs.Edits.Refusal.{is_chunked};
-ghost use Rattle.h5_model.specs.Format.Reads.{storage_of};
+ghost use Rattle.h5_model.specs.Format.Described.{Described, HasArray, storage_of};
 ghost use Rattle.h5_header.specs.Listed.{messages_in, IsWithin};
-ghost use Rattle.h5_layout.specs.Described.{Described, HasArray};
 ghost use Rattle.h5_layout.specs.StoredExtent.{stored_extent};
 ghost use Rattle.h5_layout.specs.Told.{array_told};
 

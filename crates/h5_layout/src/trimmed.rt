@@ -6,7 +6,7 @@ ghost use Rattle.std.specs.FinMap.{get};
 ghost use Rattle.h5_bytes.specs.Bytes.{part};
 ghost use Rattle.h5_model.specs.Edits.Refusal.{is_chunked};
 ghost use Rattle.h5_model.specs.Format.Chunks.{offsets_in};
-ghost use Rattle.h5_model.specs.Format.Reads.{storage_of};
+ghost use Rattle.h5_model.specs.Format.Described.{storage_of};
 ghost use Rattle.h5_chunks.specs.Read.{AreChunksRead};
 ghost use Rattle.h5_chunks.specs.Told.{chunks_told};
 ghost use Rattle.h5_space.specs.Lending.{with_bytes_at};

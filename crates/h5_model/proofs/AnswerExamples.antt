@@ -5,7 +5,7 @@ use Rattle.std.specs.Fmt.{digits}
 use Rattle.h5_model.specs.Format.Fixed.{bytes_of, raw_at, value_at}
 use Rattle.h5_model.specs.Tree.Objects.{Tree, ToObject, Soft, Compact, within_names}
 use Rattle.h5_model.specs.Tree.Paths.{names_of}
-use Rattle.h5_model.specs.Edits.Applied.{applied, named_object}
+use Rattle.h5_model.specs.Edits.Applied.{with_edit, named_object}
 use Rattle.h5_model.specs.Edits.Refusal.{refusal_of}
 use Rattle.h5_model.specs.Edits.Touched.{touched_by}
 use Rattle.h5_model.specs.Views.Selection.{selection_of}
@@ -84,13 +84,13 @@ shown_as_lent = simp known
 -- a script: the view is opened, its cell written, and what it then sees is shown
 seen : transcript_of (nested 0) ((OpenView (codes "/g/h/x") scalar, None) ∷ (Change (Write (codes "/g/h/x") scalar (pos 9 ∷ [])), None) ∷ (Show 0, None) ∷ [])
     ≡ codes "view 0\nok 0\nlent 9\n"
-unfolding transcript_of refusal_of names_of applied selection_of bytes_of value_at raw_at digits
+unfolding transcript_of refusal_of names_of with_edit selection_of bytes_of value_at raw_at digits
 seen = simp known
 
 -- ---- how lines count
 
 counted : outcomes_of new_file ((Change (CreateGroup (codes "/g")), None) ∷ (Change (CreateGroup (codes "/g")), None) ∷ []) ≡ Accepted ∷ Refused ∷ []
-unfolding applied refusal_of names_of digits
+unfolding with_edit refusal_of names_of digits
 counted = simp known
 
 others_counted : outcomes_of (nested 0) ((Show 0, None) ∷ (ListAll, None) ∷ (Repack, None) ∷ (Unread, None) ∷ []) ≡ Refused ∷ Told ∷ Accepted ∷ Refused ∷ []

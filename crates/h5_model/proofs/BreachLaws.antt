@@ -10,7 +10,7 @@ use Rattle.h5_bytes.specs.Bytes.{number_at, byte_at}
 use Rattle.h5_model.specs.Format.Superblock.{IsSuperblock, base_place, chunk_field, chunk_k, driver_place, end_field, end_of_file, has_chunk_k, length_with, superblock_length}
 use Rattle.h5_model.specs.Tree.Objects.{Tree}
 use Rattle.h5_model.specs.Format.Reads.{Reads}
-use Rattle.h5_model.specs.Faults.Breaches.{cut, FieldBreach, StartBreach, SuperblockBreach}
+use Rattle.h5_model.specs.Faults.Breaches.{up_to_end, FieldBreach, StartBreach, SuperblockBreach}
 use Rattle.h5_model.specs.declared.open_fault.Cause.{Cause}
 use Rattle.h5_model.specs.declared.open_fault.Cause.TheVariants.{NotHdf5, Truncated, SuperblockVersion, FieldSizes, BaseAddress, Driver, KRange, TooLarge}
 use Rattle.h5_model.proofs.CutLaws.{cut_part, cut_byte, cut_number, cut_version}
@@ -29,44 +29,44 @@ field_low : (has : Bool) → chunk_field has ≤ 4
 field_low true = omega arith
 field_low false = omega arith
 
-module _ (bytes : List ℕ) (is : IsSuperblock (cut bytes)) where
+module _ (bytes : List ℕ) (is : IsSuperblock (up_to_end bytes)) where
   room : (96 ≤ end_of_file bytes) × (96 ≤ length bytes)
   room = let whole = is.whole in let len = length-take (end_of_file bytes) bytes in (omega arith, omega arith)
 
-  version : has_chunk_k (cut bytes) ≡ has_chunk_k bytes
+  version : has_chunk_k (up_to_end bytes) ≡ has_chunk_k bytes
   version = cut_version bytes 96 room.0 room.1 (omega arith)
 
-  whole : superblock_length bytes ≤ length (cut bytes)
-  whole = subst (λ has. length_with has ≤ length (cut bytes)) version is.whole
+  whole : superblock_length bytes ≤ length (up_to_end bytes)
+  whole = subst (λ has. length_with has ≤ length (up_to_end bytes)) version is.whole
 
   long : (superblock_length bytes ≤ end_of_file bytes) × (superblock_length bytes ≤ length bytes)
   long = let len = length-take (end_of_file bytes) bytes in (omega (arith, whole), omega (arith, whole))
 
   -- a field of the superblock is that of all bytes
-  same_number : (at size : ℕ) → at + size ≤ superblock_length bytes → number_at (cut bytes) at size ≡ number_at bytes at size
+  same_number : (at size : ℕ) → at + size ≤ superblock_length bytes → number_at (up_to_end bytes) at size ≡ number_at bytes at size
   same_number = cut_number bytes (superblock_length bytes) long.0 long.1
 
   -- a byte of the superblock that is right in the image is right in the bytes
-  right_byte : (p at right : ℕ) → p < 96 → at ≡ p → byte_at (cut bytes) p ≡ right → byte_at bytes at ≡ right
+  right_byte : (p at right : ℕ) → p < 96 → at ≡ p → byte_at (up_to_end bytes) p ≡ right → byte_at bytes at ≡ right
   right_byte p at right low e good = ap (byte_at bytes) e ∙ sym (cut_byte bytes 96 room.0 room.1 p low) ∙ good
 
-  same_end : end_of_file (cut bytes) ≡ end_of_file bytes
-  same_end = ap (λ has. number_at (cut bytes) (40 + chunk_field has) 8) version ∙ same_number (end_field bytes).at 8 (omega arith)
+  same_end : end_of_file (up_to_end bytes) ≡ end_of_file bytes
+  same_end = ap (λ has. number_at (up_to_end bytes) (40 + chunk_field has) 8) version ∙ same_number (end_field bytes).at 8 (omega arith)
 
   ranged : (p at : ℕ) → at ≡ p → p + 2 ≤ superblock_length bytes → ((number_at bytes at 2 ≡ 0) ⊎ (32767 < number_at bytes at 2))
-      → 1 ≤ number_at (cut bytes) p 2 → number_at (cut bytes) p 2 ≤ 32767 → ⊥
+      → 1 ≤ number_at (up_to_end bytes) p 2 → number_at (up_to_end bytes) p 2 ≤ 32767 → ⊥
   ranged p at e inside bad low high =
-      let same : number_at (cut bytes) p 2 ≡ number_at bytes at 2 = same_number p 2 inside ∙ ap (λ (q : ℕ). number_at bytes q 2) (sym e) in
+      let same : number_at (up_to_end bytes) p 2 ≡ number_at bytes at 2 = same_number p 2 inside ∙ ap (λ (q : ℕ). number_at bytes q 2) (sym e) in
       elim bad [ inl none ↦ absurd (omega arith) | inr large ↦ absurd (omega arith) ]
 
-  newer : (has : Bool) → has_chunk_k (cut bytes) ≡ has → (at : ℕ) → IsTrue (list_any (λ p. p == at) (16 ∷ 18 ∷ (if has then 24 ∷ [] else [])))
+  newer : (has : Bool) → has_chunk_k (up_to_end bytes) ≡ has → (at : ℕ) → IsTrue (list_any (λ p. p == at) (16 ∷ 18 ∷ (if has then 24 ∷ [] else [])))
       → ((number_at bytes at 2 ≡ 0) ⊎ (32767 < number_at bytes at 2)) → ⊥
   newer false none at among bad = elim (one_of_two 16 18 at among) [
     | inl e ↦ ranged 16 at e (omega arith) bad is.leaf_low is.leaf_high
     | inr e ↦ ranged 18 at e (omega arith) bad is.internal_low is.internal_high
   ]
   newer true has at among bad =
-      let k : chunk_k (cut bytes) ≡ number_at (cut bytes) 24 2 = rw has refl in
+      let k : chunk_k (up_to_end bytes) ≡ number_at (up_to_end bytes) 24 2 = rw has refl in
       elim (one_of_three 16 18 24 at among) [
         | inl (inl e) ↦ ranged 16 at e (omega arith) bad is.leaf_low is.leaf_high
         | inl (inr e) ↦ ranged 18 at e (omega arith) bad is.internal_low is.internal_high
@@ -87,10 +87,10 @@ module _ (bytes : List ℕ) (is : IsSuperblock (cut bytes)) where
     | inr e ↦ h.1 (right_byte 14 at 8 (omega arith) e is.length_size)
   ]
   field BaseAddress at h =
-      h.1 (ap (λ p. number_at bytes p 8) h.0 ∙ sym (same_number (base_place bytes) 8 (omega arith)) ∙ ap (λ has. number_at (cut bytes) (24 + chunk_field has) 8) (sym version) ∙ is.base)
+      h.1 (ap (λ p. number_at bytes p 8) h.0 ∙ sym (same_number (base_place bytes) 8 (omega arith)) ∙ ap (λ has. number_at (up_to_end bytes) (24 + chunk_field has) 8) (sym version) ∙ is.base)
   field Driver at h =
-      h.1 (ap (λ p. number_at bytes p 8) h.0 ∙ sym (same_number (driver_place bytes) 8 (omega arith)) ∙ ap (λ has. number_at (cut bytes) (48 + chunk_field has) 8) (sym version) ∙ is.driver)
-  field KRange at h = newer (has_chunk_k (cut bytes)) refl at (subst (λ has. IsTrue (list_any (λ p. p == at) (16 ∷ 18 ∷ (if has then 24 ∷ [] else [])))) (sym version) h.0) h.1
+      h.1 (ap (λ p. number_at bytes p 8) h.0 ∙ sym (same_number (driver_place bytes) 8 (omega arith)) ∙ ap (λ has. number_at (up_to_end bytes) (48 + chunk_field has) 8) (sym version) ∙ is.driver)
+  field KRange at h = newer (has_chunk_k (up_to_end bytes)) refl at (subst (λ has. IsTrue (list_any (λ p. p == at) (16 ∷ 18 ∷ (if has then 24 ∷ [] else [])))) (sym version) h.0) h.1
   field TooLarge at h = absurd (omega (arith, is.small, same_end, h.1))
   field _ at h = absurd h
 
@@ -105,5 +105,5 @@ module _ (bytes : List ℕ) (is : IsSuperblock (cut bytes)) where
 
 -- where the superblock breaks a rule, the bytes read as no tree
 pub superblock_breach_excludes : (bytes : List ℕ) (cause : Cause) (at : ℕ) → SuperblockBreach bytes cause at
-    → (table : FinMap nat_cmp ℕ) (tree : Tree) → Reads (cut bytes) table tree → ⊥
+    → (table : FinMap nat_cmp ℕ) (tree : Tree) → Reads (up_to_end bytes) table tree → ⊥
 superblock_breach_excludes bytes cause at h table tree reads = no_breach bytes reads.1.holds.superblock cause at h

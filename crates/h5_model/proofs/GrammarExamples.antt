@@ -1,7 +1,7 @@
 -- How lines of a script are read, by computation.
 use Rattle.std.proofs.Common.{◌≡◌, [], ◌∷◌, refl, true, false, Some, None, pos, negsuc, codes}
 use Rattle.std.specs.Fmt.{digits}
-use Rattle.h5_model.specs.Scripts.Lines.{Change, OpenView, Show, Close, ListAll, Dump, Repack, Unread, u64_from, u32_from, value_from, list_from, size_from, store_from, unescaped, type_from, line_asks, commands_of, finished}
+use Rattle.h5_model.specs.Scripts.Lines.{Change, OpenView, Show, Close, ListAll, Dump, Repack, Unread, u64_from, u32_from, value_from, list_from, size_from, store_from, unescaped_text, type_from, line_asks, commands_of, finished_lines}
 use Rattle.h5_model.specs.declared.dataset.Store.TheVariants as store
 use Rattle.h5_model.specs.declared.edits.Edit.TheVariants.{CreateGroup, SoftLink, Resize}
 
@@ -54,20 +54,20 @@ no_chunk_sizes : store_from (codes "chunked:-") ≡ Some (store.Chunked [])
 no_chunk_sizes = refl
 
 -- an escape of any byte is read; its digits are lower-case, and such a raw byte or a wrong escape is refused
-escaped_slash : unescaped (codes "a\\x2fb") ≡ Some (codes "a/b")
-unfolding unescaped
+escaped_slash : unescaped_text (codes "a\\x2fb") ≡ Some (codes "a/b")
+unfolding unescaped_text
 escaped_slash = refl
 
-upper_case : unescaped (codes "\\x2F") ≡ None
-unfolding unescaped
+upper_case : unescaped_text (codes "\\x2F") ≡ None
+unfolding unescaped_text
 upper_case = refl
 
-cut_short : unescaped (codes "\\x2") ≡ None
-unfolding unescaped
+cut_short : unescaped_text (codes "\\x2") ≡ None
+unfolding unescaped_text
 cut_short = refl
 
-raw_byte : unescaped (97 ∷ 255 ∷ []) ≡ None
-unfolding unescaped
+raw_byte : unescaped_text (97 ∷ 255 ∷ []) ≡ None
+unfolding unescaped_text
 raw_byte = refl
 
 high_first : type_from (codes "u16be") ≡ Some (record { size = 2; signed = false; big = true })
@@ -88,38 +88,38 @@ unfolding line_asks
 empty_line = refl
 
 two_spaces : line_asks (codes "group  /a") ≡ Some Unread
-unfolding line_asks unescaped
+unfolding line_asks unescaped_text
 two_spaces = refl
 
 upper_word : line_asks (codes "Group /a") ≡ Some Unread
-unfolding line_asks unescaped
+unfolding line_asks unescaped_text
 upper_word = refl
 
 one_word_more : line_asks (codes "ls /") ≡ Some Unread
-unfolding line_asks unescaped
+unfolding line_asks unescaped_text
 one_word_more = refl
 
 -- the words of a line in their order
 soft : line_asks (codes "soft to /s") ≡ Some (Change (SoftLink (codes "to") (codes "/s")))
-unfolding line_asks unescaped
+unfolding line_asks unescaped_text
 soft = refl
 
 resize : line_asks (codes "resize /c 5,4") ≡ Some (Change (Resize (codes "/c") (5 ∷ 4 ∷ [])))
-unfolding line_asks unescaped
+unfolding line_asks unescaped_text
 resize = refl
 
 view : line_asks (codes "view /c 1 2 3 4") ≡ Some (OpenView (codes "/c") (record { start = 1 ∷ []; stride = 2 ∷ []; count = 3 ∷ []; block = 4 ∷ [] }))
-unfolding line_asks unescaped
+unfolding line_asks unescaped_text
 view = refl
 
 -- a script's lines; the last may lack its end
 whole : commands_of (codes "group /g\n\n# more\nshow 0\nclose 1\nls\ndump /\nrepack") ≡ Change (CreateGroup (codes "/g")) ∷ Show 0 ∷ Close 1 ∷ ListAll ∷ Dump (codes "/") ∷ Repack ∷ []
-unfolding commands_of line_asks unescaped
+unfolding commands_of line_asks unescaped_text
 whole = refl
 
 -- what is left of a script that is cut: the lines that end
-cut : finished (codes "ls\nrep") ≡ codes "ls\n"
+cut : finished_lines (codes "ls\nrep") ≡ codes "ls\n"
 cut = refl
 
-cut_at_end : finished (codes "ls\nls\n") ≡ codes "ls\nls\n"
+cut_at_end : finished_lines (codes "ls\nls\n") ≡ codes "ls\nls\n"
 cut_at_end = refl

@@ -3,7 +3,7 @@ use Rattle.std.proofs.Common.{◌≡◌, ℕ, List, [], ◌∷◌, length, refl,
 use Rattle.std.specs.Option.{option_map_or, option_and_then}
 use Rattle.std.specs.FinMap.{get}
 use Rattle.h5_model.specs.Tree.Objects.{Tree, Link, ToObject, Soft, follow, links_of}
-use Rattle.h5_model.specs.Tree.Paths.{names_of, locate, located, Located, Here, Missing, NoParent, NoGroup, NoPath, missing_before, parent_from}
+use Rattle.h5_model.specs.Tree.Paths.{names_of, locate, location_of, Located, Here, Missing, NoParent, NoGroup, NoPath, missing_before, parent_from}
 use Rattle.h5_model.specs.declared.edit_fault.EditFault.{EditFault}
 use Rattle.h5_model.specs.declared.edit_fault.EditFault.TheVariants as fault
 use Rattle.h5_model.specs.Edits.Refusal.{first_holding, is_deep, has_no_parent, has_no_group, is_missing}
@@ -78,7 +78,7 @@ first_at false NoPath h = absurd (cc)
 
 -- the first rule that holds of a path is that of what it leads to, but that a deep path is refused as such
 pub first_of_path_rules : (tree : Tree) (path : List ℕ)
-    → first_holding (path_rules tree path) ≡ cond (is_deep path) (Some fault.PathTooDeep) (refusal_at (located tree path))
+    → first_holding (path_rules tree path) ≡ cond (is_deep path) (Some fault.PathTooDeep) (refusal_at (location_of tree path))
 first_of_path_rules tree path = elim (names_of path) as (λ o.
     let at = option_map_or (λ names. locate tree (ToObject 0) names) o NoPath in
     let deep = option_map_or (λ names. nat_lt 64 (length names)) o false in
@@ -133,7 +133,7 @@ parent_of-has_parent tree (ToObject number) name (next ∷ names) h = elim (link
           ]
     ] h
 
-pub located-is_place : (tree : Tree) (path : List ℕ) → is_none (names_of path) ≡ false → is_place (located tree path) ≡ true
+pub located-is_place : (tree : Tree) (path : List ℕ) → is_none (names_of path) ≡ false → is_place (location_of tree path) ≡ true
 located-is_place tree path h = elim (names_of path) as (λ o. is_none o ≡ false → is_place (option_map_or (λ names. locate tree (ToObject 0) names) o NoPath) ≡ true) [
   | None ↦ λ no. absurd (cc)
   | Some names ↦ λ _. locate-is_place tree (ToObject 0) names

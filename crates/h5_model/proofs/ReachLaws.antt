@@ -12,8 +12,9 @@ use Rattle.std.specs.List.{list_any, flat_map, filter_map}
 use Rattle.std.specs.Option.{option_map_or, option_and_then}
 use Rattle.std.proofs.lemmas.List.Folds.{list_any-append}
 use Rattle.std.proofs.lemmas.List.Concat.{flat_map-cons}
+use Rattle.std.proofs.lemmas.Bool.{or_right, or_cases}
 use Rattle.h5_model.specs.Tree.Objects.{Tree, Link, ToObject, Soft, Links, links_of, follow, object_of, named_by, within_names, is_reached}
-use Rattle.h5_model.proofs.RowLaws.{same_number, equal_number, later_of}
+use Rattle.h5_model.proofs.RowLaws.{same_number, equal_number}
 
 -- ---- entries and look-ups
 
@@ -70,13 +71,9 @@ any_there p f x (y ∷ ys) at h = ap (list_any p) (flat_map-cons f y ys) ∙ lis
   or_true true = refl
   or_true false = refl
 
-pub either : (b c : Bool) → (b || c) ≡ true → (b ≡ true) ⊎ (c ≡ true)
-either true c h = inl refl
-either false c h = inr h
-
 any_from : (p : ℕ → Bool) (f : ℕ → List ℕ) (xs : List ℕ) → list_any p (flat_map f xs) ≡ true → (x : ℕ) × Member x xs × (list_any p (f x) ≡ true)
 any_from p f [] h = absurd (cc)
-any_from p f (y ∷ ys) h = elim (either (list_any p (f y)) (list_any p (flat_map f ys)) (sym (ap (list_any p) (flat_map-cons f y ys) ∙ list_any-append p (f y) (flat_map f ys)) ∙ h)) [
+any_from p f (y ∷ ys) h = elim (or_cases (list_any p (f y)) (list_any p (flat_map f ys)) (sym (ap (list_any p) (flat_map-cons f y ys) ∙ list_any-append p (f y) (flat_map f ys)) ∙ h)) [
   | inl here ↦ (y, inl refl, here)
   | inr later ↦ let rest : (x : ℕ) × Member x ys × (list_any p (f x) ≡ true) = any_from p f ys later in (rest.0, inr rest.1, rest.2)
 ]
@@ -133,7 +130,7 @@ unfolding within_names
 within_names-follow tree [] n from number low h = starts tree n from number (same_object from number h)
 within_names-follow tree (name ∷ names) zero from number low h = absurd (omega (arith, low))
 within_names-follow tree (name ∷ names) (suc n) from number low h =
-    later_of (from == number) _ (elim (links_of tree from) as (λ o.
+    or_right (from == number) _ (elim (links_of tree from) as (λ o.
     option_and_then (λ link. follow tree link names) (option_and_then (λ links. get links name) o) ≡ Some (ToObject number)
     → list_any (λ x. x == number) (flat_map (within_names tree n) (option_map_or (λ links. filter_map object_of (values links)) o [])) ≡ true) [
       | None ↦ λ no. absurd (cc)
@@ -169,11 +166,11 @@ longer tree n from next number named rest = elim (links_of tree from) as (λ o. 
 -- and to each that stands there such a path leads
 pub follow-within_names : (tree : Tree) (n from number : ℕ) → list_any (λ x. x == number) (within_names tree n from) ≡ true → Leads tree n from number
 unfolding within_names
-follow-within_names tree zero from number h = elim (either (from == number) false h) [
+follow-within_names tree zero from number h = elim (or_cases (from == number) false h) [
   | inl same ↦ at_once tree zero from number (equal_number from number same)
   | inr never ↦ absurd (cc)
 ]
-follow-within_names tree (suc n) from number h = elim (either (from == number) _ h) [
+follow-within_names tree (suc n) from number h = elim (or_cases (from == number) _ h) [
   | inl same ↦ at_once tree (suc n) from number (equal_number from number same)
   | inr below ↦ let next : (x : ℕ) × Member x (named_by tree from) × (list_any (λ x. x == number) (within_names tree n x) ≡ true)
       = any_from (λ x. x == number) (within_names tree n) (named_by tree from) below in

@@ -3,13 +3,14 @@ use Rattle.std.proofs.Common.{◌≡◌, ℕ, Bool, true, false, cond, List, [],
 use Rattle.std.specs.List.{AllByRecursion, list_any, list_all}
 use Rattle.std.specs.Option.{option_map_or}
 use Rattle.std.proofs.lemmas.Bool.Decides.{nat_tests}
+use Rattle.std.proofs.lemmas.Bool.{not-false}
 use Rattle.h5_model.specs.Format.Fixed.{fits}
 use Rattle.h5_model.specs.Tree.Objects.{Tree, Dataset}
-use Rattle.h5_model.specs.Tree.Paths.{names_of, located, Located, Here, Missing, NoParent, NoGroup, NoPath, dataset_at}
+use Rattle.h5_model.specs.Tree.Paths.{names_of, location_of, Located, Here, Missing, NoParent, NoGroup, NoPath, dataset_at}
 use Rattle.h5_model.specs.Views.Selection.{Slab, axes_of, axes_from, has_rank, is_within, overlaps, selection_of, selected_cells}
 use Rattle.h5_model.specs.Edits.Refusal.{first_holding, rules_of, refusal_of, has_many_objects, has_no_parent, has_no_group, is_missing, is_here}
 use Rattle.h5_model.specs.Edits.Applied.{State, state_after}
-use Rattle.h5_model.specs.Edits.ImageAnswers.{chosen, after_edits}
+use Rattle.h5_model.specs.Edits.ImageAnswers.{refusal_or, after_edits}
 use Rattle.h5_model.specs.Scripts.Sessions.{IsState}
 use Rattle.h5_model.specs.declared.hyperslab.Hyper.{Hyper}
 use Rattle.h5_model.specs.declared.edits.Edit.{Edit}
@@ -41,15 +42,15 @@ has_number tree next edit h =
 pub IsState-accepted : (s : State) (edit : Edit) → IsState s → refusal_of s.tree s.next edit ≡ None → IsState (state_after s edit)
 IsState-accepted s edit is h = IsState-state_after s edit is (has_number s.tree s.next edit h)
 
-pub not_refused : (refusal given : Option EditFault) → is_none (chosen refusal given) ≡ true → refusal ≡ None
+pub not_refused : (refusal given : Option EditFault) → is_none (refusal_or refusal given) ≡ true → refusal ≡ None
 not_refused None given h = refl
 not_refused (Some f) given h = absurd (cc)
 
 -- and so do edits, some of them refused
 pub IsState-after_edits : (s : State) (steps : List (Edit × Option EditFault)) → IsState s → IsState (after_edits s steps)
 IsState-after_edits s [] is = is
-IsState-after_edits s (step ∷ steps) is = elim (is_none (chosen (refusal_of s.tree s.next step.0) step.1)) as (λ b.
-    is_none (chosen (refusal_of s.tree s.next step.0) step.1) ≡ b → IsState (after_edits (cond b (state_after s step.0) s) steps)) [
+IsState-after_edits s (step ∷ steps) is = elim (is_none (refusal_or (refusal_of s.tree s.next step.0) step.1)) as (λ b.
+    is_none (refusal_or (refusal_of s.tree s.next step.0) step.1) ≡ b → IsState (after_edits (cond b (state_after s step.0) s) steps)) [
       | true ↦ λ accepted. IsState-after_edits (state_after s step.0) steps (IsState-accepted s step.0 is (not_refused _ step.1 accepted))
       | false ↦ λ _. IsState-after_edits s steps is
     ] refl
@@ -91,10 +92,6 @@ pub record Writes (d : Dataset) (slab : Slab) (values : List ℤ) : Type 0 where
   pub counted : length values ≡ length (selection_of d.sizes slab)
   pub fitting : list_all (fits d.fixed) values ≡ true
 
-pub true_of : (b : Bool) → not b ≡ false → b ≡ true
-true_of true h = refl
-true_of false h = absurd (cc)
-
 pub same_by : (x y : ℕ) → not (x == y) ≡ false → x ≡ y
 same_by x y h = grind (arith, nat_tests)
 
@@ -105,15 +102,15 @@ accepted_write tree next path hyper values h =
     let rules = none_holds (rules_of tree next (Write path hyper values)) h in
     let form : is_none (names_of path) ≡ false = first_of_or _ _ (first_of_or _ _ (first_of_or _ _ rules.0)) in
     let after_four = rules.1.1.1.1 in
-    let parent : has_no_parent (located tree path) ≡ false = first_of_or _ _ (first_of_or _ _ rules.1.1.1.0) in
-    let group : has_no_group (located tree path) ≡ false = first_of_or _ _ (first_of_or _ _ after_four.0) in
-    let missing : is_missing (located tree path) ≡ false = first_of_or _ _ (first_of_or _ _ after_four.1.0) in
-    let stands : is_here (located tree path) ≡ true = here (located tree path) (located-is_place tree path form) parent group missing in
-    let found : (d : Dataset) × (dataset_at tree path ≡ Some d) = some_of (is_here (located tree path)) (dataset_at tree path) stands (first_of_or _ _ after_four.1.1.1.1.0) in
+    let parent : has_no_parent (location_of tree path) ≡ false = first_of_or _ _ (first_of_or _ _ rules.1.1.1.0) in
+    let group : has_no_group (location_of tree path) ≡ false = first_of_or _ _ (first_of_or _ _ after_four.0) in
+    let missing : is_missing (location_of tree path) ≡ false = first_of_or _ _ (first_of_or _ _ after_four.1.0) in
+    let stands : is_here (location_of tree path) ≡ true = here (location_of tree path) (located-is_place tree path form) parent group missing in
+    let found : (d : Dataset) × (dataset_at tree path ≡ Some d) = some_of (is_here (location_of tree path)) (dataset_at tree path) stands (first_of_or _ _ after_four.1.1.1.1.0) in
     let later = after_four.1.1.1.1.1.1.1 in
-    let rank : has_rank (length (found.0).sizes) hyper ≡ true = true_of _ (sym (ap (λ o. option_map_or (λ (d : Dataset). not (has_rank (length d.sizes) hyper)) o false) found.1) ∙ later.0) in
+    let rank : has_rank (length (found.0).sizes) hyper ≡ true = not-false _ (sym (ap (λ o. option_map_or (λ (d : Dataset). not (has_rank (length d.sizes) hyper)) o false) found.1) ∙ later.0) in
     let apart : list_any overlaps (axes_of hyper) ≡ false = later.1.1.0 in
-    let within : is_within (found.0).sizes (axes_of hyper) ≡ true = true_of _ (sym (ap (λ o. option_map_or (λ (d : Dataset). not (is_within d.sizes (axes_of hyper))) o false) found.1) ∙ later.1.1.1.0) in
+    let within : is_within (found.0).sizes (axes_of hyper) ≡ true = not-false _ (sym (ap (λ o. option_map_or (λ (d : Dataset). not (is_within d.sizes (axes_of hyper))) o false) found.1) ∙ later.1.1.1.0) in
     let ranked : length (axes_of hyper) ≡ length (found.0).sizes = length-axes_of (length (found.0).sizes) hyper rank in
     let many : length values ≡ selected_cells (axes_of hyper) = same_by _ _ later.1.1.1.1.1.1.1.1.1.0 in (
       found.0,
@@ -122,6 +119,6 @@ accepted_write tree next path hyper values h =
         ranked = ranked;
         within = within;
         counted = many ∙ sym (length-selection (found.0).sizes (axes_of hyper) (sym ranked) within apart);
-        fitting = true_of _ (sym (ap (λ o. option_map_or (λ (d : Dataset). not (list_all (fits d.fixed) values)) o false) found.1) ∙ later.1.1.1.1.1.1.1.1.1.1.0);
+        fitting = not-false _ (sym (ap (λ o. option_map_or (λ (d : Dataset). not (list_all (fits d.fixed) values)) o false) found.1) ∙ later.1.1.1.1.1.1.1.1.1.1.0);
       },
     )

@@ -2,13 +2,13 @@
 use Rattle.std.proofs.Common.{◌≡◌, ℕ, List, [], ◌∷◌, map, refl, sym}
 use Rattle.std.specs.FinMap.{entries}
 use Rattle.h5_model.specs.Tree.Objects.{Tree, Link, ToObject, Soft, Content, Group, Array}
-use Rattle.h5_model.specs.Tree.Renumbered.{renumbered, IsRenumbered, DifferInNumbers}
+use Rattle.h5_model.specs.Tree.Renumbered.{renumbered_link, IsRenumbered, DifferInNumbers}
 
-same_link : (link : Link) → renumbered (λ n. n) link ≡ link
+same_link : (link : Link) → renumbered_link (λ n. n) link ≡ link
 same_link (ToObject number) = refl
 same_link (Soft text) = refl
 
-same_links : (es : List (List ℕ × Link)) → es ≡ map (λ e. (e.0, renumbered (λ n. n) e.1)) es
+same_links : (es : List (List ℕ × Link)) → es ≡ map (λ e. (e.0, renumbered_link (λ n. n) e.1)) es
 same_links [] = refl
 same_links (e ∷ es) = λ i. (e.0, sym (same_link e.1) i) ∷ same_links es i
 

@@ -3,7 +3,8 @@ use Rattle.std.proofs.Common.{◌≡◌, ℕ, zero, suc, List, [], ◌∷◌, �
 use Rattle.std.specs.Prelude.{if◌then◌else◌}
 use Rattle.std.specs.List.{AllByRecursion, list_any}
 use Rattle.std.proofs.lemmas.Bool.Decides.{nat_tests}
-use Rattle.h5_bytes.specs.Bytes.{undefined}
+use Rattle.std.proofs.lemmas.Bool.{or_right}
+use Rattle.h5_bytes.specs.Bytes.{undefined_address}
 use Rattle.h5_bytes.proofs.BlockLaws.{all_left, all_right}
 use Rattle.h5_model.specs.Format.Rows.{Reading, only, next_row, IsRow, AreRows, row_below, leaves, nodes}
 
@@ -19,13 +20,9 @@ same_number n = grind (arith, nat_tests)
 pub equal_number : (n at : ℕ) → (n == at) ≡ true → n ≡ at
 equal_number n at h = grind (arith, nat_tests)
 
-pub later_of : (a b : Bool) → b ≡ true → (a || b) ≡ true
-later_of true b h = refl
-later_of false b h = h
-
 listed_more : (y : ℕ) (owned xs : List ℕ) → AreListed owned xs → AreListed (y ∷ owned) xs
 listed_more y owned [] all = tt
-listed_more y owned (x ∷ xs) all = (later_of (y == x) (list_any (λ n. n == x) owned) all.0, listed_more y owned xs all.1)
+listed_more y owned (x ∷ xs) all = (or_right (y == x) (list_any (λ n. n == x) owned) all.0, listed_more y owned xs all.1)
 
 pub all_listed : (owned : List ℕ) → AreListed owned owned
 all_listed [] = tt
@@ -77,11 +74,11 @@ module _ (V W : Reading) where
   under row more same = all_right (λ n. W n ≡ V n) row more same
 
   pub AreRows-same : (level : ℕ) (row : List ℕ) → Agree V W (nodes V level row) → AreRows V level row → AreRows W level row
-  AreRows-same zero row same are = IsRow-same 0 undefined row same are
+  AreRows-same zero row same are = IsRow-same 0 undefined_address row same are
   AreRows-same (suc level) row same are =
       let above = here row (nodes V level (next_row V row)) same in
       let below = under row (nodes V level (next_row V row)) same in
-      (IsRow-same (suc level) undefined row above are.0, rw (next_row-same row above) (AreRows-same level (next_row V row) below are.1))
+      (IsRow-same (suc level) undefined_address row above are.0, rw (next_row-same row above) (AreRows-same level (next_row V row) below are.1))
 
   pub nodes-same : (level : ℕ) (row : List ℕ) → Agree V W (nodes V level row) → nodes W level row ≡ nodes V level row
   nodes-same zero row same = refl

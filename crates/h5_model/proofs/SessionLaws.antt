@@ -7,24 +7,25 @@ use Rattle.std.specs.declared.cmp.Ordering.TheVariants.{Equal}
 use Rattle.std.specs.FinMap.{get, insert, remove, empty, len, contains_key, get-insert, get-remove, get-retain_keys, len-insert, len-remove, len-empty, get-empty, nat_cmp-IsAntisymmetric}
 use Rattle.std.specs.Option.{option_map_or, option_and_then}
 use Rattle.h5_model.specs.Tree.Objects.{Tree, Link, ToObject, Soft, Links, Object, Group, Array, Dataset, dataset_in, dataset_of, with_object, only_reached, is_reached}
-use Rattle.h5_model.specs.Tree.Paths.{names_of, located, parent_at, object_at, dataset_at}
+use Rattle.h5_model.specs.Tree.Paths.{names_of, location_of, parent_at, object_at, dataset_at}
 use Rattle.h5_model.specs.Views.Selection.{Slab, axes_of, has_rank}
-use Rattle.h5_model.specs.Edits.Applied.{State, state_after, applied, linked, unlinked, linked_to, with_links, with_dataset, with_attributes, with_object_at, new_object, new_dataset, attribute_from, written, resized}
+use Rattle.h5_model.specs.Edits.Applied.{State, state_after, with_edit, with_link_at, without_link_at, with_hard_link, with_links, with_dataset, with_attributes, with_object_at, new_object, new_dataset, attribute_from, with_selection, with_sizes}
 use Rattle.h5_model.specs.Edits.Refusal.{refusal_of, rules_of, first_holding, is_here}
 use Rattle.h5_model.specs.Scripts.Reading.{path_rules, selection_rules}
-use Rattle.h5_model.specs.Edits.ImageAnswers.{chosen}
+use Rattle.h5_model.specs.Edits.ImageAnswers.{refusal_or}
 use Rattle.h5_model.specs.Views.ViewFaults.{view_fault_text}
 use Rattle.h5_model.specs.Scripts.Lines.{Command, Change, OpenView, Show, Close, ListAll, Dump, Repack, Unread}
-use Rattle.h5_model.specs.Scripts.Answers.{Given, Refused, Told, answered, edit_decided, view_decided, view_answer, show_told, told_unless, dumped, opened, has_many_views, answer_of, session_after}
+use Rattle.h5_model.specs.Scripts.Answers.{Given, Refused, Told, answer_with, edit_decided, view_decided, view_answer, show_told, told_unless, dump_of, with_new_view, has_many_views, answer_of, session_after}
 use Rattle.h5_model.specs.Views.Shown.{View, shows}
 use Rattle.h5_model.specs.Scripts.Sessions.{Session, new_session, IsState, IsView, IsSession}
 use Rattle.std.specs.Fmt.{decimal}
+use Rattle.std.proofs.lemmas.Bool.{not-false}
 use Rattle.h5_model.specs.declared.hyperslab.Hyper.{Hyper}
 use Rattle.h5_model.specs.declared.view_fault.ViewFault.TheVariants as view_fault
 use Rattle.h5_model.specs.declared.edits.Edit.{Edit}
 use Rattle.h5_model.specs.declared.edits.Edit.TheVariants.{CreateGroup, CreateDataset, HardLink, SoftLink, Unlink, SetAttr, RemoveAttr, Write, Resize}
 use Rattle.h5_model.proofs.StateLaws.{passes, passes-with_object, same_number, next-state_after}
-use Rattle.h5_model.proofs.RefusalLaws.{none_holds, IsState-accepted, length-axes_of, not_refused, here, some_of, true_of, same_by}
+use Rattle.h5_model.proofs.RefusalLaws.{none_holds, IsState-accepted, length-axes_of, not_refused, here, some_of, same_by}
 use Rattle.h5_model.proofs.PathLaws.{located-is_place}
 
 -- ---- ranks
@@ -42,37 +43,37 @@ rank-with_links rank change o = elim (o.content) as (λ content. has_other_rank 
   | Array d ↦ refl
 ]
 
-rank-written : (rank : ℕ) (slab : Slab) (values : List ℤ) (o : Object) → has_other_rank rank (with_dataset (written slab values) o) ≡ has_other_rank rank o
-rank-written rank slab values o = elim (o.content) as (λ content. has_other_rank rank (with_dataset (written slab values) (record o { content = content })) ≡ has_other_rank rank (record o { content = content })) [
+rank-written : (rank : ℕ) (slab : Slab) (values : List ℤ) (o : Object) → has_other_rank rank (with_dataset (with_selection slab values) o) ≡ has_other_rank rank o
+rank-written rank slab values o = elim (o.content) as (λ content. has_other_rank rank (with_dataset (with_selection slab values) (record o { content = content })) ≡ has_other_rank rank (record o { content = content })) [
   | Group links ↦ refl
   | Array d ↦ refl
 ]
 
 rank-resized : (rank : ℕ) (dims : List ℕ) (o : Object) → option_map_or (λ (d : Dataset). not (length dims == length d.sizes)) (dataset_in o.content) false ≡ false
-    → has_other_rank rank (with_dataset (resized dims) o) ≡ has_other_rank rank o
+    → has_other_rank rank (with_dataset (with_sizes dims) o) ≡ has_other_rank rank o
 rank-resized rank dims o h = elim (o.content) as (λ content. option_map_or (λ (d : Dataset). not (length dims == length d.sizes)) (dataset_in content) false ≡ false
-    → has_other_rank rank (with_dataset (resized dims) (record o { content = content })) ≡ has_other_rank rank (record o { content = content })) [
+    → has_other_rank rank (with_dataset (with_sizes dims) (record o { content = content })) ≡ has_other_rank rank (record o { content = content })) [
       | Group links ↦ λ _. refl
       | Array d ↦ λ same. ap (λ n. not (n == rank)) (same_by (length dims) (length d.sizes) same)
     ] h
 
-ranks-linked : (tree : Tree) (path : List ℕ) (link : Link) → SameRanks tree (linked tree path link)
+ranks-linked : (tree : Tree) (path : List ℕ) (link : Link) → SameRanks tree (with_link_at tree path link)
 unfolding SameRanks
 ranks-linked tree path link rank m = elim (parent_at tree path) as (λ p. passes (has_other_rank rank) (option_map_or (λ p. with_object tree p.0 (with_links (λ links. insert links p.1 link))) p tree) m ≡ passes (has_other_rank rank) tree m) [
   | None ↦ refl
   | Some p ↦ passes-with_object (has_other_rank rank) (with_links (λ links. insert links p.1 link)) tree p.0 m (λ o there. rank-with_links rank (λ links. insert links p.1 link) o)
 ]
 
-ranks-unlinked : (tree : Tree) (path : List ℕ) → SameRanks tree (unlinked tree path)
+ranks-unlinked : (tree : Tree) (path : List ℕ) → SameRanks tree (without_link_at tree path)
 unfolding SameRanks
 ranks-unlinked tree path rank m = elim (parent_at tree path) as (λ p. passes (has_other_rank rank) (option_map_or (λ p. with_object tree p.0 (with_links (λ links. remove links p.1))) p tree) m ≡ passes (has_other_rank rank) tree m) [
   | None ↦ refl
   | Some p ↦ passes-with_object (has_other_rank rank) (with_links (λ links. remove links p.1)) tree p.0 m (λ o there. rank-with_links rank (λ links. remove links p.1) o)
 ]
 
-ranks-linked_to : (tree : Tree) (target path : List ℕ) → SameRanks tree (linked_to tree target path)
+ranks-linked_to : (tree : Tree) (target path : List ℕ) → SameRanks tree (with_hard_link tree target path)
 unfolding SameRanks
-ranks-linked_to tree target path rank m = elim (object_at tree target) as (λ o. passes (has_other_rank rank) (option_map_or (λ number. linked tree path (ToObject number)) o tree) m ≡ passes (has_other_rank rank) tree m) [
+ranks-linked_to tree target path rank m = elim (object_at tree target) as (λ o. passes (has_other_rank rank) (option_map_or (λ number. with_link_at tree path (ToObject number)) o tree) m ≡ passes (has_other_rank rank) tree m) [
   | None ↦ refl
   | Some number ↦ ranks-linked tree path (ToObject number) rank m
 ]
@@ -86,12 +87,12 @@ ranks-with_object_at change keeps tree path rank m = elim (object_at tree path) 
 ]
 
 ranks-resized : (tree : Tree) (path dims : List ℕ) → option_map_or (λ (d : Dataset). not (length dims == length d.sizes)) (dataset_at tree path) false ≡ false
-    → SameRanks tree (with_object_at tree path (with_dataset (resized dims)))
+    → SameRanks tree (with_object_at tree path (with_dataset (with_sizes dims)))
 unfolding SameRanks
 ranks-resized tree path dims h rank m = elim (object_at tree path) as (λ o. option_map_or (λ (d : Dataset). not (length dims == length d.sizes)) (option_and_then (dataset_of tree) o) false ≡ false
-    → passes (has_other_rank rank) (option_map_or (λ number. with_object tree number (with_dataset (resized dims))) o tree) m ≡ passes (has_other_rank rank) tree m) [
+    → passes (has_other_rank rank) (option_map_or (λ number. with_object tree number (with_dataset (with_sizes dims))) o tree) m ≡ passes (has_other_rank rank) tree m) [
       | None ↦ λ _. refl
-      | Some number ↦ λ same. passes-with_object (has_other_rank rank) (with_dataset (resized dims)) tree number m (λ o there. rank-resized rank dims o
+      | Some number ↦ λ same. passes-with_object (has_other_rank rank) (with_dataset (with_sizes dims)) tree number m (λ o there. rank-resized rank dims o
           (sym (ap (λ found. option_map_or (λ (d : Dataset). not (length dims == length d.sizes)) (option_and_then (λ (o : Object). dataset_in o.content) found) false) there) ∙ same))
     ] h
 
@@ -112,16 +113,16 @@ rank_reached tree rank m before =
 -- an object whose number was given out has no other rank after an accepted edit
 rank_kept : (s : State) (edit : Edit) → refusal_of s.tree s.next edit ≡ None → (rank m : ℕ) → m < s.next → passes (has_other_rank rank) s.tree m ≡ false
     → passes (has_other_rank rank) (state_after s edit).tree m ≡ false
-unfolding applied refusal_of SameRanks
-rank_kept s (CreateGroup path) h rank m low before = rank_beside (linked s.tree path (ToObject s.next)) s.next (new_object (Group empty)) rank m low (ranks-linked s.tree path (ToObject s.next) rank m ∙ before)
-rank_kept s (CreateDataset path spec) h rank m low before = rank_beside (linked s.tree path (ToObject s.next)) s.next (new_object (Array (new_dataset spec))) rank m low (ranks-linked s.tree path (ToObject s.next) rank m ∙ before)
+unfolding with_edit refusal_of SameRanks
+rank_kept s (CreateGroup path) h rank m low before = rank_beside (with_link_at s.tree path (ToObject s.next)) s.next (new_object (Group empty)) rank m low (ranks-linked s.tree path (ToObject s.next) rank m ∙ before)
+rank_kept s (CreateDataset path spec) h rank m low before = rank_beside (with_link_at s.tree path (ToObject s.next)) s.next (new_object (Array (new_dataset spec))) rank m low (ranks-linked s.tree path (ToObject s.next) rank m ∙ before)
 rank_kept s (HardLink target path) h rank m low before = ranks-linked_to s.tree target path rank m ∙ before
 rank_kept s (SoftLink text path) h rank m low before = ranks-linked s.tree path (Soft text) rank m ∙ before
-rank_kept s (Unlink path) h rank m low before = rank_reached (unlinked s.tree path) rank m (ranks-unlinked s.tree path rank m ∙ before)
+rank_kept s (Unlink path) h rank m low before = rank_reached (without_link_at s.tree path) rank m (ranks-unlinked s.tree path rank m ∙ before)
 rank_kept s (SetAttr path attr) h rank m low before = ranks-with_object_at (with_attributes (λ a. insert a attr.name (attribute_from attr))) (λ r o. refl) s.tree path rank m ∙ before
 rank_kept s (RemoveAttr path name) h rank m low before = ranks-with_object_at (with_attributes (λ a. remove a name)) (λ r o. refl) s.tree path rank m ∙ before
 rank_kept s (Write path hyper values) h rank m low before =
-    ranks-with_object_at (with_dataset (written (axes_of hyper) values)) (λ r o. rank-written r (axes_of hyper) values o) s.tree path rank m ∙ before
+    ranks-with_object_at (with_dataset (with_selection (axes_of hyper) values)) (λ r o. rank-written r (axes_of hyper) values o) s.tree path rank m ∙ before
 rank_kept s (Resize path dims) h rank m low before =
     ranks-resized s.tree path dims (none_holds (rules_of s.tree s.next (Resize path dims)) h).1.1.1.1.1.1.1.1.1.1.1.0 rank m ∙ before
 
@@ -219,13 +220,13 @@ new_view s path hyper number is h at =
     let rules = none_holds (selection_rules s.tree path hyper) h in
     let form : is_none (names_of path) ≡ false = rules.0 in
     let later = rules.1.1 in
-    let stands : is_here (located s.tree path) ≡ true = here (located s.tree path) (located-is_place s.tree path form) later.0 later.1.0 later.1.1.0 in
-    let found : (d : Dataset) × (dataset_at s.tree path ≡ Some d) = some_of (is_here (located s.tree path)) (dataset_at s.tree path) stands later.1.1.1.0 in
+    let stands : is_here (location_of s.tree path) ≡ true = here (location_of s.tree path) (located-is_place s.tree path form) later.0 later.1.0 later.1.1.0 in
+    let found : (d : Dataset) × (dataset_at s.tree path ≡ Some d) = some_of (is_here (location_of s.tree path)) (dataset_at s.tree path) stands later.1.1.1.0 in
     let same : dataset_at s.tree path ≡ dataset_of s.tree number = ap (option_and_then (dataset_of s.tree)) at in
     record {
       given = is.given number (some_object s.tree number found.0 (sym same ∙ found.1));
       ranked = λ d there. length-axes_of (length d.sizes) hyper
-          (true_of _ (sym (ap (λ o. option_map_or (λ (d : Dataset). not (has_rank (length d.sizes) hyper)) o false) (same ∙ there)) ∙ later.1.1.1.1.0));
+          (not-false _ (sym (ap (λ o. option_map_or (λ (d : Dataset). not (has_rank (length d.sizes) hyper)) o false) (same ∙ there)) ∙ later.1.1.1.1.0));
     }
 
 view_kept : (s : Session) (path : List ℕ) (hyper : Hyper) (given : Given) → IsSession s → IsSession (view_answer s path hyper given).session
@@ -234,12 +235,12 @@ view_kept s path hyper given is = elim (first_holding (selection_rules (s.state)
       | Some f ↦ λ _. is
       | None ↦ λ free. elim (object_at (s.state).tree path) as (λ at. object_at (s.state).tree path ≡ at → IsSession (view_decided s hyper given None at).session) [
         | None ↦ λ _. is
-        | Some number ↦ λ at. elim (has_many_views s) as (λ b. has_many_views s ≡ b → IsSession (cond b (answered Refused (view_fault_text view_fault.TooManyViews) s)
-            (cond (is_some given) (answered Refused (view_fault_text view_fault.NoMemory) s)
-            (answered Told (codes "view " ++ decimal s.next_view ++ codes "\n") (opened s number hyper)))).session) [
+        | Some number ↦ λ at. elim (has_many_views s) as (λ b. has_many_views s ≡ b → IsSession (cond b (answer_with Refused (view_fault_text view_fault.TooManyViews) s)
+            (cond (is_some given) (answer_with Refused (view_fault_text view_fault.NoMemory) s)
+            (answer_with Told (codes "view " ++ decimal s.next_view ++ codes "\n") (with_new_view s number hyper)))).session) [
               | true ↦ λ _. is
-              | false ↦ λ room. elim (is_some given) as (λ b. IsSession (cond b (answered Refused (view_fault_text view_fault.NoMemory) s)
-                  (answered Told (codes "view " ++ decimal s.next_view ++ codes "\n") (opened s number hyper))).session) [
+              | false ↦ λ room. elim (is_some given) as (λ b. IsSession (cond b (answer_with Refused (view_fault_text view_fault.NoMemory) s)
+                  (answer_with Told (codes "view " ++ decimal s.next_view ++ codes "\n") (with_new_view s number hyper))).session) [
                     | true ↦ is
                     | false ↦ more s (record { object = number; slab = axes_of hyper }) is (new_view s.state path hyper number is.state free at) room
                   ]
@@ -249,19 +250,19 @@ view_kept s path hyper given is = elim (first_holding (selection_rules (s.state)
 
 -- whatever a line asks for, it keeps a session
 pub IsSession-answer_of : (s : Session) (command : Command) (given : Given) → IsSession s → IsSession (answer_of s command given).session
-IsSession-answer_of s (Change edit) given is = elim (chosen (refusal_of (s.state).tree (s.state).next edit) given) as (λ o.
-    is_none (chosen (refusal_of (s.state).tree (s.state).next edit) given) ≡ is_none o → IsSession (edit_decided s edit o).session) [
+IsSession-answer_of s (Change edit) given is = elim (refusal_or (refusal_of (s.state).tree (s.state).next edit) given) as (λ o.
+    is_none (refusal_or (refusal_of (s.state).tree (s.state).next edit) given) ≡ is_none o → IsSession (edit_decided s edit o).session) [
       | Some f ↦ λ _. is
       | None ↦ λ free. IsSession-accepted s edit (not_refused _ given free) is
     ] refl
 IsSession-answer_of s (OpenView path hyper) given is = view_kept s path hyper given is
 IsSession-answer_of s (Show number) given is = elim (shows (s.state).tree s.views number) as (λ shown. IsSession (show_told s number shown).session) [ Err f ↦ is | Ok shown ↦ is ]
-IsSession-answer_of s (Close number) given is = elim (contains_key s.views number) as (λ b. IsSession (cond b (answered Told (codes "closed\n") (record s { views = remove s.views number }))
-    (answered Refused (view_fault_text view_fault.NoSuchView) s)).session) [ true ↦ less s number is | false ↦ is ]
+IsSession-answer_of s (Close number) given is = elim (contains_key s.views number) as (λ b. IsSession (cond b (answer_with Told (codes "closed\n") (record s { views = remove s.views number }))
+    (answer_with Refused (view_fault_text view_fault.NoSuchView) s)).session) [ true ↦ less s number is | false ↦ is ]
 IsSession-answer_of s ListAll None is = is
 IsSession-answer_of s ListAll (Some f) is = is
-IsSession-answer_of s (Dump path) given is = elim (chosen (first_holding (path_rules (s.state).tree path)) given) as (λ o.
-    IsSession (told_unless o (dumped (s.state).tree path (located (s.state).tree path)) s).session) [ Some f ↦ is | None ↦ is ]
+IsSession-answer_of s (Dump path) given is = elim (refusal_or (first_holding (path_rules (s.state).tree path)) given) as (λ o.
+    IsSession (told_unless o (dump_of (s.state).tree path (location_of (s.state).tree path)) s).session) [ Some f ↦ is | None ↦ is ]
 IsSession-answer_of s Repack None is = is
 IsSession-answer_of s Repack (Some f) is = is
 IsSession-answer_of s Unread given is = is

@@ -5,7 +5,7 @@ use Rattle.h5_model.specs.Tree.Objects.{Array, Compact, Contiguous, Chunked}
 use Rattle.h5_model.specs.Format.Layout.{Layout, compact_layout, contiguous_layout, chunked_layout}
 use Rattle.h5_bytes.specs.Bytes.{number_at, byte_at}
 use Rattle.std.proofs.lemmas.Bool.Decides.{nat_tests}
-use Rattle.h5_model.proofs.WithinLaws.{both}
+use Rattle.std.proofs.lemmas.Bool.{and_parts}
 use Rattle.h5_model.specs.Format.AttributeBody as body
 use Rattle.h5_model.specs.Format.Sizes.{attribute_size, dataspace_length, header_size, layout_size}
 use Rattle.h5_model.specs.Edits.Bounds.{new_header}
@@ -32,8 +32,8 @@ taken false o x h = absurd (cc)
 pub length-compact_layout : (sizes : List ℕ) (size : ℕ) (bytes : List ℕ) (layout : Layout) → compact_layout (cells sizes * size) bytes ≡ Some layout
     → layout_size sizes Compact size ≤ length bytes
 length-compact_layout sizes size bytes layout h =
-    let all = both _ _ (taken _ _ layout h) in
-    let there : nat_le (4 + number_at bytes 2 2) (length bytes) ≡ true = (both _ _ all.0).1 in
+    let all = and_parts _ _ (taken _ _ layout h) in
+    let there : nat_le (4 + number_at bytes 2 2) (length bytes) ≡ true = (and_parts _ _ all.0).1 in
     let room : nat_le (cells sizes * size) (number_at bytes 2 2) ≡ true = all.1 in
     within (cells sizes * size) (number_at bytes 2 2) (length bytes) there room where
       within : (need held bytes : ℕ) → nat_le (4 + held) bytes ≡ true → nat_le need held ≡ true → 4 + need ≤ bytes
@@ -47,7 +47,7 @@ length-contiguous_layout sizes size stored bytes layout h =
 pub length-chunked_layout : (sizes chunk : List ℕ) (size : ℕ) (bytes : List ℕ) (layout : Layout) → length chunk ≡ length sizes
     → chunked_layout (length sizes) size bytes ≡ Some layout → layout_size sizes (Chunked chunk) size ≤ length bytes
 length-chunked_layout sizes chunk size bytes layout same h =
-    let there : nat_le (11 + 4 * (length sizes + 1)) (length bytes) ≡ true = (both _ _ (both _ _ (both _ _ (both _ _ (taken _ _ layout h)).0).0).0).0 in
+    let there : nat_le (11 + 4 * (length sizes + 1)) (length bytes) ≡ true = (and_parts _ _ (and_parts _ _ (and_parts _ _ (and_parts _ _ (taken _ _ layout h)).0).0).0).0 in
     within (length sizes) (length chunk) (length bytes) same there where
       within : (rank chunks bytes : ℕ) → chunks ≡ rank → nat_le (11 + 4 * (rank + 1)) bytes ≡ true → 11 + 4 * (chunks + 1) ≤ bytes
       within rank chunks bytes same there = grind (arith, nat_tests)

@@ -8,7 +8,7 @@ use Rattle.std.specs.FinMap.{get, insert, remove, empty, get-insert, get_tied, g
 use Rattle.std.specs.Option.{option_map_or, option_and_then}
 use Rattle.h5_model.specs.Tree.Objects.{Tree, Link, ToObject, Soft, Links, Object, Group, Array, Dataset, links_in, with_object, only_reached, is_reached, within_names}
 use Rattle.h5_model.specs.Tree.Paths.{parent_at, object_at}
-use Rattle.h5_model.specs.Edits.Applied.{State, state_after, applied, linked, unlinked, linked_to, with_links, with_dataset, with_attributes, with_object_at, new_object, new_dataset, attribute_from, written, resized, makes_object}
+use Rattle.h5_model.specs.Edits.Applied.{State, state_after, with_edit, with_link_at, without_link_at, with_hard_link, with_links, with_dataset, with_attributes, with_object_at, new_object, new_dataset, attribute_from, with_selection, with_sizes, makes_object}
 use Rattle.h5_model.specs.Views.Selection.{axes_of}
 use Rattle.h5_model.specs.Edits.Refusal.{has_many_objects}
 use Rattle.h5_model.specs.Scripts.Sessions.{IsState}
@@ -72,20 +72,20 @@ Alike-with_object change keeps tree number = record {
 Alike-itself : (tree : Tree) → Alike tree tree
 Alike-itself tree = record { objects = λ m. refl; groups = λ m. refl }
 
-Alike-linked : (tree : Tree) (path : List ℕ) (link : Link) → Alike tree (linked tree path link)
+Alike-linked : (tree : Tree) (path : List ℕ) (link : Link) → Alike tree (with_link_at tree path link)
 Alike-linked tree path link = elim (parent_at tree path) as (λ p. Alike tree (option_map_or (λ p. with_object tree p.0 (with_links (λ links. insert links p.1 link))) p tree)) [
   | None ↦ Alike-itself tree
   | Some p ↦ Alike-with_object (with_links (λ links. insert links p.1 link)) (group-with_links (λ links. insert links p.1 link)) tree p.0
 ]
 
-Alike-unlinked : (tree : Tree) (path : List ℕ) → Alike tree (unlinked tree path)
+Alike-unlinked : (tree : Tree) (path : List ℕ) → Alike tree (without_link_at tree path)
 Alike-unlinked tree path = elim (parent_at tree path) as (λ p. Alike tree (option_map_or (λ p. with_object tree p.0 (with_links (λ links. remove links p.1))) p tree)) [
   | None ↦ Alike-itself tree
   | Some p ↦ Alike-with_object (with_links (λ links. remove links p.1)) (group-with_links (λ links. remove links p.1)) tree p.0
 ]
 
-Alike-linked_to : (tree : Tree) (target path : List ℕ) → Alike tree (linked_to tree target path)
-Alike-linked_to tree target path = elim (object_at tree target) as (λ o. Alike tree (option_map_or (λ number. linked tree path (ToObject number)) o tree)) [
+Alike-linked_to : (tree : Tree) (target path : List ℕ) → Alike tree (with_hard_link tree target path)
+Alike-linked_to tree target path = elim (object_at tree target) as (λ o. Alike tree (option_map_or (λ number. with_link_at tree path (ToObject number)) o tree)) [
   | None ↦ Alike-itself tree
   | Some number ↦ Alike-linked tree path (ToObject number)
 ]
@@ -175,31 +175,31 @@ IsState-alike : (s : State) (tree : Tree) → IsState s → Alike s.tree tree �
 IsState-alike s tree is alike = to_IsState (record { tree = tree; next = s.next }) (IsRooted-alike s.tree tree s.next alike (from_IsState s is)) is.low
 
 IsState-made : (s : State) (path : List ℕ) (o : Object) → IsState s → nat_le 4294967295 s.next ≡ false
-    → IsState (record { tree = insert (linked s.tree path (ToObject s.next)) s.next o; next = s.next + 1 })
+    → IsState (record { tree = insert (with_link_at s.tree path (ToObject s.next)) s.next o; next = s.next + 1 })
 IsState-made s path o is room =
-    to_IsState (record { tree = insert (linked s.tree path (ToObject s.next)) s.next o; next = s.next + 1 })
-    (IsRooted-insert (linked s.tree path (ToObject s.next)) s.next o
-    (IsRooted-alike s.tree (linked s.tree path (ToObject s.next)) s.next (Alike-linked s.tree path (ToObject s.next)) (from_IsState s is)))
+    to_IsState (record { tree = insert (with_link_at s.tree path (ToObject s.next)) s.next o; next = s.next + 1 })
+    (IsRooted-insert (with_link_at s.tree path (ToObject s.next)) s.next o
+    (IsRooted-alike s.tree (with_link_at s.tree path (ToObject s.next)) s.next (Alike-linked s.tree path (ToObject s.next)) (from_IsState s is)))
     (grind (arith, nat_tests))
 
 -- an edit keeps a state, where a number is left for what it makes
 pub IsState-state_after : (s : State) (edit : Edit) → IsState s → has_many_objects s.next edit ≡ false → IsState (state_after s edit)
-unfolding applied
+unfolding with_edit
 IsState-state_after s (CreateGroup path) is room = IsState-made s path (new_object (Group empty)) is room
 IsState-state_after s (CreateDataset path spec) is room = IsState-made s path (new_object (Array (new_dataset spec))) is room
-IsState-state_after s (HardLink target path) is room = IsState-alike s (linked_to s.tree target path) is (Alike-linked_to s.tree target path)
-IsState-state_after s (SoftLink text path) is room = IsState-alike s (linked s.tree path (Soft text)) is (Alike-linked s.tree path (Soft text))
+IsState-state_after s (HardLink target path) is room = IsState-alike s (with_hard_link s.tree target path) is (Alike-linked_to s.tree target path)
+IsState-state_after s (SoftLink text path) is room = IsState-alike s (with_link_at s.tree path (Soft text)) is (Alike-linked s.tree path (Soft text))
 IsState-state_after s (Unlink path) is room =
-    to_IsState (record { tree = only_reached (unlinked s.tree path); next = s.next })
-    (IsRooted-only_reached (unlinked s.tree path) s.next (IsRooted-alike s.tree (unlinked s.tree path) s.next (Alike-unlinked s.tree path) (from_IsState s is))) is.low
+    to_IsState (record { tree = only_reached (without_link_at s.tree path); next = s.next })
+    (IsRooted-only_reached (without_link_at s.tree path) s.next (IsRooted-alike s.tree (without_link_at s.tree path) s.next (Alike-unlinked s.tree path) (from_IsState s is))) is.low
 IsState-state_after s (SetAttr path attr) is room =
     IsState-alike s _ is (Alike-with_object_at (with_attributes (λ m. insert m attr.name (attribute_from attr))) (λ o. refl) s.tree path)
 IsState-state_after s (RemoveAttr path name) is room =
     IsState-alike s _ is (Alike-with_object_at (with_attributes (λ m. remove m name)) (λ o. refl) s.tree path)
 IsState-state_after s (Write path hyper values) is room =
-    IsState-alike s _ is (Alike-with_object_at (with_dataset (written (axes_of hyper) values)) (group-with_dataset (written (axes_of hyper) values)) s.tree path)
+    IsState-alike s _ is (Alike-with_object_at (with_dataset (with_selection (axes_of hyper) values)) (group-with_dataset (with_selection (axes_of hyper) values)) s.tree path)
 IsState-state_after s (Resize path dims) is room =
-    IsState-alike s _ is (Alike-with_object_at (with_dataset (resized dims)) (group-with_dataset (resized dims)) s.tree path)
+    IsState-alike s _ is (Alike-with_object_at (with_dataset (with_sizes dims)) (group-with_dataset (with_sizes dims)) s.tree path)
 
 -- the next number never falls
 pub next-state_after : (s : State) (edit : Edit) → s.next ≤ (state_after s edit).next

@@ -15,6 +15,7 @@ pub mod Rows
 pub mod Chunks
 pub mod Cells
 pub mod Fixed
+pub mod Described
 pub mod Reached
 pub mod Reads
 pub mod Plain

@@ -7,12 +7,12 @@ use crate::fixed_point::Fixed;
 use crate::list::Items;
 use std::alloc::{AllocError, Global};
 
-/// How a dataset's cells are stored.
+/// How the cells of a dataset are stored. Chunks come with their sizes, in cells, for each dimension one.
 #[derive(Debug, Drop)]
-pub enum Store {
+pub enum Store<C> {
     Compact,
     Contiguous,
-    Chunked(Items<u32>),
+    Chunked(C),
 }
 
 /// A dataset to be created. A maximum of `None` is unlimited.
@@ -21,7 +21,7 @@ pub struct Spec {
     pub fixed: Fixed,
     pub dims: Items<u64>,
     pub maxima: Items<Option<u64>>,
-    pub store: Store,
+    pub store: Store<Items<u32>>,
     pub fill: i128,
 }
 
@@ -112,7 +112,7 @@ fn unresizable(
     alloc: Global,
     fixed: Fixed,
     dims: &[u64],
-    store: Store,
+    store: Store<Items<u32>>,
     fill: i128,
 ) -> Result<Spec, AllocError>
     ensures { IfOk result (λ spec. spec ≡ record {

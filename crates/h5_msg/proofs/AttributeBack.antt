@@ -14,7 +14,7 @@ use Rattle.h5_model.specs.Format.Extent.{Extent, extent_of}
 use Rattle.h5_model.specs.Format.Datatype.{fixed_of}
 use Rattle.h5_model.specs.Format.Sizes.{attribute_size}
 use Rattle.h5_model.specs.Format.AttributeBody.{attribute_of, is_attribute, name_in, name_size, datatype_size, dataspace_size, datatype_place, dataspace_place, data_place, kept_body, values_at}
-use Rattle.h5_model.specs.Format.Plain.{padded, cells_bytes, padded_text}
+use Rattle.h5_model.specs.Format.Plain.{with_zeros, cells_bytes, padded_text}
 use Rattle.h5_model.specs.Format.Bodies.{datatype_bytes, dataspace_bytes, attribute_head, attribute_front, attribute_bytes, stored_attribute_bytes}
 use Rattle.h5_model.proofs.PlainValues.{length-cells_bytes}
 use Rattle.h5_msg.proofs.WordLaws.{words_long}
@@ -59,7 +59,7 @@ named (b ∷ bs) m rest some text =
 module _ (name sizes : List ℕ) (t : Fixed) (values : List ℤ) (rest : List ℕ) (some : 1 ≤ length name) (short : length name < 65535) (text : list_any (λ b. b == 0) name ≡ false)
     (rank : length sizes ≤ 32) (small : Small sizes) (sound : IsFixed t) (all : list_all (fits t) values ≡ true) (count : length values ≡ cells sizes) where
   abbrev body : List ℕ
-  body = attribute_head (length name) (length sizes) ++ (padded_text name ++ (padded (datatype_bytes t) 16 ++ (dataspace_bytes sizes ++ (cells_bytes t values ++ rest))))
+  body = attribute_head (length name) (length sizes) ++ (padded_text name ++ (with_zeros (datatype_bytes t) 16 ++ (dataspace_bytes sizes ++ (cells_bytes t values ++ rest))))
 
   abbrev from_cells : List ℕ
   from_cells = cells_bytes t values ++ rest
@@ -68,7 +68,7 @@ module _ (name sizes : List ℕ) (t : Fixed) (values : List ℤ) (rest : List �
   from_dataspace = dataspace_bytes sizes ++ from_cells
 
   abbrev from_datatype : List ℕ
-  from_datatype = padded (datatype_bytes t) 16 ++ from_dataspace
+  from_datatype = with_zeros (datatype_bytes t) 16 ++ from_dataspace
 
   abbrev name_room : ℕ
   name_room = pad8 (length name + 1)
@@ -105,7 +105,7 @@ module _ (name sizes : List ℕ) (t : Fixed) (values : List ℤ) (rest : List �
   type_part = behind 8 name_room body (padded_text name) from_datatype refl long_name
 
   extent_part : drop (8 + name_room + 16) body ≡ from_dataspace
-  extent_part = behind (8 + name_room) 16 body (padded (datatype_bytes t) 16) from_dataspace type_part refl
+  extent_part = behind (8 + name_room) 16 body (with_zeros (datatype_bytes t) 16) from_dataspace type_part refl
 
   cells_part : drop (8 + name_room + 16 + (8 + 8 * length sizes)) body ≡ from_cells
   cells_part = behind (8 + name_room + 16) (8 + 8 * length sizes) body (dataspace_bytes sizes) from_cells extent_part long_extent
@@ -160,10 +160,10 @@ module _ (name sizes : List ℕ) (t : Fixed) (values : List ℤ) (rest : List �
 
 -- what stands before the values, and behind it
 joined : (name sizes rest : List ℕ) (t : Fixed) → attribute_front name t sizes ++ rest
-    ≡ attribute_head (length name) (length sizes) ++ (padded_text name ++ (padded (datatype_bytes t) 16 ++ (dataspace_bytes sizes ++ rest)))
+    ≡ attribute_head (length name) (length sizes) ++ (padded_text name ++ (with_zeros (datatype_bytes t) 16 ++ (dataspace_bytes sizes ++ rest)))
 joined name sizes rest t =
     let head : List ℕ = attribute_head (length name) (length sizes) in
-    let type : List ℕ = padded (datatype_bytes t) 16 in
+    let type : List ℕ = with_zeros (datatype_bytes t) 16 in
     append_assoc head (padded_text name ++ (type ++ dataspace_bytes sizes)) rest
     ∙ ap (λ xs. head ++ xs) (append_assoc (padded_text name) (type ++ dataspace_bytes sizes) rest)
     ∙ ap (λ xs. head ++ (padded_text name ++ xs)) (append_assoc type (dataspace_bytes sizes) rest)

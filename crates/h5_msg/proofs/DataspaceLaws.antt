@@ -5,12 +5,12 @@ use Rattle.std.proofs.lemmas.List.FromFn.{fill_by_all}
 use Rattle.std.specs.Prelude.{nat_le, ◌==◌}
 use Rattle.std.specs.List.{range_with_len, AllByRecursion}
 use Rattle.std.proofs.Math.Seq.{drop-append_seam}
-use Rattle.h5_bytes.specs.Bytes.{number_at, undefined}
+use Rattle.h5_bytes.specs.Bytes.{number_at, undefined_address}
 use Rattle.h5_model.specs.Edits.Refusal.{are_maxima, is_maximum}
 use Rattle.h5_model.specs.Scripts.Tests.{each_below}
 use Rattle.h5_model.specs.Format.Extent.{extent_of, is_dataspace, size_in, maximum_in, maximum_from, maximum_fits}
 use Rattle.h5_model.specs.Format.Bodies.{dataspace_bytes, bounded_bytes, or_undefined, words}
-use Rattle.h5_model.specs.Format.Plain.{padded}
+use Rattle.h5_model.specs.Format.Plain.{with_zeros}
 use Rattle.h5_model.proofs.PaddedLaws.{padded_full}
 use Rattle.h5_msg.proofs.WordLaws.{words_long, bounds_long, as_many_maxima, length-numbers, number_at-drop, number_at-words, and_left, and_right}
 
@@ -30,7 +30,7 @@ sizes_of body sizes rest behind small = sym (fill_by_all (size_in body) sizes (l
 -- ---- without maxima
 
 abbrev plain : List ℕ → ℕ → List ℕ
-plain sizes n = padded (dataspace_bytes sizes) n
+plain sizes n = with_zeros (dataspace_bytes sizes) n
 
 plain_form : (sizes rest : List ℕ) → length sizes ≤ 32 → is_dataspace (1 ∷ length sizes ∷ 0 ∷ 0 ∷ 0 ∷ 0 ∷ 0 ∷ 0 ∷ (words sizes ++ rest)) ≡ true
 plain_form sizes rest rank =
@@ -43,7 +43,7 @@ plain_form sizes rest rank =
     let eight : length (1 ∷ length sizes ∷ 0 ∷ 0 ∷ 0 ∷ 0 ∷ 0 ∷ 0 ∷ (words sizes ++ rest)) ≡ 8 + length (words sizes ++ rest) = omega arith in
     rw (eight, head, few, whole) refl
 
-pub plain_back : (sizes : List ℕ) (n : ℕ) (bytes : List ℕ) → length sizes ≤ 32 → Small sizes → bytes ≡ padded (dataspace_bytes sizes) n
+pub plain_back : (sizes : List ℕ) (n : ℕ) (bytes : List ℕ) → length sizes ≤ 32 → Small sizes → bytes ≡ with_zeros (dataspace_bytes sizes) n
     → extent_of bytes ≡ Some (record { sizes = sizes; maxima = map (λ (x : ℕ). Some x) sizes })
 unfolding extent_of
 plain_back sizes n bytes rank small same =
@@ -63,7 +63,7 @@ number_of (m ∷ ms) [] k fit low = absurd (cc)
 number_of (None ∷ ms) (d ∷ ds) zero fit low = refl
 number_of (Some n ∷ ms) (d ∷ ds) zero fit low =
     let own : is_maximum d (Some n) ≡ true = and_left (is_maximum d (Some n)) (are_maxima ds ms) fit in
-    let below : (n == undefined) ≡ false = grind (arith, nat_tests) in
+    let below : (n == undefined_address) ≡ false = grind (arith, nat_tests) in
     rw below refl
 number_of (m ∷ ms) (d ∷ ds) (suc k) fit low = number_of ms ds k (and_right (is_maximum d m) (are_maxima ds ms) fit) (omega arith)
 
@@ -139,11 +139,11 @@ module _ (sizes : List ℕ) (maxima : List (Option ℕ)) (rest : List ℕ) (rank
       rw (bounded_form, read, bounds) refl
 
 pub bounded_back : (sizes : List ℕ) (maxima : List (Option ℕ)) (n : ℕ) (bytes : List ℕ) → length sizes ≤ 32 → Small sizes → are_maxima sizes maxima ≡ true
-    → AllByRecursion (λ n. n < 2 ^ 64) (map or_undefined maxima) → bytes ≡ padded (bounded_bytes sizes maxima) n
+    → AllByRecursion (λ n. n < 2 ^ 64) (map or_undefined maxima) → bytes ≡ with_zeros (bounded_bytes sizes maxima) n
     → extent_of bytes ≡ Some (record { sizes = sizes; maxima = maxima })
 bounded_back sizes maxima n bytes rank small fit numbers same =
     ap extent_of same ∙ bounded_reads sizes maxima (replicate (n - length (bounded_bytes sizes maxima)) 0) rank small fit (small_from (map or_undefined maxima) numbers)
 
 -- a dataspace that fills its room has no zeros behind it
-pub plain_alone : (sizes : List ℕ) (n : ℕ) → n ≡ 8 + 8 * length sizes → padded (dataspace_bytes sizes) n ≡ dataspace_bytes sizes
+pub plain_alone : (sizes : List ℕ) (n : ℕ) → n ≡ 8 + 8 * length sizes → with_zeros (dataspace_bytes sizes) n ≡ dataspace_bytes sizes
 plain_alone sizes n full = padded_full (dataspace_bytes sizes) n (omega (arith, full, words_long sizes))

@@ -5,7 +5,7 @@ use Rattle.std.proofs.lemmas.List.FromFn.{length-map-range_with_len, get_or-map-
 use Rattle.std.proofs.lemmas.Option.{slice_get-get_or}
 use Rattle.std.specs.Prelude.{◌==◌}
 use Rattle.std.specs.List.{range_with_len}
-use Rattle.h5_bytes.specs.Bytes.{number_at, byte_at, undefined}
+use Rattle.h5_bytes.specs.Bytes.{number_at, byte_at, undefined_address}
 use Rattle.h5_model.specs.Tree.Places.{cells}
 use Rattle.h5_model.specs.Format.Extent.{Extent, extent_in, is_dataspace, rank_in, size_in, maximum_in}
 
@@ -63,16 +63,16 @@ maximum_absent body k clear = let none : (byte_at body 2 == 1) ≡ false = grind
 set_flag : (flag : ℕ) → flag ≤ 1 → flag ≢ 0 → flag ≡ 1
 set_flag flag low some = grind arith
 
-pub maximum_unlimited : (body : List ℕ) (k n : ℕ) → byte_at body 2 ≤ 1 → byte_at body 2 ≢ 0 → n ≡ number_at body (8 + 8 * rank_in body + 8 * k) 8 → n ≡ undefined → maximum_in body k ≡ None
+pub maximum_unlimited : (body : List ℕ) (k n : ℕ) → byte_at body 2 ≤ 1 → byte_at body 2 ≢ 0 → n ≡ number_at body (8 + 8 * rank_in body + 8 * k) 8 → n ≡ undefined_address → maximum_in body k ≡ None
 maximum_unlimited body k n flag some same last =
     let there : byte_at body 2 ≡ 1 = set_flag (byte_at body 2) flag some in
     let set : (byte_at body 2 == 1) ≡ true = eq-eqb (byte_at body 2) 1 there in
-    let ones : (n == undefined) ≡ true = eq-eqb n undefined last in
+    let ones : (n == undefined_address) ≡ true = eq-eqb n undefined_address last in
     rw (set, ← same, ones) refl
 
-pub maximum_limited : (body : List ℕ) (k n : ℕ) → byte_at body 2 ≤ 1 → byte_at body 2 ≢ 0 → n ≡ number_at body (8 + 8 * rank_in body + 8 * k) 8 → n ≢ undefined → maximum_in body k ≡ Some n
+pub maximum_limited : (body : List ℕ) (k n : ℕ) → byte_at body 2 ≤ 1 → byte_at body 2 ≢ 0 → n ≡ number_at body (8 + 8 * rank_in body + 8 * k) 8 → n ≢ undefined_address → maximum_in body k ≡ Some n
 maximum_limited body k n flag some same below =
     let there : byte_at body 2 ≡ 1 = set_flag (byte_at body 2) flag some in
     let set : (byte_at body 2 == 1) ≡ true = eq-eqb (byte_at body 2) 1 there in
-    let ones : (n == undefined) ≡ false = grind (arith, nat_tests) in
+    let ones : (n == undefined_address) ≡ false = grind (arith, nat_tests) in
     rw (set, ← same, ones) refl

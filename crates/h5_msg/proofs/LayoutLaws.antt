@@ -10,12 +10,12 @@ use Rattle.std.specs.Prelude.{◌==◌, nat_le, slice_range, option_map}
 use Rattle.std.specs.Option.{ForSome}
 use Rattle.std.specs.List.{list_any, range_with_len}
 use Rattle.byteorder.specs.Numbers.{little_number-reads_back}
-use Rattle.h5_bytes.specs.Bytes.{number_at, little_bytes, undefined}
+use Rattle.h5_bytes.specs.Bytes.{number_at, little_bytes, undefined_address}
 use Rattle.h5_bytes.specs.Blocks.{block}
 use Rattle.h5_model.specs.Tree.Places.{cells}
 use Rattle.h5_model.specs.Format.Layout.{InMessage, InBlock, InChunks, layout_of, contiguous_layout, short_numbers_at, address_from}
 use Rattle.h5_model.specs.Format.Bodies.{compact_bytes, contiguous_bytes, chunked_bytes, short_words, or_undefined}
-use Rattle.h5_model.specs.Format.Plain.{padded}
+use Rattle.h5_model.specs.Format.Plain.{with_zeros}
 use Rattle.h5_msg.proofs.WordLaws.{number_at-drop}
 
 pub zero_step : (f : ℕ → ℕ) (k n : ℕ) → n ≢ 0 → list_any (λ n. n == 0) (map f (range_with_len k n)) ≡ (f k == 0 || list_any (λ n. n == 0) (map f (range_with_len (k + 1) (n - 1))))
@@ -55,7 +55,7 @@ compact_size stored rest small = little_number-reads_back 2 (length stored) (sto
 compact_data : (stored rest : List ℕ) → slice_range (compact_bytes stored ++ rest) 4 (4 + length stored) ≡ stored
 compact_data stored rest = let long : 4 + length stored - 4 ≡ length stored = omega arith in ap (λ (n : ℕ). take n (stored ++ rest)) long ∙ take-append_seam stored rest
 
-pub compact_back : (stored : List ℕ) (n : ℕ) (bytes sizes : List ℕ) (size : ℕ) → length stored < 65536 → bytes ≡ padded (compact_bytes stored) n → cells sizes * size ≡ length stored
+pub compact_back : (stored : List ℕ) (n : ℕ) (bytes sizes : List ℕ) (size : ℕ) → length stored < 65536 → bytes ≡ with_zeros (compact_bytes stored) n → cells sizes * size ≡ length stored
     → layout_of sizes size bytes ≡ Some (InMessage stored)
 unfolding layout_of
 compact_back stored n bytes sizes size small same need =
@@ -87,18 +87,18 @@ address_small (Some n) there = let low : n < 2 ^ 64 - 1 = there n refl in omega 
 
 address_back : (at : Option ℕ) → IsAddress at → address_from (or_undefined at) ≡ at
 address_back None there = refl
-address_back (Some n) there = let low : n < 2 ^ 64 - 1 = there n refl in let below : (n == undefined) ≡ false = grind (arith, nat_tests) in rw below refl
+address_back (Some n) there = let low : n < 2 ^ 64 - 1 = there n refl in let below : (n == undefined_address) ≡ false = grind (arith, nat_tests) in rw below refl
 
 contiguous_found : (at : Option ℕ) (len need : ℕ) (bytes : List ℕ) → IsAddress at → nat_le 18 (length bytes) ≡ true → number_at bytes 2 8 ≡ or_undefined at → number_at bytes 10 8 ≡ len → need ≤ len
     → contiguous_layout need bytes ≡ Some (InBlock (option_map (λ n. block n len) at))
 contiguous_found None len need bytes there long first second enough = rw (long, first) refl
 contiguous_found (Some n) len need bytes there long first second enough =
     let low : n < 2 ^ 64 - 1 = there n refl in
-    let below : (n == undefined) ≡ false = grind (arith, nat_tests) in
+    let below : (n == undefined_address) ≡ false = grind (arith, nat_tests) in
     let room : nat_le need len ≡ true = grind (arith, nat_tests) in
     rw (long, first, below, second, room) refl
 
-pub contiguous_back : (at : Option ℕ) (len n : ℕ) (bytes sizes : List ℕ) (size : ℕ) → IsAddress at → len < 2 ^ 64 → bytes ≡ padded (contiguous_bytes at len) n → cells sizes * size ≤ len
+pub contiguous_back : (at : Option ℕ) (len n : ℕ) (bytes sizes : List ℕ) (size : ℕ) → IsAddress at → len < 2 ^ 64 → bytes ≡ with_zeros (contiguous_bytes at len) n → cells sizes * size ≤ len
     → layout_of sizes size bytes ≡ Some (InBlock (option_map (λ n. block n len) at))
 unfolding layout_of
 contiguous_back at len n bytes sizes size there small same enough =
@@ -172,7 +172,7 @@ module _ (chunk : List ℕ) (tree : Option ℕ) (size : ℕ) (rest : List ℕ) (
       rw (same, two, whole, own, dimensions, sizes_read, some, element_read, element, tree_read, address_back tree there) refl
 
 pub chunked_back : (chunk : List ℕ) (tree : Option ℕ) (size n : ℕ) (bytes sizes : List ℕ) → ((k : ℕ) → get_or chunk k 0 < 2 ^ 32) → list_any (λ n. n == 0) chunk ≡ false
-    → IsAddress tree → 1 ≤ length chunk → size < 2 ^ 32 → bytes ≡ padded (chunked_bytes chunk tree size) n → length sizes ≡ length chunk
+    → IsAddress tree → 1 ≤ length chunk → size < 2 ^ 32 → bytes ≡ with_zeros (chunked_bytes chunk tree size) n → length sizes ≡ length chunk
     → layout_of sizes size bytes ≡ Some (InChunks chunk tree)
 chunked_back chunk tree size n bytes sizes small some there rank fits same long =
     ap (layout_of sizes size) same ∙ chunked_reads chunk tree size (replicate (n - length (chunked_bytes chunk tree size)) 0) small some there rank fits sizes long

@@ -5,7 +5,7 @@ ghost use Rattle.std.specs.Prelude.{◌≡◌, ◌≤◌, Some, length, ok_or};
 ghost use Rattle.h5_bytes.specs.Bytes.{number_at};
 ghost use Rattle.h5_model.specs.Format.Addresses.{symbol_table_of, continuation_of};
 ghost use Rattle.h5_model.specs.Format.Bodies.{pair_bytes};
-ghost use Rattle.h5_model.specs.Format.Plain.{padded};
+ghost use Rattle.h5_model.specs.Format.Plain.{with_zeros};
 
 use crate::fault::FormFault;
 use byteorder::{ByteOrder, LittleEndian};
@@ -80,7 +80,7 @@ pub fn read_symbol_table(body: &[u8]) -> Result<SymbolTable, FormFault>
 #[tactic(auto, unfolding(h5_model::specs::Format::Addresses::symbol_table_of))]
 pub fn write_symbol_table(table: SymbolTable, bytes: &mut [u8])
     requires { 16 ≤ length bytes.old }
-    ensures written { bytes.new ≡ padded (pair_bytes table.tree table.heap) (length bytes.old) }
+    ensures written { bytes.new ≡ with_zeros (pair_bytes table.tree table.heap) (length bytes.old) }
     ensures reads { symbol_table_of bytes.new ≡ Some table }
 {
     write_pair(table.tree, table.heap, bytes);
@@ -108,7 +108,7 @@ pub fn read_continuation(body: &[u8]) -> Result<Block, FormFault>
 #[tactic(auto, unfolding(h5_model::specs::Format::Addresses::continuation_of))]
 pub fn write_continuation(block: Block, bytes: &mut [u8])
     requires { 16 ≤ length bytes.old }
-    ensures written { bytes.new ≡ padded (pair_bytes block.at block.len) (length bytes.old) }
+    ensures written { bytes.new ≡ with_zeros (pair_bytes block.at block.len) (length bytes.old) }
     ensures reads { continuation_of bytes.new ≡ Some block }
 {
     write_pair(block.at, block.len, bytes);
@@ -118,7 +118,7 @@ pub fn write_continuation(block: Block, bytes: &mut [u8])
 #[tactic(auto, using(crate::proofs::AddressLaws::first_back, crate::proofs::AddressLaws::second_back))]
 fn write_pair(first: u64, second: u64, bytes: &mut [u8])
     requires { 16 ≤ length bytes.old }
-    ensures written { bytes.new ≡ padded (pair_bytes first second) (length bytes.old) }
+    ensures written { bytes.new ≡ with_zeros (pair_bytes first second) (length bytes.old) }
     ensures first { number_at bytes.new 0 8 ≡ first }
     ensures second { number_at bytes.new 8 8 ≡ second }
 {

@@ -8,7 +8,7 @@ ghost use Rattle.h5_model.specs.Format.AttributeBody.{attribute_of, is_attribute
 ghost use Rattle.h5_msg.specs.Parts.{ArePartsOf};
 ghost use Rattle.h5_model.specs.Format.Fixed.{IsFixed, fits};
 ghost use Rattle.h5_model.specs.Tree.Places.{cells as cells_of};
-ghost use Rattle.h5_model.specs.Format.Plain.{padded, cells_bytes, padded_text};
+ghost use Rattle.h5_model.specs.Format.Plain.{with_zeros, cells_bytes, padded_text};
 ghost use Rattle.h5_model.specs.Format.Sizes.{attribute_size, dataspace_length as dataspace_size};
 ghost use Rattle.h5_model.specs.Format.Bodies.{attribute_bytes, attribute_front, attribute_head, dataspace_bytes, datatype_bytes, stored_attribute_bytes};
 
@@ -345,7 +345,7 @@ fn write_name(name: &[u8], bytes: &mut [u8])
 /// Writes a datatype with its padding.
 fn write_type(fixed: &Fixed, bytes: &mut [u8])
     requires { length bytes.old ≡ 16 }
-    ensures written { bytes.new ≡ padded (datatype_bytes fixed.now) 16 }
+    ensures written { bytes.new ≡ with_zeros (datatype_bytes fixed.now) 16 }
     ensures sound { IsFixed fixed.now }
 {
     write_datatype(fixed, bytes);

@@ -2,10 +2,10 @@
 
 ghost use Rattle.std.specs.Prelude.{◌≡◌, ◌+◌, ◌-◌, ◌*◌, ◌^◌, ◌<◌, ◌≤◌, ◌++◌, Some, length, ok_or, min, slice_index, slice_get, map, if◌then◌else◌, true};
 ghost use Rattle.std.specs.List.{range_with_len, AllByRecursion};
-ghost use Rattle.h5_model.specs.Format.Extent.{extent_of, is_dataspace as has_form, maximum_fits, size_in};
+ghost use Rattle.h5_model.specs.Format.Extent.{extent_of, has_maxima as says_maxima, is_dataspace as has_form, maximum_fits, size_in};
 ghost use Rattle.h5_model.specs.Edits.Refusal.{are_maxima as bound_sizes};
 ghost use Rattle.h5_model.specs.Format.Bodies.{bounded_bytes, dataspace_bytes, or_undefined, words};
-ghost use Rattle.h5_model.specs.Format.Plain.{padded};
+ghost use Rattle.h5_model.specs.Format.Plain.{with_zeros};
 ghost use Rattle.h5_model.specs.Tree.Places.{cells as cells_of};
 ghost use Rattle.h5_model.specs.Format.Sizes.{dataspace_length as dataspace_size};
 ghost use Rattle.h5_model.specs.Scripts.Tests.{each_below};
@@ -26,6 +26,16 @@ pub fn dataspace_length(rank: usize, has_maxima: bool) -> usize
 {
     let numbers = if has_maxima { 2 * rank } else { rank };
     SIZES + 8 * numbers
+}
+
+/// Whether a body of a Dataspace message has maxima: whether its flags say that they stand behind the sizes. It takes no
+/// memory.
+///
+/// A body that ends before its flags has none.
+pub fn has_maxima(body: &[u8]) -> bool
+    ensures { result ≡ says_maxima body.now }
+{
+    body.len() > 2 && body[2] == 1
 }
 
 /// What a Dataspace message says: sizes, and a maximum for each.
@@ -170,7 +180,7 @@ fn is_maximum(body: &[u8], rank: usize, k: usize) -> bool
 pub fn write_dataspace(sizes: &[u64], bytes: &mut [u8])
     requires rank { length sizes.now ≤ 32 }
     requires room { dataspace_size (length sizes.now) ≤ length bytes.old }
-    ensures written { bytes.new ≡ padded (dataspace_bytes sizes.now) (length bytes.old) }
+    ensures written { bytes.new ≡ with_zeros (dataspace_bytes sizes.now) (length bytes.old) }
     ensures reads { extent_of bytes.new ≡ Some (record { sizes = sizes.now; maxima = map Some sizes.now }) }
 {
     let rank = sizes.len();
@@ -187,7 +197,7 @@ pub fn write_bounded_dataspace(sizes: &[u64], maxima: &[Option<u64>], bytes: &mu
     requires rank { length sizes.now ≤ 32 }
     requires bounds { bound_sizes sizes.now maxima.now ≡ true }
     requires room { dataspace_size (length sizes.now) + 8 * length sizes.now ≤ length bytes.old }
-    ensures written { bytes.new ≡ padded (bounded_bytes sizes.now maxima.now) (length bytes.old) }
+    ensures written { bytes.new ≡ with_zeros (bounded_bytes sizes.now maxima.now) (length bytes.old) }
     ensures reads { extent_of bytes.new ≡ Some (record { sizes = sizes.now; maxima = maxima.now }) }
 {
     let rank = sizes.len();

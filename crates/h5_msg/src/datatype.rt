@@ -4,7 +4,7 @@ ghost use Rattle.std.specs.Prelude.{◌≡◌, ◌≤◌, Some, length, ok_or};
 ghost use Rattle.h5_model.specs.Format.Datatype.{fixed_of, is_fixed_point as has_form};
 ghost use Rattle.h5_model.specs.Format.Fixed.{IsFixed};
 ghost use Rattle.h5_model.specs.Format.Bodies.{class_bits as bits_of, datatype_bytes};
-ghost use Rattle.h5_model.specs.Format.Plain.{padded};
+ghost use Rattle.h5_model.specs.Format.Plain.{with_zeros};
 
 use crate::fault::FormFault;
 use h5_bytes::{u16_at, u32_at};
@@ -59,7 +59,7 @@ fn is_fixed_point(body: &[u8]) -> bool
 /// Writes a Datatype message, and zeros behind it.
 pub fn write_datatype(fixed: &Fixed, bytes: &mut [u8])
     requires { 12 ≤ length bytes.old }
-    ensures written { bytes.new ≡ padded (datatype_bytes fixed.now) (length bytes.old) }
+    ensures written { bytes.new ≡ with_zeros (datatype_bytes fixed.now) (length bytes.old) }
     ensures reads { fixed_of bytes.new ≡ Some fixed.now }
     ensures sound { IsFixed fixed.now }
 {

@@ -5,7 +5,7 @@ ghost use Rattle.std.specs.Prelude.{◌≡◌, ◌+◌, ◌≤◌, Some, length,
 ghost use Rattle.h5_model.specs.Format.Fill.{fill_value, flagged_value, marked_value, old_fill_value, sized_value as value_after_size};
 ghost use Rattle.h5_model.specs.Format.Fixed.{fits};
 ghost use Rattle.h5_model.specs.Format.Bodies.{fill_bytes, old_fill_bytes};
-ghost use Rattle.h5_model.specs.Format.Plain.{padded};
+ghost use Rattle.h5_model.specs.Format.Plain.{with_zeros};
 ghost use Rattle.h5_msg.specs.Times.{time_number};
 
 use crate::fault::FormFault;
@@ -118,7 +118,8 @@ fn read_sized(fixed: &Fixed, body: &[u8], at: usize) -> Result<i128, FormFault>
 pub fn write_fill(time: AllocationTime, fixed: &Fixed, value: i128, bytes: &mut [u8])
     requires room { 8 + fixed.now.size ≤ length bytes.old }
     requires of_type { fits fixed.now value ≡ true }
-    ensures written { bytes.new ≡ padded (fill_bytes (time_number time) fixed.now value) (length bytes.old) }
+    ensures written { bytes.new
+        ≡ with_zeros (fill_bytes (time_number time) fixed.now value) (length bytes.old) }
     ensures reads { fill_value fixed.now bytes.new ≡ Some value }
 {
     let size = fixed.size();
@@ -135,7 +136,7 @@ pub fn write_fill(time: AllocationTime, fixed: &Fixed, value: i128, bytes: &mut 
 pub fn write_old_fill(fixed: &Fixed, value: i128, bytes: &mut [u8])
     requires room { 4 + fixed.now.size ≤ length bytes.old }
     requires of_type { fits fixed.now value ≡ true }
-    ensures written { bytes.new ≡ padded (old_fill_bytes fixed.now value) (length bytes.old) }
+    ensures written { bytes.new ≡ with_zeros (old_fill_bytes fixed.now value) (length bytes.old) }
     ensures reads { old_fill_value fixed.now bytes.new ≡ Some value }
 {
     let size = fixed.size();

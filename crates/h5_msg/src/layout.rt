@@ -7,7 +7,7 @@ ghost use Rattle.h5_bytes.specs.Bytes.{number_at};
 ghost use Rattle.h5_bytes.specs.Blocks.{block};
 ghost use Rattle.h5_model.specs.Format.Layout.{InBlock, InChunks, InMessage, chunked_layout, compact_layout, contiguous_layout, layout_of, short_numbers_at};
 ghost use Rattle.h5_model.specs.Format.Bodies.{chunked_bytes, compact_bytes, contiguous_bytes};
-ghost use Rattle.h5_model.specs.Format.Plain.{padded};
+ghost use Rattle.h5_model.specs.Format.Plain.{with_zeros};
 ghost use Rattle.h5_msg.specs.ChunkSizes.{AreSizesThere, sizes_at};
 ghost use Rattle.h5_msg.specs.Layouts.{layout_in};
 ghost use Rattle.h5_model.specs.Tree.Places.{cells as cells_of};
@@ -263,7 +263,7 @@ fn has_zero(body: &[u8], k: usize, count: usize) -> bool
 pub fn write_compact_layout(data: &[u8], bytes: &mut [u8])
     requires short { length «data».now < 2 ^ 16 }
     requires room { 4 + length «data».now ≤ length bytes.old }
-    ensures written { bytes.new ≡ padded (compact_bytes «data».now) (length bytes.old) }
+    ensures written { bytes.new ≡ with_zeros (compact_bytes «data».now) (length bytes.old) }
     ensures reads { (sizes : List ℕ) (size : ℕ) → cells_of sizes * size ≡ length «data».now
         → layout_of sizes size bytes.new ≡ Some (InMessage «data».now) }
 {
@@ -280,7 +280,7 @@ pub fn write_compact_layout(data: &[u8], bytes: &mut [u8])
 pub fn write_contiguous_layout(address: Option<u64>, len: u64, bytes: &mut [u8])
     requires address { ForSome address (λ at. at < 2 ^ 64 - 1) }
     requires room { 18 ≤ length bytes.old }
-    ensures written { bytes.new ≡ padded (contiguous_bytes address len) (length bytes.old) }
+    ensures written { bytes.new ≡ with_zeros (contiguous_bytes address len) (length bytes.old) }
     ensures reads { (sizes : List ℕ) (size : ℕ) → cells_of sizes * size ≤ len
         → layout_of sizes size bytes.new ≡ Some (InBlock (option_map (λ at. block at len) address)) }
 {
@@ -300,7 +300,8 @@ pub fn write_chunked_layout(chunk: &[u32], tree: Option<u64>, fixed: &Fixed, byt
     requires sizes { list_any (λ n. n == 0) chunk.now ≡ false }
     requires address { ForSome tree (λ at. at < 2 ^ 64 - 1) }
     requires room { 11 + 4 * (length chunk.now + 1) ≤ length bytes.old }
-    ensures written { bytes.new ≡ padded (chunked_bytes chunk.now tree fixed.now.size) (length bytes.old) }
+    ensures written { bytes.new
+        ≡ with_zeros (chunked_bytes chunk.now tree fixed.now.size) (length bytes.old) }
     ensures reads { (sizes : List ℕ) → length sizes ≡ length chunk.now
         → layout_of sizes fixed.now.size bytes.new ≡ Some (InChunks chunk.now tree) }
 {

@@ -23,7 +23,8 @@ pub use attribute::{
     AttributeBody, attribute_length, read_attribute, write_attribute, write_stored_attribute,
 };
 pub use dataspace::{
-    Dataspace, dataspace_length, read_dataspace, write_bounded_dataspace, write_dataspace,
+    Dataspace, dataspace_length, has_maxima, read_dataspace, write_bounded_dataspace,
+    write_dataspace,
 };
 pub use datatype::{DATATYPE_LENGTH, read_datatype, write_datatype};
 pub use fault::FormFault;

@@ -9,6 +9,7 @@ use Rattle.h5_bytes.proofs.BlockLaws.{all_append, all_left, all_right, cover-app
 use Rattle.h5_model.specs.Edits.Applied.{with_dataset}
 use Rattle.h5_model.specs.Format.Messages.{Message, prefix_at, reference_count}
 use Rattle.h5_model.specs.Format.Superblock.{end_of_file, end_field, k_values}
+use Rattle.h5_model.specs.Format.Described.{HasArray}
 use Rattle.h5_model.specs.Tree.Objects.{Array, Dataset, Tree, with_object}
 use Rattle.h5_model.proofs.Frames.{prefix-same}
 use Rattle.h5_model.proofs.KLaws.{k_values_stay, same_chunk}
@@ -19,7 +20,6 @@ use Rattle.h5_header.specs.Kinds.{IsOfDataset}
 use Rattle.h5_header.specs.Listed.{IsWithin, Listed, messages_in}
 use Rattle.h5_header.proofs.KeptLaws.{header-same, listed-same}
 use Rattle.h5_layout.specs.Data.{AreDataRead, data_blocks, dataset_told}
-use Rattle.h5_layout.specs.Described.{HasArray}
 use Rattle.h5_layout.specs.Told.{array_told, layout_told, type_told}
 use Rattle.h5_open.specs.declared.opened.object.OpenedObject.{OpenedObject}
 use Rattle.h5_open.specs.declared.opened.object.OpenedContent.{OpenedContent}

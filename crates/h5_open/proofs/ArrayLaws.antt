@@ -7,7 +7,8 @@ use Rattle.h5_bytes.specs.declared.Block.{Block}
 use Rattle.h5_model.specs.Format.Messages.{Message, HasMessages}
 use Rattle.h5_model.specs.Format.Extent.{Extent}
 use Rattle.h5_model.specs.Format.Layout.{Layout, InMessage, InBlock, InChunks}
-use Rattle.h5_model.specs.Format.Reached.{Named, named, Data, length_of, layout_among}
+use Rattle.h5_model.specs.Format.Reached.{Named, naming_of, Data, length_of, layout_among}
+use Rattle.h5_model.specs.Format.Described.{Described, HasArray}
 use Rattle.h5_model.specs.Faults.HeaderFaults.{ListBreach}
 use Rattle.h5_model.specs.declared.open_fault.Cause.{Cause}
 use Rattle.h5_model.specs.declared.open_fault.Cause.TheVariants.{NoMemory, Truncated, Overlap}
@@ -16,7 +17,6 @@ use Rattle.h5_header.specs.Listed.{Listed, messages_in}
 use Rattle.h5_chunks.specs.Walk.Followed.{IsTreeMet}
 use Rattle.h5_chunks.specs.Walk.Forms.{OfChunks}
 use Rattle.h5_layout.specs.Data.{chunk_shape}
-use Rattle.h5_layout.specs.Described.{Described, HasArray}
 use Rattle.h5_layout.specs.Told.{array_told, layout_told, type_told}
 use Rattle.h5_layout.proofs.ToldLaws.{laid_out}
 use Rattle.h5_header.specs.Walk.Met.{IsMet, IsHeaderMet, with_header}
@@ -62,7 +62,7 @@ module _ (image : List ℕ) (header : ℕ) (ms : List Message) (blocks : List Bl
       -- the block of the cells cannot be claimed
       module _ (b : Block) (stored : a.layout ≡ InBlock (Some b)) where
         abbrev pub y : Named
-        y = named (first.0.at + 2) Data b.at depth
+        y = naming_of (first.0.at + 2) Data b.at depth
 
         there : (first.0.at ≤ first.0.at + 2) × (first.0.at + 2 < first.0.at + 8 + length first.0.body) × (8 ≤ first.0.at)
         there = data_inside image header ms blocks has inside first.0 first.1 a.fixed extent b array.space array.type (layout (InBlock (Some b)) stored)

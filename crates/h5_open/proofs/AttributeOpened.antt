@@ -14,6 +14,7 @@ use Rattle.h5_model.specs.Format.Messages.{Message, first_size, prefix_at, refer
 use Rattle.h5_model.specs.Format.Reads.{HasAttributes}
 use Rattle.h5_model.specs.Format.Superblock.{leaf_k, internal_k, k_values, end_of_file, end_field}
 use Rattle.h5_model.specs.Format.Symbols.{Target}
+use Rattle.h5_model.specs.Format.Described.{Described}
 use Rattle.h5_model.specs.Tree.Objects.{Attributes, Tree, Group, Array, with_object}
 use Rattle.h5_model.proofs.Frames.{front-same}
 use Rattle.h5_model.proofs.KLaws.{k_values_stay, same_chunk, same_internal, same_leaf}
@@ -31,7 +32,6 @@ use Rattle.h5_group.specs.Told.{blocks_told}
 use Rattle.h5_group.proofs.ExactTrees.{exact-same}
 use Rattle.h5_group.proofs.ToldLaws.{blocks_told-same, links_told-same, told-same}
 use Rattle.h5_layout.specs.Data.{AreDataRead, data_blocks, dataset_told}
-use Rattle.h5_layout.specs.Described.{Described}
 use Rattle.h5_layout.specs.Told.{array_told, layout_told, type_told}
 use Rattle.h5_open.specs.declared.opened.object.OpenedObject.{OpenedObject}
 use Rattle.h5_open.specs.declared.opened.object.OpenedContent.{OpenedContent}

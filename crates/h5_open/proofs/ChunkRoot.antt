@@ -4,14 +4,15 @@ use Rattle.std.specs.Prelude.{◌==◌, ◌&&◌, nat_le, not, if◌then◌else�
 use Rattle.std.specs.List.{find, list_any}
 use Rattle.std.proofs.lemmas.Option.{same_Some}
 use Rattle.std.proofs.lemmas.Bool.Decides.{nat_tests}
-use Rattle.h5_bytes.specs.Bytes.{number_at, byte_at, undefined}
+use Rattle.h5_bytes.specs.Bytes.{number_at, byte_at, undefined_address}
 use Rattle.h5_bytes.specs.Blocks.{block, Inside}
 use Rattle.h5_bytes.specs.declared.Block.{Block}
+use Rattle.h5_model.specs.Format.MessageTypes.{data_layout_kind}
 use Rattle.h5_model.specs.Format.Messages.{Message, HasMessages, first_body}
 use Rattle.h5_model.specs.Format.Fixed.{Fixed}
 use Rattle.h5_model.specs.Format.Extent.{Extent}
 use Rattle.h5_model.specs.Format.Layout.{InMessage, InBlock, InChunks, layout_of, compact_layout, contiguous_layout, chunked_layout, short_numbers_at}
-use Rattle.h5_model.specs.Format.Reached.{named, ObjectHeader, Reached, by_block, AllMessages, chunk_root, extent_among, type_among, layout_among, size_at}
+use Rattle.h5_model.specs.Format.Reached.{naming_of, ObjectHeader, Reached, by_block, AllMessages, chunk_root, extent_among, type_among, layout_among, size_at}
 use Rattle.h5_model.specs.Tree.Places.{cells}
 use Rattle.h5_header.proofs.MetLaws.{length-part-le}
 use Rattle.h5_header.proofs.WalkLaws.DataLaws.{found_all}
@@ -26,7 +27,7 @@ no_compact need body sizes root is = go (nat_le 4 (length body) && nat_le (4 + n
   go false e = cc
 
 no_contiguous : (need : ℕ) (body sizes : List ℕ) (root : Option ℕ) → contiguous_layout need body ≡ Some (InChunks sizes root) → ⊥
-no_contiguous need body sizes root is = go (nat_le 18 (length body)) (number_at body 2 8 == undefined) (nat_le need (number_at body 10 8)) is where
+no_contiguous need body sizes root is = go (nat_le 18 (length body)) (number_at body 2 8 == undefined_address) (nat_le need (number_at body 10 8)) is where
   go : (x y z : Bool) → (if x then (if y then Some (InBlock None) else (if z then Some (InBlock (Some (block (number_at body 2 8) (number_at body 10 8)))) else None)) else None)
       ≡ Some (InChunks sizes root) → ⊥
   go true true z e = let no : InBlock None ≡ InChunks sizes root = same_Some (InBlock None) (InChunks sizes root) e in cc
@@ -65,7 +66,7 @@ module _ (image : List ℕ) (header : ℕ) (ms : List Message) (blocks : List Bl
     (extent : extent_among ms ≡ Some e) (type : type_among ms ≡ Some t) (layout : layout_among ms ≡ Some (InChunks sizes (Some root))) where
   long : 15 ≤ length m.body
   long =
-      let all : option_and_then (λ (x : Extent). option_and_then (λ (y : Fixed). option_and_then (layout_of x.sizes y.size) (first_body 8 ms)) (type_among ms)) (extent_among ms)
+      let all : option_and_then (λ (x : Extent). option_and_then (λ (y : Fixed). option_and_then (layout_of x.sizes y.size) (first_body data_layout_kind ms)) (type_among ms)) (extent_among ms)
       ≡ Some (InChunks sizes (Some root)) = layout in
       chunks_long e.sizes t.size m.body sizes (Some root) (rw (extent, type, first) at all)
 
@@ -75,11 +76,11 @@ module _ (image : List ℕ) (header : ℕ) (ms : List Message) (blocks : List Bl
   whole : length m.body ≤ size_at image placed.0
   whole = subst (λ (bs : List ℕ). length bs ≤ size_at image placed.0) (sym (placed.1).body) (length-part-le (placed.0 + 8) (size_at image placed.0) image)
 
-  pub root_reached : (field depth : ℕ) → Reached image (named field ObjectHeader header depth)
-      → Reached image (named (m.at + 3) (chunk_root image (chunk_shape t sizes) root) root depth)
+  pub root_reached : (field depth : ℕ) → Reached image (naming_of field ObjectHeader header depth)
+      → Reached image (naming_of (m.at + 3) (chunk_root image (chunk_shape t sizes) root) root depth)
   root_reached field depth reached =
       let all : AllMessages image header ms = all_messages image header ms blocks has inside in
-      by_block {y = named (m.at + 3) (chunk_root image (chunk_shape t sizes) root) root depth} reached
+      by_block {y = naming_of (m.at + 3) (chunk_root image (chunk_shape t sizes) root) root depth} reached
       (inr (ms, all, (m, t, InChunks sizes (Some root), first, type, layout, refl)))
       (omega (arith, long, whole, (placed.1).there, (placed.1).place))
 

@@ -7,6 +7,7 @@ use Rattle.h5_bytes.specs.declared.Block.{Block}
 use Rattle.h5_model.specs.Format.Fixed.{IsFixed}
 use Rattle.h5_model.specs.Format.Layout.{Layout, InMessage}
 use Rattle.h5_model.specs.Format.Plain.{cells_bytes}
+use Rattle.h5_model.specs.Format.Described.{Described}
 use Rattle.h5_model.specs.Tree.Objects.{Dataset}
 use Rattle.h5_space.specs.Lending.{with_bytes_at}
 use Rattle.h5_space.specs.Space.{Space}
@@ -17,7 +18,6 @@ use Rattle.h5_layout.specs.Compact.{compact_at}
 use Rattle.h5_layout.specs.Told.{array_told}
 use Rattle.h5_layout.proofs.PlacesWritten.{compact_places}
 use Rattle.h5_layout.specs.Data.{stored_chunks}
-use Rattle.h5_layout.specs.Described.{Described}
 use Rattle.h5_layout.proofs.CompactWritten.{compact_message}
 use Rattle.h5_layout.specs.Standing.{blocks_with_cells, cell_blocks, is_stored_cell}
 use Rattle.h5_open.specs.declared.opened.object.OpenedObject.{OpenedObject}

@@ -18,6 +18,7 @@ use Rattle.h5_model.specs.Format.Messages.{Message, count_of, reference_count}
 use Rattle.h5_model.specs.Format.Plain.{cells_bytes}
 use Rattle.h5_model.specs.Format.Reads.{HasAttributes, is_attribute_message, is_kept, kept_of}
 use Rattle.h5_model.specs.Format.Superblock.{k_values}
+use Rattle.h5_model.specs.Format.Described.{Described, HasArray}
 use Rattle.h5_model.specs.Tree.Objects.{Tree, Array, Attribute, Attributes, with_object}
 use Rattle.h5_model.specs.Tree.Places.{cells}
 use Rattle.h5_space.specs.Space.{Space}
@@ -31,7 +32,6 @@ use Rattle.h5_header.proofs.FoundLaws.{within_at}
 use Rattle.h5_header.proofs.FirstWritten.{IsBodyWritten, body_written, same_count, same_filter, written_covered}
 use Rattle.h5_attr.specs.Attributes.{attributes_of, HasNamesOnce}
 use Rattle.h5_layout.specs.Data.{AreDataRead, data_blocks, dataset_told}
-use Rattle.h5_layout.specs.Described.{Described, HasArray}
 use Rattle.h5_layout.specs.Told.{array_told, layout_told, type_told}
 use Rattle.h5_layout.proofs.CompactWritten.{array_with, compact_array, compact_high, compact_inside, compact_low, compact_told}
 use Rattle.h5_layout.proofs.StandingWritten.{moves_within}

@@ -7,7 +7,7 @@ use Rattle.h5_bytes.specs.declared.Block.{Block}
 use Rattle.h5_bytes.proofs.BlockLaws.{all_append, holds_in}
 use Rattle.h5_model.specs.Faults.Breaches.{is_header}
 use Rattle.h5_model.specs.Format.Messages.{Message, HasMessages}
-use Rattle.h5_model.specs.Format.Reached.{Named, named, ObjectHeader}
+use Rattle.h5_model.specs.Format.Reached.{Named, naming_of, ObjectHeader}
 use Rattle.h5_laws.proofs.Lists.{contains_in, in_right}
 use Rattle.h5_header.specs.Listed.{Listed, messages_in}
 use Rattle.h5_header.specs.Walk.Met.{with_header}
@@ -37,7 +37,7 @@ module _ (image : List ℕ) (held now : List Block) (followed : List Named) (fie
   behind = header_fields field m.header depth ms
 
   abbrev own_header : Named
-  own_header = named field ObjectHeader m.header depth
+  own_header = naming_of field ObjectHeader m.header depth
 
   -- fields were followed behind those of the header, and the links wait
   pub content_followed : (after : List Block) (c : OpenedContent) (tidy : Bool) (new : List Named) → IsWalked image after (new ++ with_header field m.header depth ms followed)

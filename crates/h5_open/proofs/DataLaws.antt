@@ -8,10 +8,10 @@ use Rattle.h5_model.specs.Format.Fixed.{Fixed}
 use Rattle.h5_model.specs.Format.Layout.{Layout, InMessage, InBlock, InChunks}
 use Rattle.h5_model.specs.Format.Reads.{HasData}
 use Rattle.h5_model.specs.Format.Superblock.{chunk_k}
+use Rattle.h5_model.specs.Format.Described.{Described, described_dataset}
 use Rattle.h5_model.proofs.Frames.{cells-same}
 use Rattle.h5_chunks.proofs.ToldLaws.{chunks_are_told, blocks_are_told}
 use Rattle.h5_layout.specs.Data.{AreDataRead, chunk_shape, data_blocks, dataset_told, stored_chunks}
-use Rattle.h5_layout.specs.Described.{Described, described_dataset}
 pub use Rattle.h5_layout.proofs.DataKept.{data_inside, data_there, data_blocks-same, stored_chunks-same, data_read-same}
 
 -- whatever data stand there

@@ -8,7 +8,7 @@ use Rattle.h5_bytes.specs.declared.Block.{Block}
 use Rattle.h5_bytes.proofs.BlockLaws.{all_append}
 use Rattle.h5_model.specs.Format.Superblock.{root_header, root_header_place}
 use Rattle.h5_model.specs.Format.Symbols.{Target, Header, Text}
-use Rattle.h5_model.specs.Format.Reached.{Named, named, ObjectHeader, Reached}
+use Rattle.h5_model.specs.Format.Reached.{Named, naming_of, ObjectHeader, Reached}
 use Rattle.h5_model.specs.Faults.Breaches.{is_header}
 use Rattle.h5_laws.proofs.Lists.{In, in_all, all_in, in_contains, contains_in, in_either}
 use Rattle.h5_laws.proofs.Pigeonhole.{Apart, apart_of_distinct, distinct_of_apart}
@@ -27,7 +27,7 @@ IsNaming image header f = (y : Named) × Reached image y × (y.field ≡ f) × (
 
 -- ---- the root
 
-pub root_fields : (image : List ℕ) (held : List Block) → IsMet image held [] (named (root_header_place image) ObjectHeader (root_header image) 0)
+pub root_fields : (image : List ℕ) (held : List Block) → IsMet image held [] (naming_of (root_header_place image) ObjectHeader (root_header image) 0)
     → (header : ℕ) → AreFieldsMet image held (all_links image []) header
 root_fields image held met header = go (root_header image == header) refl where
   go : (b : Bool) → (root_header image == header) ≡ b → AreFieldsMet image held (all_links image []) header
@@ -43,7 +43,7 @@ root_fields image held met header = go (root_header image == header) refl where
         long = sym (one_more header (root_header image) [] [] same);
       } where
         only : (f : ℕ) → In f (root_header_place image ∷ []) → root_header image ≡ header → IsNaming image header f
-        only f (inl at) same = (named (root_header_place image) ObjectHeader (root_header image) 0, met.reached, at, same, refl)
+        only f (inl at) same = (naming_of (root_header_place image) ObjectHeader (root_header image) 0, met.reached, at, same, refl)
         only f (inr at) same = absurd at
   go false e =
       let other : root_header image ≢ header = grind (arith, nat_tests, e) in
@@ -73,7 +73,7 @@ field_more image base held followed depth header name h links f fields waiting r
   this : h ≡ header → (g : ℕ) → In g (f ∷ rest.own) → IsOwnField image base held header g
   this same g (inl e) =
       subst (IsOwnField image base held header) e
-      (record { naming = (named f ObjectHeader h (depth + 1), (waiting.0).reached, refl, same, refl); stands = (waiting.0).stands; new = waiting.1 })
+      (record { naming = (naming_of f ObjectHeader h (depth + 1), (waiting.0).reached, refl, same, refl); stands = (waiting.0).stands; new = waiting.1 })
   this same g (inr at) = rest.each g at
 
   in_fields : (g : ℕ) → In g (f ∷ rest.own) → In g (f ∷ fields)

@@ -6,6 +6,7 @@ use Rattle.std.specs.List.{list_all}
 use Rattle.std.proofs.lemmas.List.{places, take-append-drop}
 use Rattle.h5_model.specs.Format.Fixed.{IsFixed, fits}
 use Rattle.h5_model.specs.Format.Plain.{cells_bytes}
+use Rattle.h5_model.specs.Format.Described.{Described}
 use Rattle.h5_model.specs.Tree.Objects.{Dataset}
 use Rattle.h5_space.specs.Lending.{with_bytes_at}
 use Rattle.h5_space.specs.Space.{Space}
@@ -13,7 +14,6 @@ use Rattle.h5_header.specs.Listed.{messages_in}
 use Rattle.h5_layout.specs.CellPlaces.{ArePlacesOf, KeptPlaces}
 use Rattle.h5_layout.specs.Compact.{IsRunAt}
 use Rattle.h5_layout.specs.Told.{array_told}
-use Rattle.h5_layout.specs.Described.{Described}
 use Rattle.h5_layout.specs.Standing.{is_stored_cell}
 use Rattle.h5_layout.proofs.StandingWritten.{parts_of_type}
 use Rattle.h5_open.specs.declared.opened.object.OpenedObject.{OpenedObject}

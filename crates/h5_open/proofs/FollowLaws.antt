@@ -4,7 +4,7 @@ use Rattle.std.specs.List.{Contains}
 use Rattle.std.specs.Prelude.{slice_get}
 use Rattle.std.proofs.lemmas.List.{append-nil}
 use Rattle.h5_bytes.specs.declared.Block.{Block}
-use Rattle.h5_model.specs.Format.Reached.{Named, named, ObjectHeader}
+use Rattle.h5_model.specs.Format.Reached.{Named, naming_of, ObjectHeader}
 use Rattle.h5_model.specs.Faults.HeaderFaults.{SomeMessage}
 use Rattle.h5_model.specs.Format.Symbols.{Target, Header, Text}
 use Rattle.h5_model.specs.declared.open_fault.Cause.{Cause}
@@ -78,7 +78,7 @@ twice image held followed objects field header depth ready o among same group =
     let by : IsNamedBy followed o = in_all (IsNamedBy followed) o objects (ready.under).named at in
     let is : IsFollowed image held by.0 = in_all (IsFollowed image held) by.0 followed ((ready.under).walked).all (in_contains by.0 followed by.1) in
     let other : by.0.field ≢ field = in_all (λ (z : Named). z.field ≢ field) by.0 followed (ready.met).fresh (in_contains by.0 followed by.1) in (
-      named field ObjectHeader header depth,
+      naming_of field ObjectHeader header depth,
       (ready.met).reached,
       refl,
       (
@@ -103,7 +103,7 @@ too_often image held followed objects field header depth ready counts name waiti
     let exact : get_or counts number 0 + leading header ((name, Header header) ∷ waiting) ≡ leading header (all_links image objects)
     = subst (λ (h : ℕ). get_or counts number 0 + leading h ((name, Header header) ∷ waiting) ≡ leading h (all_links image objects)) same (are.each number o here).exact in
     let many : 65535 < length met.fields = omega (arith, most, one, exact, met.long) in (
-      named field ObjectHeader header depth,
+      naming_of field ObjectHeader header depth,
       (ready.met).reached,
       refl,
       (

@@ -5,13 +5,14 @@ use Rattle.std.specs.List.{find}
 use Rattle.h5_bytes.specs.Blocks.{cover, Separate, Inside}
 use Rattle.h5_bytes.specs.declared.Block.{Block}
 use Rattle.h5_bytes.proofs.BlockLaws.{all_append, all_left, all_right, all_so, cover-append}
+use Rattle.h5_model.specs.Format.MessageTypes.{symbol_table_kind}
 use Rattle.h5_model.specs.Format.Addresses.{SymbolTable, symbol_table_of}
 use Rattle.h5_model.specs.Format.Superblock.{leaf_k}
 use Rattle.h5_model.specs.Format.Messages.{Message, HasMessages, count_of}
 use Rattle.h5_model.specs.Format.Symbols.{symbol_block}
 use Rattle.h5_model.specs.Format.Heap.{heap_blocks}
 use Rattle.h5_model.specs.Format.Nodes.{tree_blocks}
-use Rattle.h5_model.specs.Format.Reached.{Named, named, ObjectHeader, SymbolNode, Reached}
+use Rattle.h5_model.specs.Format.Reached.{Named, naming_of, ObjectHeader, SymbolNode, Reached}
 use Rattle.h5_model.specs.declared.open_fault.Cause.{Cause}
 use Rattle.h5_model.specs.declared.open_fault.Cause.TheVariants.{NoMemory, MissingMessage, TooDeep}
 use Rattle.h5_attr.specs.Attributes.{HasNamesOnce}
@@ -63,8 +64,8 @@ module _ (image : List ℕ) (m : Listed) (has : HasMessages image m.header (mess
   abbrev all : List Message
   all = messages_in image m.list
 
-  no_root : depth ≡ 0 → count_of 17 all ≡ 0 → IsOpenRefusedAt image MissingMessage m.header
-  no_root top none = no_root_refused image m.header all m.blocks has inside field (subst (λ (d : ℕ). Reached image (named field ObjectHeader m.header d)) top (met.met).reached) none
+  no_root : depth ≡ 0 → count_of symbol_table_kind all ≡ 0 → IsOpenRefusedAt image MissingMessage m.header
+  no_root top none = no_root_refused image m.header all m.blocks has inside field (subst (λ (d : ℕ). Reached image (naming_of field ObjectHeader m.header d)) top (met.met).reached) none
 
   kind_breach : (cause : Cause) → IsKindBreach image m.header depth all cause → IsOpenRefusedAt image cause m.header
   kind_breach cause (inl (top, is, none)) = subst (λ (c : Cause). IsOpenRefusedAt image c m.header) (sym is) (no_root top none)
@@ -134,7 +135,7 @@ module _ (image : List ℕ) (held now : List Block) (followed : List Named) (fie
     deep_refused read address is =
         let at : In address (symbol_nodes_told image table) = in_contains address (symbol_nodes_told image table) is.node_of in
         let reached = in_all (AreSymbolsReached image table.tree table.heap depth) address (symbol_nodes_told image table) gone.symbols_reached at in
-        (named reached.0 (SymbolNode table.tree table.heap) address depth, reached.1, refl, (symbol_there image table read address at, (is.deep, is.some)))
+        (naming_of reached.0 (SymbolNode table.tree table.heap) address depth, reached.1, refl, (symbol_there image table read address at, (is.deep, is.some)))
 
     -- or memory was short
     pub depth_fault : IsGroupRead image table → (cause : Cause) (address : ℕ) → (cause ≡ NoMemory) ⊎ ((cause ≡ TooDeep) × IsDeepAt image table depth address)

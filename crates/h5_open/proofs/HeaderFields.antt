@@ -6,7 +6,7 @@ use Rattle.h5_bytes.specs.Blocks.{holds, cover, Separate}
 use Rattle.h5_bytes.specs.declared.Block.{Block}
 use Rattle.h5_bytes.proofs.BlockLaws.{holds_in, all_append}
 use Rattle.h5_model.specs.Format.Messages.{Message, HasMessages, continuation}
-use Rattle.h5_model.specs.Format.Reached.{Named, named, ObjectHeader, Continuation}
+use Rattle.h5_model.specs.Format.Reached.{Named, naming_of, ObjectHeader, Continuation}
 use Rattle.h5_model.specs.Faults.Breaches.{is_header}
 use Rattle.h5_header.specs.Walk.Walked.{continuation_fields}
 use Rattle.h5_header.proofs.WalkLaws.MessagePlaces.{messages_placed}
@@ -16,9 +16,9 @@ use Rattle.h5_open.specs.Read.{IsOwn}
 -- Continuations name no header
 pub inner_fields : (header depth : ℕ) (ms : List Message) → AllByRecursion (λ (y : Named). is_header y.role ≡ false) (continuation_fields header depth ms)
 inner_fields header depth [] = tt
-inner_fields header depth (m ∷ ms) = all_append (λ (y : Named). is_header y.role ≡ false) (map (λ (b : Block). named m.at (Continuation header) b.at depth) (continuation m)) (continuation_fields header depth ms)
+inner_fields header depth (m ∷ ms) = all_append (λ (y : Named). is_header y.role ≡ false) (map (λ (b : Block). naming_of m.at (Continuation header) b.at depth) (continuation m)) (continuation_fields header depth ms)
     (one (continuation m)) (inner_fields header depth ms) where
-      one : (bs : List Block) → AllByRecursion (λ (y : Named). is_header y.role ≡ false) (map (λ (b : Block). named m.at (Continuation header) b.at depth) bs)
+      one : (bs : List Block) → AllByRecursion (λ (y : Named). is_header y.role ≡ false) (map (λ (b : Block). naming_of m.at (Continuation header) b.at depth) bs)
       one [] = tt
       one (b ∷ bs) = (refl, one bs)
 
@@ -35,9 +35,9 @@ all_covered blocks (m ∷ ms) low spans = (
 own_fields : (held : List Block) (field header depth : ℕ) (ms : List Message) → AllByRecursion (λ (m : Message). cover (m.at - 8) held ≡ 0) ms
     → AllByRecursion (IsOwn held field) (continuation_fields header depth ms)
 own_fields held field header depth [] all = tt
-own_fields held field header depth (m ∷ ms) all = all_append (IsOwn held field) (map (λ (b : Block). named m.at (Continuation header) b.at depth) (continuation m)) (continuation_fields header depth ms)
+own_fields held field header depth (m ∷ ms) all = all_append (IsOwn held field) (map (λ (b : Block). naming_of m.at (Continuation header) b.at depth) (continuation m)) (continuation_fields header depth ms)
     (one (continuation m)) (own_fields held field header depth ms all.1) where
-      one : (bs : List Block) → AllByRecursion (IsOwn held field) (map (λ (b : Block). named m.at (Continuation header) b.at depth) bs)
+      one : (bs : List Block) → AllByRecursion (IsOwn held field) (map (λ (b : Block). naming_of m.at (Continuation header) b.at depth) bs)
       one [] = tt
       one (b ∷ bs) = (inr all.0, one bs)
 
@@ -47,7 +47,7 @@ all_free held blocks [] once all = tt
 all_free held blocks (m ∷ ms) once all = (omega (arith, all.0, once (m.at - 8)), all_free held blocks ms once all.1)
 
 abbrev pub header_fields : ℕ → ℕ → ℕ → List Message → List Named
-header_fields field header depth ms = named field ObjectHeader header depth ∷ continuation_fields header depth ms
+header_fields field header depth ms = naming_of field ObjectHeader header depth ∷ continuation_fields header depth ms
 
 only_of : (header : ℕ) (ys : List Named) → AllByRecursion (λ (y : Named). is_header y.role ≡ false) ys → AllByRecursion (λ (y : Named). is_header y.role ≡ true → y.at ≡ header) ys
 only_of header [] all = tt

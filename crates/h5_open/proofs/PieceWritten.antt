@@ -4,6 +4,7 @@ use Rattle.std.specs.BTreeMap.{BTreeMap}
 use Rattle.std.specs.List.{list_all}
 use Rattle.h5_model.specs.Format.Fixed.{Fixed, IsFixed, fits}
 use Rattle.h5_model.specs.Format.Plain.{cells_bytes}
+use Rattle.h5_model.specs.Format.Described.{Described}
 use Rattle.h5_model.specs.Tree.Objects.{Dataset}
 use Rattle.h5_model.specs.Tree.Places.{cells}
 use Rattle.h5_space.specs.Lending.{with_bytes_at}
@@ -11,7 +12,6 @@ use Rattle.h5_space.specs.Space.{Space}
 use Rattle.h5_header.specs.Listed.{messages_in}
 use Rattle.h5_layout.specs.CellPlaces.{ArePlacesOf, IsStoredAmong, KeptPlaces}
 use Rattle.h5_layout.specs.Compact.{IsRunAt}
-use Rattle.h5_layout.specs.Described.{Described}
 use Rattle.h5_layout.specs.Told.{array_told}
 use Rattle.h5_open.specs.declared.opened.object.OpenedObject.{OpenedObject}
 use Rattle.h5_open.specs.Opened.State.{opened_state}

@@ -3,7 +3,7 @@ use Rattle.std.proofs.Common.{◌≡◌, ◌≢◌, ℕ, List, [], ◌∷◌, re
 use Rattle.std.specs.Prelude.{false}
 use Rattle.std.specs.List.{AllByRecursion}
 use Rattle.h5_bytes.specs.declared.Block.{Block}
-use Rattle.h5_model.specs.Format.Reached.{Named, named, ObjectHeader}
+use Rattle.h5_model.specs.Format.Reached.{Named, naming_of, ObjectHeader}
 use Rattle.h5_model.specs.Faults.Breaches.{is_header}
 use Rattle.h5_model.specs.declared.open_fault.Cause.{Cause}
 use Rattle.h5_model.specs.declared.open_fault.Cause.TheVariants.{NoMemory}
@@ -30,7 +30,7 @@ only_memory image cause address h r = memory_alone image cause cause address ref
 -- ---- headers that are met
 
 header_others : (field header depth : ℕ) (followed : List Named) → AllByRecursion (λ (y : Named). y.field ≢ field) followed
-    → AllByRecursion (λ (y : Named). y.at ≡ header → is_header y.role ≡ false) followed → AllByRecursion (IsOther (named field ObjectHeader header depth)) followed
+    → AllByRecursion (λ (y : Named). y.at ≡ header → is_header y.role ≡ false) followed → AllByRecursion (IsOther (naming_of field ObjectHeader header depth)) followed
 header_others field header depth [] fresh alone = tt
 header_others field header depth (y ∷ ys) fresh alone = ((fresh.0, λ e. rw (alone.0 e) refl), header_others field header depth ys fresh.1 alone.1)
 

@@ -7,13 +7,13 @@ use Rattle.std.specs.Option.{option_flatten}
 use Rattle.std.proofs.lemmas.Bool.Decides.{nat_tests}
 use Rattle.std.proofs.lemmas.List.FromFn.{length-map-range_with_len}
 use Rattle.std.proofs.lemmas.Option.{cond_some, slice_get_within}
-use Rattle.h5_model.specs.Edits.Applied.{resized, with_dataset}
+use Rattle.h5_model.specs.Edits.Applied.{with_sizes, with_dataset}
 use Rattle.h5_model.specs.Edits.Refusal.{is_chunked}
 use Rattle.h5_model.specs.Format.Extent.{Extent, extent_in, extent_of, is_dataspace, rank_in, size_in}
 use Rattle.h5_model.specs.Format.Layout.{Layout, InMessage, InBlock, InChunks}
 use Rattle.h5_model.specs.Format.Messages.{Message}
-use Rattle.h5_model.specs.Format.Reads.{storage_of}
 use Rattle.h5_model.specs.Format.Superblock.{end_of_file, end_field}
+use Rattle.h5_model.specs.Format.Described.{storage_of, Described, HasArray}
 use Rattle.h5_model.specs.Tree.Objects.{with_object}
 use Rattle.h5_model.proofs.OneReading.{one_messages}
 use Rattle.h5_space.specs.Moves.{Moves}
@@ -21,7 +21,6 @@ use Rattle.h5_space.specs.Space.{Space}
 use Rattle.h5_header.specs.Listed.{messages_in}
 use Rattle.h5_header.proofs.FoundLaws.{among_some}
 use Rattle.h5_layout.specs.Data.{dataset_told}
-use Rattle.h5_layout.specs.Described.{Described, HasArray}
 use Rattle.h5_layout.specs.Told.{array_told}
 use Rattle.h5_open.specs.declared.opened.object.OpenedObject.{OpenedObject}
 use Rattle.h5_open.specs.declared.opened.object.OpenedContent.TheVariants as content
@@ -165,7 +164,7 @@ module _ (image : Space) (slots : List (Option OpenedObject)) (numbers : BTreeMa
       sizes_now : (described_in mid.bytes p'.messages).sizes ≡ sizes
       sizes_now = ap (λ (a : Described). a.sizes) done.resized.told
 
-      edited : IsArrayEdited done.ready mid new slots slots' number p p' (resized sizes)
+      edited : IsArrayEdited done.ready mid new slots slots' number p p' (with_sizes sizes)
       edited = record {
         before = at;
         after = after;
@@ -184,18 +183,18 @@ module _ (image : Space) (slots : List (Option OpenedObject)) (numbers : BTreeMa
       }
 
       pub resized_opened : IsOpened new (slice_set slots number (Some p')) numbers
-      resized_opened = edited_opened done.ready slots numbers ready_opened number p at kind mid new slots' p' (resized sizes) edited
+      resized_opened = edited_opened done.ready slots numbers ready_opened number p at kind mid new slots' p' (with_sizes sizes) edited
 
       pub resized_changed : (lacks : Bool) → LacksMaxima f.image (get f.table number) lacks
-          → IsChangedInPlace f (opened_state new (slice_set slots number (Some p'))) (with_object f.tree number (with_dataset (resized sizes))) f.next (number ∷ [])
+          → IsChangedInPlace f (opened_state new (slice_set slots number (Some p'))) (with_object f.tree number (with_dataset (with_sizes sizes))) f.next (number ∷ [])
           (extent_bytes lacks sizes)
       resized_changed lacks says =
           let same = ap (λ (b : List ℕ). length b) bytes_stay in
-          subst (λ (n : ℕ). IsChangedInPlace f (opened_state new slots') (with_object f.tree number (with_dataset (resized sizes))) f.next (number ∷ []) n)
+          subst (λ (n : ℕ). IsChangedInPlace f (opened_state new slots') (with_object f.tree number (with_dataset (with_sizes sizes))) f.next (number ∷ []) n)
           (bytes_are lacks says)
-          (subst (λ (g : FileState). IsChangedInPlace g (opened_state new slots') (with_object g.tree number (with_dataset (resized sizes))) g.next (number ∷ [])
+          (subst (λ (g : FileState). IsChangedInPlace g (opened_state new slots') (with_object g.tree number (with_dataset (with_sizes sizes))) g.next (number ∷ [])
           (extent_room ms sizes)) ready_view
-          (edited_changed done.ready slots numbers ready_opened number p at kind mid new slots' p' (resized sizes) edited (extent_room ms sizes)
+          (edited_changed done.ready slots numbers ready_opened number p at kind mid new slots' p' (with_sizes sizes) edited (extent_room ms sizes)
           (omega (arith, long, grown, same))))
 
       -- it is in chunks still
@@ -204,7 +203,7 @@ module _ (image : Space) (slots : List (Option OpenedObject)) (numbers : BTreeMa
           let ready : is_chunked (storage_of (described_in done.ready.bytes p.messages).sizes (described_in done.ready.bytes p.messages).layout) ≡ true
           = subst (λ (b : List ℕ). is_chunked (storage_of (described_in b p.messages).sizes (described_in b p.messages).layout) ≡ true) (sym bytes_stay) sizes_here.chunked in
           subst (λ (l : List Message). is_chunked (storage_of (array_told l).sizes (array_told l).layout) ≡ true)
-          (sym (edited_list_stays done.ready slots numbers ready_opened number p at kind mid new slots' p' (resized sizes) edited))
+          (sym (edited_list_stays done.ready slots numbers ready_opened number p at kind mid new slots' p' (with_sizes sizes) edited))
           (subst (λ (a : Described). is_chunked (storage_of a.sizes a.layout) ≡ true) (sym done.resized.told)
           (chunked_so (described_in done.ready.bytes p.messages).layout (described_in done.ready.bytes p.messages).sizes sizes ready))
 

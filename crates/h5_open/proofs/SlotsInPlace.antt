@@ -9,6 +9,7 @@ use Rattle.std.specs.BTreeMap.{BTreeMap}
 use Rattle.std.specs.FinMap.{FinMap, get, entries, same_map, nat_cmp-IsAntisymmetric}
 use Rattle.std.specs.List.{filter}
 use Rattle.std.proofs.lemmas.Option.{same_Some}
+use Rattle.std.proofs.lemmas.Bool.{not-true}
 use Rattle.h5_bytes.specs.Blocks.{cover, Inside}
 use Rattle.h5_bytes.specs.declared.Block.{Block}
 use Rattle.h5_bytes.proofs.BlockLaws.{all_append}
@@ -53,10 +54,6 @@ in_filter f x (y ∷ xs) at = go (f y) refl at (in_filter f x xs) where
   go : (b : Bool) → f y ≡ b → In x (cond b (y ∷ filter f xs) (filter f xs)) → (In x (filter f xs) → In x xs × (f x ≡ true)) → In x (y ∷ xs) × (f x ≡ true)
   go true is there more = first is there more
   go false is there more = let rest = more there in (inr rest.0, rest.1)
-
-not_true : (b : Bool) → not b ≡ true → b ≡ false
-not_true true is = absurd (let never : false ≡ true = is in cc)
-not_true false is = refl
 
 full_slot : (slot : Option (Option OpenedObject)) (o : OpenedObject) → option_flatten slot ≡ Some o → slot ≡ Some (Some o)
 full_slot None o is = absurd (let never : None ≡ Some o = is in cc)
@@ -182,7 +179,7 @@ module _ (old new : Space) (slots slots' : List (Option OpenedObject)) (numbers 
       let m = place.1 in
       let o = place.2 in
       let number : m ≡ x.number = ap (λ (y : Placed). y.number) place.5 in
-      let not_touched : touched m ≡ false = ap touched number ∙ not_true (touched x.number) there.1 in
+      let not_touched : touched m ≡ false = ap touched number ∙ not-true (touched x.number) there.1 in
       let slot : slice_get slots' m ≡ Some (Some o) = let k : place.0 ≡ m = omega (arith, place.3) in ap (slice_get slots') (sym k) ∙ place.4 in
       let now : get tree' m ≡ Some (placing m o).object
       = got m ∙ ap (λ (s : Option (Option OpenedObject)). option_map (λ (p : OpenedObject). (placing m p).object) (option_flatten s)) slot in

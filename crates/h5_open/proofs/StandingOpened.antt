@@ -16,20 +16,20 @@ use Rattle.h5_model.specs.Format.Chunks.{Chunks}
 use Rattle.h5_model.specs.Format.Fixed.{IsFixed, fits}
 use Rattle.h5_model.specs.Format.Messages.{Message, HasMessages, continuations, first_size, prefix_at}
 use Rattle.h5_model.specs.Format.Plain.{cells_bytes}
+use Rattle.h5_model.specs.Format.Described.{Described, HasArray}
 use Rattle.h5_model.specs.Tree.Objects.{Dataset, Object, dataset_in}
 use Rattle.h5_model.specs.Tree.Places.{cells, index_of}
 use Rattle.h5_model.proofs.Frames.{messages-same}
 use Rattle.h5_model.proofs.OneReading.{one_messages}
+use Rattle.h5_model.proofs.DescribedLaws.{one_array}
 use Rattle.h5_space.specs.Lending.{with_bytes_at}
 use Rattle.h5_space.specs.Moves.{Moves}
 use Rattle.h5_space.specs.Space.{Space}
 use Rattle.h5_header.specs.Listed.{messages_in}
 use Rattle.h5_layout.specs.CellPlaces.{ArePlacesOf, KeptPlaces}
 use Rattle.h5_layout.specs.Data.{dataset_told, stored_chunks}
-use Rattle.h5_layout.specs.Described.{Described, HasArray}
 use Rattle.h5_layout.specs.Standing.{IsStandingAt, blocks_with_cells, cell_blocks, is_stored_cell, is_stored_in}
 use Rattle.h5_layout.specs.Told.{array_told}
-use Rattle.h5_layout.proofs.ArrayLaws.{one_array}
 use Rattle.h5_layout.proofs.PlacesWritten.{stored_places}
 use Rattle.h5_layout.proofs.StandingWritten.{byte_beside, moves_within, parts_of_type, stored_among, stored_blocks_stay, stored_chunks_stay, stored_covered, stored_fit, stored_inside, stored_long, stored_read, stored_told}
 use Rattle.h5_layout.proofs.StandsAt.{cells_low}

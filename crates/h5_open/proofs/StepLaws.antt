@@ -6,7 +6,7 @@ use Rattle.h5_bytes.specs.Blocks.{cover, Separate}
 use Rattle.h5_bytes.specs.declared.Block.{Block}
 use Rattle.h5_bytes.proofs.BlockLaws.{all_append, all_left}
 use Rattle.h5_model.specs.Format.Symbols.{Target, Header, Text}
-use Rattle.h5_model.specs.Format.Reached.{Named, named, ObjectHeader}
+use Rattle.h5_model.specs.Format.Reached.{Named, naming_of, ObjectHeader}
 use Rattle.h5_laws.proofs.Lists.{contains_in, in_left, in_right}
 use Rattle.h5_header.specs.Walk.Walked.{IsFollowed}
 use Rattle.h5_header.specs.Walk.Met.{IsMet}
@@ -25,7 +25,7 @@ use Rattle.h5_open.proofs.UnderLaws.{object_under, cover_grows}
 pub record HasTurn (image : List ℕ) (base held : List Block) (followed : List Named) (depth : ℕ) (link : List ℕ × Target) (links : List (List ℕ × Target)) : Type 0 where
   pub field : ℕ
   pub rest : List ℕ
-  pub met : (header : ℕ) → link.1 ≡ Header header → IsMet image held followed (named field ObjectHeader header (depth + 1))
+  pub met : (header : ℕ) → link.1 ≡ Header header → IsMet image held followed (naming_of field ObjectHeader header (depth + 1))
   pub free : (field ≡ 0) ⊎ (cover (field - 8) base ≡ 0)
   pub others : AllByRecursion (λ (other : ℕ). other ≢ field) rest
   pub waiting : AreWaiting image base held followed depth links rest
@@ -47,7 +47,7 @@ turn_of image base held followed depth (name, Header header) links [] waiting = 
 turn_of image base held followed depth (name, Header header) links (f ∷ fields) waiting = record {
   field = f;
   rest = fields;
-  met = λ h e. subst (λ (k : ℕ). IsMet image held followed (named f ObjectHeader k (depth + 1))) (same_header header h e) waiting.0;
+  met = λ h e. subst (λ (k : ℕ). IsMet image held followed (naming_of f ObjectHeader k (depth + 1))) (same_header header h e) waiting.0;
   free = inr waiting.1;
   others = waiting.2;
   waiting = waiting.3;

@@ -2,12 +2,14 @@
 use Rattle.std.proofs.Common.{◌≡◌, ℕ, ◌==◌, ◌||◌, Bool, false, IsTrue, Option, Some, List, [], ◌∷◌, map, refl, sym, ap, ◌∙◌, subst, arith}
 use Rattle.std.specs.Prelude.{option_and_then}
 use Rattle.std.specs.List.{AllByRecursion, filter}
+use Rattle.h5_model.specs.Format.MessageTypes.{symbol_table_kind}
 use Rattle.h5_model.specs.Format.Addresses.{SymbolTable, symbol_table_of}
 use Rattle.h5_model.specs.Format.Extent.{extent_of}
 use Rattle.h5_model.specs.Format.Fill.{fill_value, old_fill_value}
 use Rattle.h5_model.specs.Format.Layout.{layout_of}
 use Rattle.h5_model.specs.Format.Messages.{Message, count_of, first_body}
-use Rattle.h5_model.specs.Format.Reads.{HasAttributes, IsFill, is_kept, kept_of}
+use Rattle.h5_model.specs.Format.Reads.{HasAttributes, is_kept, kept_of}
+use Rattle.h5_model.specs.Format.Described.{IsFill, Described, HasArray}
 use Rattle.h5_model.specs.Tree.Objects.{Attributes}
 use Rattle.h5_header.specs.Heads.{is_read}
 use Rattle.h5_header.specs.Kinds.{IsOfDataset, IsOfGroup}
@@ -16,7 +18,6 @@ use Rattle.h5_header.specs.declared.message.Message.{Message as Placed}
 use Rattle.h5_attr.specs.Attributes.{attributes_of}
 use Rattle.h5_attr.specs.Still.{IsSaidStill}
 use Rattle.h5_attr.proofs.EntryLaws.{attributes-is}
-use Rattle.h5_layout.specs.Described.{Described, HasArray}
 use Rattle.h5_layout.specs.Told.{array_told}
 use Rattle.h5_layout.proofs.ToldLaws.{told}
 use Rattle.h5_open.specs.Opened.Judged.{IsArrayList}
@@ -45,8 +46,8 @@ module _ (ms ms' : List Message) (still : IsSaidStill ms ms') where
     );
   }
 
-  pub table_still : (table : SymbolTable) → IsOfGroup ms → option_and_then symbol_table_of (first_body 17 ms) ≡ Some table
-      → option_and_then symbol_table_of (first_body 17 ms') ≡ Some table
+  pub table_still : (table : SymbolTable) → IsOfGroup ms → option_and_then symbol_table_of (first_body symbol_table_kind ms) ≡ Some table
+      → option_and_then symbol_table_of (first_body symbol_table_kind ms') ≡ Some table
   table_still table is chosen = still.table (omega (arith, is.table)) ∙ chosen
 
   pub kinds_still : IsOfDataset ms → IsOfDataset ms'

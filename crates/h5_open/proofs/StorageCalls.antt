@@ -5,12 +5,12 @@ use Rattle.std.specs.BTreeMap.{BTreeMap}
 use Rattle.std.specs.List.{Contains}
 use Rattle.h5_model.specs.Edits.Applied.{with_dataset}
 use Rattle.h5_model.specs.Format.Superblock.{end_of_file, end_field, superblock_length}
+use Rattle.h5_model.specs.Format.Described.{Described}
 use Rattle.h5_model.specs.Tree.Objects.{with_object}
 use Rattle.h5_model.specs.Views.Selection.{Slab, selection_of}
 use Rattle.h5_space.specs.Moves.{Moves}
 use Rattle.h5_space.specs.Space.{Space}
 use Rattle.h5_layout.specs.Data.{dataset_told}
-use Rattle.h5_layout.specs.Described.{Described}
 use Rattle.h5_layout.specs.declared.lacking.Missing.{Missing}
 use Rattle.h5_open.specs.declared.opened.object.OpenedObject.{OpenedObject}
 use Rattle.h5_open.specs.declared.opened.object.OpenedContent.TheVariants as content

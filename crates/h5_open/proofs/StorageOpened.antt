@@ -5,12 +5,13 @@ use Rattle.std.specs.FinMap.{get}
 use Rattle.std.specs.Prelude.{not, slice_get, slice_index_or, ◌||◌}
 use Rattle.std.specs.BTreeMap.{BTreeMap}
 use Rattle.std.specs.List.{Contains, list_any}
+use Rattle.std.proofs.lemmas.Bool.{not-false}
 use Rattle.h5_model.specs.Edits.Applied.{with_dataset}
 use Rattle.h5_model.specs.Edits.Refusal.{is_chunked}
-use Rattle.h5_model.specs.Format.Reads.{storage_of}
 use Rattle.h5_model.specs.Format.Chunks.{Chunks}
 use Rattle.h5_model.specs.Format.Messages.{Message}
 use Rattle.h5_model.specs.Format.Superblock.{end_of_file, end_field}
+use Rattle.h5_model.specs.Format.Described.{storage_of, Described}
 use Rattle.h5_model.specs.Tree.Objects.{Chunked, Compact, Contiguous, Dataset, Storage, with_object}
 use Rattle.h5_model.specs.Tree.Places.{index_of}
 use Rattle.h5_model.specs.Views.Selection.{Slab, selection_of}
@@ -20,7 +21,6 @@ use Rattle.h5_space.specs.Space.{Space}
 use Rattle.h5_header.specs.Listed.{messages_in}
 use Rattle.h5_laws.proofs.Lists.{In, in_contains}
 use Rattle.h5_layout.specs.Data.{stored_chunks}
-use Rattle.h5_layout.specs.Described.{Described}
 use Rattle.h5_layout.specs.Standing.{is_stored_cell, is_stored_in}
 use Rattle.h5_layout.specs.Told.{array_told, layout_told, type_told}
 use Rattle.h5_layout.specs.declared.lacking.Missing.{Missing}
@@ -58,11 +58,8 @@ none_of p (y ∷ ys) x none (inr at) = none_of p ys x (by_rest (p y) (list_any p
 all_stored : (image : List ℕ) (a : Described) (slab : Slab) → lacks_cells image a slab ≡ false
     → (place : ℕ) → Contains (selection_of a.sizes slab) place → is_stored_cell image a place ≡ true
 all_stored image a slab none place at =
-    turned (is_stored_cell image a place)
-    (none_of (λ (q : ℕ). not (is_stored_cell image a q)) (selection_of a.sizes slab) place none (in_contains place (selection_of a.sizes slab) at)) where
-      turned : (b : Bool) → not b ≡ false → b ≡ true
-      turned true is = refl
-      turned false never = absurd (let no : true ≡ false = never in cc)
+    not-false (is_stored_cell image a place)
+    (none_of (λ (q : ℕ). not (is_stored_cell image a q)) (selection_of a.sizes slab) place none (in_contains place (selection_of a.sizes slab) at))
 
 -- storage that is made leaves an array in chunks, or out of them
 stored_chunked : (sizes : List ℕ) (s : Storage) → is_chunked (stored_storage sizes s) ≡ is_chunked s

@@ -8,9 +8,10 @@ use Rattle.h5_bytes.specs.Bytes.{number_at}
 use Rattle.h5_bytes.specs.Blocks.{cover, Separate, Inside}
 use Rattle.h5_bytes.specs.declared.Block.{Block}
 use Rattle.h5_bytes.proofs.FieldLaws.{number_at-part}
+use Rattle.h5_model.specs.Format.MessageTypes.{symbol_table_kind}
 use Rattle.h5_model.specs.Format.Addresses.{SymbolTable, symbol_table_of}
 use Rattle.h5_model.specs.Format.Messages.{Message, HasMessages, first_body}
-use Rattle.h5_model.specs.Format.Reached.{Named, named, HeapHeader, Reached, by_block, group_root, kind_at, size_at}
+use Rattle.h5_model.specs.Format.Reached.{Named, naming_of, HeapHeader, Reached, by_block, group_root, kind_at, size_at}
 use Rattle.h5_header.proofs.MetLaws.{length-part-le}
 use Rattle.h5_header.specs.Walk.Walked.{IsWalked}
 use Rattle.h5_header.specs.Walk.Met.{IsMet, IsHeaderMet, with_header}
@@ -33,7 +34,7 @@ table_numbers body table is = go (nat_le 16 (length body)) refl is where
   go false short e = absurd (cc)
 
 -- the message that is found, with what its body says
-pub found_table : (ms : List Message) (table : SymbolTable) → option_and_then symbol_table_of (first_body 17 ms) ≡ Some table
+pub found_table : (ms : List Message) (table : SymbolTable) → option_and_then symbol_table_of (first_body symbol_table_kind ms) ≡ Some table
     → (m : Message) × (find (λ (x : Message). x.kind == 17) ms ≡ Some m) × (symbol_table_of m.body ≡ Some table)
 found_table ms table is = go (find (λ (x : Message). x.kind == 17) ms) refl is where
   go : (o : Option Message) → find (λ (x : Message). x.kind == 17) ms ≡ o → option_and_then symbol_table_of (option_map (λ (x : Message). x.body) o) ≡ Some table
@@ -73,24 +74,24 @@ module _ (image : List ℕ) (header : ℕ) (ms : List Message) (blocks : List Bl
   there : at + 8 + size_at image at ≤ length image
   there = (placed.1).there
 
-  pub tree_reached : Reached image (named m.at (group_root image table.tree table.heap) table.tree depth)
+  pub tree_reached : Reached image (naming_of m.at (group_root image table.tree table.heap) table.tree depth)
   tree_reached =
       let place : at + 8 ≡ m.at = sym (placed.1).place in
-      by_block {y = named m.at (group_root image table.tree table.heap) table.tree depth} (met.met).reached
-      (inl (at, (placed.1).fits, omega (arith, numbers.0, long), inr (inl (is_17, λ i. named (sym place i) (group_root image (sym tree_is i) (sym heap_is i)) (sym tree_is i) depth))))
+      by_block {y = naming_of m.at (group_root image table.tree table.heap) table.tree depth} (met.met).reached
+      (inl (at, (placed.1).fits, omega (arith, numbers.0, long), inr (inl (is_17, λ i. naming_of (sym place i) (group_root image (sym tree_is i) (sym heap_is i)) (sym tree_is i) depth))))
       (omega (arith, numbers.0, long, there, (placed.1).place))
 
-  pub heap_reached : Reached image (named (m.at + 8) (HeapHeader table.tree) table.heap depth)
+  pub heap_reached : Reached image (naming_of (m.at + 8) (HeapHeader table.tree) table.heap depth)
   heap_reached =
       let place : m.at + 8 ≡ at + 16 = omega (arith, (placed.1).place) in
-      by_block {y = named (m.at + 8) (HeapHeader table.tree) table.heap depth} (met.met).reached
-      (inl (at, (placed.1).fits, omega (arith, numbers.0, long), inr (inr (is_17, λ i. named (place i) (HeapHeader (sym tree_is i)) (sym heap_is i) depth))))
+      by_block {y = naming_of (m.at + 8) (HeapHeader table.tree) table.heap depth} (met.met).reached
+      (inl (at, (placed.1).fits, omega (arith, numbers.0, long), inr (inr (is_17, λ i. naming_of (place i) (HeapHeader (sym tree_is i)) (sym heap_is i) depth))))
       (omega (arith, numbers.0, long, there, (placed.1).place))
 
-  pub tree_met : IsMet image now (with_header field header depth ms followed) (named m.at (group_root image table.tree table.heap) table.tree depth)
+  pub tree_met : IsMet image now (with_header field header depth ms followed) (naming_of m.at (group_root image table.tree table.heap) table.tree depth)
   tree_met = message_met image held followed field header depth met ms blocks has now claimed separate 17 m refl first m.at (omega arith) (omega arith) _ refl tree_reached
 
-  pub heap_met : IsMet image now (with_header field header depth ms followed) (named (m.at + 8) (HeapHeader table.tree) table.heap depth)
+  pub heap_met : IsMet image now (with_header field header depth ms followed) (naming_of (m.at + 8) (HeapHeader table.tree) table.heap depth)
   heap_met = message_met image held followed field header depth met ms blocks has now claimed separate 17 m refl first (m.at + 8) (omega arith) (omega (arith, numbers.0)) _ refl heap_reached
 
   pub table_walked : IsWalked image now (with_header field header depth ms followed)

@@ -7,11 +7,11 @@ use Rattle.h5_model.specs.Format.Messages.{Message}
 use Rattle.h5_model.specs.Format.Reads.{HasContent, HasObject, IsSame}
 use Rattle.h5_model.specs.Format.Symbols.{Target, Header, Text}
 use Rattle.h5_model.specs.Tree.Objects.{Link}
+use Rattle.h5_model.proofs.DescribedLaws.{has_dataset}
 use Rattle.h5_header.specs.Listed.{messages_in}
 use Rattle.h5_group.specs.Told.{links_told}
 use Rattle.h5_layout.specs.Data.{data_blocks, stored_chunks}
 use Rattle.h5_layout.specs.Told.{array_told, layout_told, type_told}
-use Rattle.h5_layout.proofs.ArrayLaws.{has_dataset}
 use Rattle.h5_layout.proofs.KnownLaws.{known_in}
 use Rattle.h5_laws.proofs.Lists.{In, contains_in}
 use Rattle.h5_open.specs.declared.opened.object.OpenedObject.{OpenedObject}

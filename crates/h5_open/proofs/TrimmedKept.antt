@@ -14,11 +14,11 @@ use Rattle.h5_model.specs.Format.Layout.{Layout, InMessage, InBlock, InChunks}
 use Rattle.h5_model.specs.Format.Nodes.{Kind, chunk_kind, node_length, reading_of, tree_blocks}
 use Rattle.h5_model.specs.Format.Rows.{Reading, next_row, nodes}
 use Rattle.h5_model.specs.Format.Superblock.{chunk_k}
+use Rattle.h5_model.specs.Format.Described.{Described, array_of}
 use Rattle.h5_model.specs.Tree.Grid.{corner_of}
 use Rattle.h5_model.specs.Tree.Places.{cells, is_inside}
 use Rattle.h5_model.proofs.Frames.{cell-same}
 use Rattle.h5_layout.specs.Data.{AreDataRead, data_blocks, stored_chunks}
-use Rattle.h5_layout.specs.Described.{Described, array_of}
 use Rattle.h5_layout.specs.Trimmed.{IsTrimmed, grid_cell}
 use Rattle.h5_open.specs.Opened.Kept.{AreChunksTrimmed}
 use Rattle.h5_open.proofs.DataLaws.{data_there, stored_chunks-same}

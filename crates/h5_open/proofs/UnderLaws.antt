@@ -1,12 +1,13 @@
 -- A walk that comes to a header, and has read its object.
-use Rattle.std.proofs.Common.{◌≡◌, ◌⊎◌, inl, ℕ, ◌+◌, ◌≤◌, List, [], ◌∷◌, ◌++◌, length, refl, sym, ◌∙◌, ap, subst, Bool, true, false, arith}
+use Rattle.std.proofs.Common.{◌≡◌, ◌⊎◌, inl, ℕ, ◌+◌, ◌≤◌, List, [], ◌∷◌, ◌++◌, length, refl, sym, ◌∙◌, ap, subst, true, false, arith}
 use Rattle.std.specs.List.{Contains, flat_map}
 use Rattle.std.proofs.lemmas.Grind.{flat_map-append}
 use Rattle.std.proofs.lemmas.List.Elements.{Contains-append_left, Contains-append_right}
+use Rattle.std.proofs.lemmas.Bool.{false_from_ne_true}
 use Rattle.h5_bytes.specs.Blocks.{cover, Separate, Inside}
 use Rattle.h5_bytes.specs.declared.Block.{Block}
 use Rattle.h5_bytes.proofs.BlockLaws.{all_append}
-use Rattle.h5_model.specs.Format.Reached.{Named, named, ObjectHeader}
+use Rattle.h5_model.specs.Format.Reached.{Named, naming_of, ObjectHeader}
 use Rattle.h5_model.specs.Faults.Breaches.{is_header}
 use Rattle.h5_laws.proofs.Lists.{contains_in, in_right}
 use Rattle.h5_header.specs.Walk.Met.{IsHeaderMet}
@@ -21,17 +22,13 @@ use Rattle.h5_open.proofs.FieldsMet.{more_fields}
 use Rattle.h5_open.proofs.GrowLaws.{headers-append, cover-objects, cover-object, distinct_push, named_push}
 
 -- a header that names none of the objects is new
-not_header : (b : Bool) → (b ≡ true → ⊥) → b ≡ false
-not_header true never = absurd (never refl)
-not_header false never = refl
-
 pub header_met : (image : List ℕ) (held : List Block) (followed : List Named) (objects : List OpenedObject) (field header depth : ℕ) → IsReady image held followed objects field header depth
     → (Contains (headers objects) header → ⊥) → IsHeaderMet image held followed field header depth
 header_met image held followed objects field header depth ready new = record {
   walked = (ready.under).walked;
   met = ready.met;
   alone = weaken_all (λ (y : Named). is_header y.role ≡ true → Contains (headers objects) y.at) (λ (y : Named). y.at ≡ header → is_header y.role ≡ false) followed
-      (λ y known at. not_header (is_header y.role) (λ is. new (subst (Contains (headers objects)) at (known is)))) (ready.under).known;
+      (λ y known at. false_from_ne_true (is_header y.role) (λ is. new (subst (Contains (headers objects)) at (known is)))) (ready.under).known;
 }
 
 -- blocks grow with the objects
@@ -79,6 +76,6 @@ module _ (image : List ℕ) (held now : List Block) (followed : List Named) (obj
         (λ y only is. subst (Contains (headers (objects ++ o ∷ []))) (sym (only is)) at_header) gone.only)
         (weaken_all (λ (y : Named). is_header y.role ≡ true → Contains (headers objects) y.at) (λ (y : Named). is_header y.role ≡ true → Contains (headers (objects ++ o ∷ [])) y.at) followed still_known under.known);
     named = all_append (IsNamedBy (gone.new ++ followed)) objects (o ∷ []) (weaken_all (IsNamedBy followed) (IsNamedBy (gone.new ++ followed)) objects still_named under.named)
-        ((named field ObjectHeader o.messages.header depth, Contains-append_left gone.new followed (named field ObjectHeader o.messages.header depth) gone.first, refl, refl), tt);
+        ((naming_of field ObjectHeader o.messages.header depth, Contains-append_left gone.new followed (naming_of field ObjectHeader o.messages.header depth) gone.first, refl, refl), tt);
     fields = λ h. more_fields image held now (gone.new ++ followed) depth objects o gone.fields (λ p. omega (arith, read.claimed p)) gone.waiting h (under.fields h);
   }

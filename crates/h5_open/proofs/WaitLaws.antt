@@ -5,7 +5,7 @@ use Rattle.h5_bytes.specs.Blocks.{cover}
 use Rattle.h5_bytes.specs.declared.Block.{Block}
 use Rattle.h5_bytes.proofs.BlockLaws.{all_append}
 use Rattle.h5_model.specs.Format.Symbols.{Target, Header, Text}
-use Rattle.h5_model.specs.Format.Reached.{Named, named, ObjectHeader}
+use Rattle.h5_model.specs.Format.Reached.{Named, naming_of, ObjectHeader}
 use Rattle.h5_header.specs.Walk.Met.{IsMet}
 use Rattle.h5_open.specs.Read.{AreWaiting, IsOwn}
 
@@ -33,7 +33,7 @@ module _ (image : List ℕ) (base held now : List Block) (grown : (p : ℕ) → 
   still_waiting ((name, Text text) ∷ links) fields others waiting = still_waiting links fields others waiting
   still_waiting ((name, Header header) ∷ links) [] others waiting = waiting
   still_waiting ((name, Header header) ∷ links) (f ∷ fields) others waiting = (
-    still_met (named f ObjectHeader header (depth + 1)) others.0 waiting.0,
+    still_met (naming_of f ObjectHeader header (depth + 1)) others.0 waiting.0,
     waiting.1,
     waiting.2,
     still_waiting links fields others.1 waiting.3,

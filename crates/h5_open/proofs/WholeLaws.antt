@@ -11,7 +11,7 @@ use Rattle.h5_bytes.specs.Blocks.{holds, Separate}
 use Rattle.h5_bytes.specs.declared.Block.{Block}
 use Rattle.h5_bytes.proofs.BlockLaws.{holds_in, cover_past}
 use Rattle.h5_model.specs.Format.Superblock.{IsSuperblock, end_of_file, root_header, root_header_place, superblock_length}
-use Rattle.h5_model.specs.Format.Reached.{by_superblock, named, ObjectHeader}
+use Rattle.h5_model.specs.Format.Reached.{by_superblock, naming_of, ObjectHeader}
 use Rattle.h5_model.specs.Format.Reads.{ReadsAs}
 use Rattle.h5_space.specs.Space.{Space}
 use Rattle.h5_space.specs.Whole.{IsApart}
@@ -46,7 +46,7 @@ none_numbered slots numbers none empty =
 -- the root's header is met first
 pub root_ready : (image : List ℕ) (held : List Block) → IsSuperblock image → IsWalked image held [] → Separate held → IsReady image held [] [] (root_header_place image) (root_header image) 0
 root_ready image held is walked separate = record { under = under; met = met; parent = inl refl } where
-  met : IsMet image held [] (named (root_header_place image) ObjectHeader (root_header image) 0)
+  met : IsMet image held [] (naming_of (root_header_place image) ObjectHeader (root_header image) 0)
   met = record {
     reached = (let long = is.whole in by_superblock (omega (arith, long)) refl);
     behind = omega arith;

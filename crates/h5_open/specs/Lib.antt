@@ -21,7 +21,6 @@ pub use Rattle.h5_layout.specs.Data
 pub use Rattle.h5_layout.specs.Pieces
 pub use Rattle.h5_layout.specs.Stored
 pub use Rattle.h5_layout.specs.StoredExtent
-pub use Rattle.h5_layout.specs.Described
 pub use Rattle.h5_layout.specs.Told
 pub use Rattle.h5_layout.specs.Layouts
 pub use Rattle.h5_attr.specs.Attributes

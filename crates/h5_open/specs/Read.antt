@@ -5,7 +5,7 @@ use Rattle.h5_bytes.specs.Blocks.{cover, Inside}
 use Rattle.h5_bytes.specs.declared.Block.{Block}
 use Rattle.h5_model.specs.Format.Addresses.{SymbolTable}
 use Rattle.h5_model.specs.Format.Messages.{HasMessages, Message}
-use Rattle.h5_model.specs.Format.Reached.{Named, named, ObjectHeader}
+use Rattle.h5_model.specs.Format.Reached.{Named, naming_of, ObjectHeader}
 use Rattle.h5_model.specs.Format.Symbols.{Target, Header, Text, symbol_bytes, symbols_in}
 use Rattle.h5_model.specs.Faults.Breaches.{is_header}
 use Rattle.h5_model.specs.Format.Superblock.{leaf_k}
@@ -40,7 +40,7 @@ AreWaiting image held now followed depth [] fields = fields ≡ []
 AreWaiting image held now followed depth ((name, Text text) ∷ links) fields = AreWaiting image held now followed depth links fields
 AreWaiting image held now followed depth ((name, Header header) ∷ links) [] = ⊥
 AreWaiting image held now followed depth ((name, Header header) ∷ links) (field ∷ fields) =
-    IsMet image now followed (named field ObjectHeader header (depth + 1)) × (cover (field - 8) held ≡ 0)
+    IsMet image now followed (naming_of field ObjectHeader header (depth + 1)) × (cover (field - 8) held ≡ 0)
     × AllByRecursion (λ other. other ≢ field) fields × AreWaiting image held now followed depth links fields
 
 -- the field is this one, or stands in a block that was not claimed before
@@ -53,7 +53,7 @@ pub record IsObjectFollowed (image : List ℕ) (held now : List Block) (followed
   pub walked : IsWalked image now (new ++ followed)
   pub stands : AllByRecursion (IsOwn held field) new
   pub only : AllByRecursion (λ (y : Named). is_header y.role ≡ true → y.at ≡ o.messages.header) new
-  pub first : Contains new (named field ObjectHeader o.messages.header depth)
+  pub first : Contains new (naming_of field ObjectHeader o.messages.header depth)
   pub fields : List ℕ
   pub waiting : AreWaiting image held now (new ++ followed) depth (content_links image o.content) fields
 

@@ -5,7 +5,7 @@ use Rattle.std.specs.Ordering.{nat_cmp, eq_by_cmp}
 use Rattle.std.specs.BTreeMap.{BTreeMap}
 use Rattle.h5_bytes.specs.Blocks.{cover, Separate, Inside}
 use Rattle.h5_bytes.specs.declared.Block.{Block}
-use Rattle.h5_model.specs.Format.Reached.{Named, named, ObjectHeader}
+use Rattle.h5_model.specs.Format.Reached.{Named, naming_of, ObjectHeader}
 use Rattle.h5_model.specs.Format.Symbols.{Target, Header, Text}
 use Rattle.h5_model.specs.Faults.Breaches.{is_header, AreLinkFields}
 use Rattle.h5_model.specs.declared.open_fault.Cause.{Cause}
@@ -55,7 +55,7 @@ pub record IsUnder (image : List ℕ) (held : List Block) (followed : List Named
 -- The walk has come to a field that names a header; it is the root's, or that of a link of an object that was read.
 pub record IsReady (image : List ℕ) (held : List Block) (followed : List Named) (objects : List OpenedObject) (field header depth : ℕ) : Type 0 where
   pub under : IsUnder image held followed objects
-  pub met : IsMet image held followed (named field ObjectHeader header depth)
+  pub met : IsMet image held followed (naming_of field ObjectHeader header depth)
   pub parent : (objects ≡ []) ⊎ HasParent image objects header
 
 -- More objects were read, all of whose links lead to objects.

@@ -9,10 +9,10 @@ use Rattle.h5_model.specs.Edits.Applied.{with_cells, with_dataset}
 use Rattle.h5_model.specs.Format.Fixed.{fits}
 use Rattle.h5_model.specs.Format.Messages.{Message, HasMessages}
 use Rattle.h5_model.specs.Format.Superblock.{k_values}
+use Rattle.h5_model.specs.Format.Described.{Described, HasArray}
 use Rattle.h5_model.specs.Tree.Objects.{Dataset, dataset_of, with_object}
 use Rattle.h5_model.specs.Tree.Places.{cells}
 use Rattle.h5_layout.specs.Data.{dataset_told}
-use Rattle.h5_layout.specs.Described.{Described, HasArray}
 use Rattle.h5_layout.specs.Standing.{IsStandingAt, cell_blocks, is_stored_cell}
 use Rattle.h5_shape.specs.Runs.{places_in}
 use Rattle.h5_shape.specs.declared.runs.CellRun.{CellRun}

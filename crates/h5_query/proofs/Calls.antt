@@ -8,7 +8,7 @@ use Rattle.std.proofs.lemmas.Option.{same_Some}
 use Rattle.std.proofs.lemmas.Bool.Decides.{nat_tests}
 use Rattle.h5_model.specs.Tree.Places.{is_inside}
 use Rattle.h5_model.specs.Tree.Objects.{Tree, Object, Content, Array, Dataset, ToObject, Attribute}
-use Rattle.h5_model.specs.Tree.Paths.{located, object_at}
+use Rattle.h5_model.specs.Tree.Paths.{location_of, object_at}
 use Rattle.h5_model.specs.Edits.Refusal.{first_holding, is_soft}
 use Rattle.h5_model.specs.Scripts.Reading.{path_rules, list_rules, object_rules, dataset_rules, cell_at}
 use Rattle.h5_model.specs.declared.edit_fault.EditFault.{EditFault}
@@ -76,7 +76,7 @@ module _ (f : FileState) (number : ℕ) (object : OpenedObject) (of : IsObjectOf
   module _ (path : List ℕ) (leads : PathLeadsTo T path (ToObject number)) where
     pub header_there : IsHeaderThere f.image T path object.messages
     header_there = record {
-      accepted = first-behind (path_rules T path) ((NotFound, is_soft (located T path)) ∷ []) leads.0 ∙ rw leads.1 refl;
+      accepted = first-behind (path_rules T path) ((NotFound, is_soft (location_of T path)) ∷ []) leads.0 ∙ rw leads.1 refl;
       object = object_in f.image f.table object;
       found = rw leads.1 of.there;
       kept = of.kept.header;

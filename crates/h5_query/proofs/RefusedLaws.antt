@@ -3,7 +3,7 @@ use Rattle.std.proofs.Common.{◌≡◌, List, [], ◌∷◌, ℕ, refl, ap, Boo
 use Rattle.std.specs.List.{AllByRecursion}
 use Rattle.std.proofs.lemmas.Option.{same_Some}
 use Rattle.h5_model.specs.Tree.Objects.{Tree}
-use Rattle.h5_model.specs.Tree.Paths.{Located, Here, Missing, NoParent, NoGroup, NoPath, names_of, located, links_at}
+use Rattle.h5_model.specs.Tree.Paths.{Located, Here, Missing, NoParent, NoGroup, NoPath, names_of, location_of, links_at}
 use Rattle.h5_model.specs.Edits.Refusal.{first_holding, is_deep}
 use Rattle.h5_model.specs.Scripts.Reading.{path_rules, list_rules, object_rules}
 use Rattle.h5_model.specs.declared.edit_fault.EditFault.{EditFault}
@@ -46,4 +46,4 @@ module _ (tree : Tree) (path : List ℕ) where
   named e h = h
 
   pub list_refused : (e : EditFault) → first_holding (path_rules tree path) ≡ Some e → IsListRefused tree path e
-  list_refused e h = named e (lost_list (is_none (names_of path)) (is_deep path) (located tree path) (is_none (links_at tree path)) e h)
+  list_refused e h = named e (lost_list (is_none (names_of path)) (is_deep path) (location_of tree path) (is_none (links_at tree path)) e h)

@@ -4,7 +4,7 @@ use Rattle.std.specs.Prelude.{nat_lt, ◌==◌, if◌then◌else◌, ◌||◌, �
 use Rattle.std.specs.Option.{option_map_or}
 use Rattle.h5_model.specs.Tree.Places.{is_inside}
 use Rattle.h5_model.specs.Tree.Objects.{Tree, Link, Dataset, ToObject, links_of, dataset_of}
-use Rattle.h5_model.specs.Tree.Paths.{Located, Here, names_of, located, links_at, dataset_at}
+use Rattle.h5_model.specs.Tree.Paths.{Located, Here, names_of, location_of, links_at, dataset_at}
 use Rattle.h5_model.specs.Edits.Refusal.{first_holding, is_deep, is_here, has_no_parent, has_no_group, is_missing}
 use Rattle.h5_model.specs.Scripts.Reading.{path_rules, list_rules, dataset_rules}
 use Rattle.h5_model.specs.declared.edit_fault.EditFault.{EditFault}
@@ -24,10 +24,10 @@ first-found ((f, false) ∷ rules) others e h = first-found rules others e h
 -- ---- a path
 
 abbrev missing_rule : Tree → List ℕ → List (EditFault × Bool)
-missing_rule tree path = (NotFound, is_missing (located tree path)) ∷ []
+missing_rule tree path = (NotFound, is_missing (location_of tree path)) ∷ []
 
 -- where a group stands before the last name, the path is refused where that is missing alone
-pub before_last : (tree : Tree) (path : List ℕ) (at : Located) → first_holding (group_rules tree path) ≡ None → located tree path ≡ at
+pub before_last : (tree : Tree) (path : List ℕ) (at : Located) → first_holding (group_rules tree path) ≡ None → location_of tree path ≡ at
     → first_holding (path_rules tree path) ≡ (if is_missing at then Some NotFound else None)
 before_last tree path at h there = first-behind (group_rules tree path) (missing_rule tree path) h ∙ ap (λ (l : Located). if is_missing l then Some NotFound else None) there
 
@@ -39,7 +39,7 @@ group_table bad deep at = first_holding ((BadPath, bad) ∷ (PathTooDeep, deep) 
 
 -- a path that is not deep is refused by what it leads to alone
 pub at_group : (tree : Tree) (path : List ℕ) (names : List (List ℕ)) (at : Located) → names_of path ≡ Some names → nat_lt 64 (length names) ≡ false
-    → located tree path ≡ at → first_holding (group_rules tree path) ≡ group_table false false at
+    → location_of tree path ≡ at → first_holding (group_rules tree path) ≡ group_table false false at
 at_group tree path names at h low there =
     let shallow : is_deep path ≡ false = ap (λ o. option_map_or (λ ns. nat_lt 64 (length ns)) o false) h ∙ low in
     let good : is_none (names_of path) ≡ false = ap is_none h in
@@ -61,7 +61,7 @@ here_table false false link true h = refl
 here_table false false link false h = refl
 
 -- where an object stands, a list of it is refused exactly where it is no group
-pub list_here : (tree : Tree) (path : List ℕ) (number : ℕ) → first_holding (path_rules tree path) ≡ None → located tree path ≡ Here (ToObject number)
+pub list_here : (tree : Tree) (path : List ℕ) (number : ℕ) → first_holding (path_rules tree path) ≡ None → location_of tree path ≡ Here (ToObject number)
     → first_holding (list_rules tree path) ≡ (if is_none (links_of tree number) then Some NotAGroup else None)
 list_here tree path number h there =
     let free : path_table (is_none (names_of path)) (is_deep path) (Here (ToObject number)) ≡ None = rw there at h in
@@ -72,18 +72,18 @@ list_here tree path number h there =
 -- ---- a path to a dataset
 
 abbrev array_rule : Tree → List ℕ → List (EditFault × Bool)
-array_rule tree path = (NotADataset, is_here (located tree path) && is_none (dataset_at tree path)) ∷ []
+array_rule tree path = (NotADataset, is_here (location_of tree path) && is_none (dataset_at tree path)) ∷ []
 
 abbrev pub index_rules : Tree → List ℕ → List ℕ → List (EditFault × Bool)
 index_rules tree path index = (RankMismatch, option_map_or (λ (d : Dataset). not (length index == length d.sizes)) (dataset_at tree path) false)
     ∷ (OutOfExtent, option_map_or (λ (d : Dataset). not (is_inside d.sizes index)) (dataset_at tree path) false) ∷ []
 
 -- another object than a dataset stands there
-pub no_dataset : (tree : Tree) (path : List ℕ) (number : ℕ) → first_holding (path_rules tree path) ≡ None → located tree path ≡ Here (ToObject number)
+pub no_dataset : (tree : Tree) (path : List ℕ) (number : ℕ) → first_holding (path_rules tree path) ≡ None → location_of tree path ≡ Here (ToObject number)
     → dataset_of tree number ≡ None → first_holding (dataset_rules tree path) ≡ Some NotADataset
 no_dataset tree path number h there none = first-behind (path_rules tree path) (array_rule tree path) h ∙ rw (there, none) refl
 
 -- of a dataset the rules of the index are left
-pub dataset_here : (tree : Tree) (path : List ℕ) (number : ℕ) (d : Dataset) → first_holding (path_rules tree path) ≡ None → located tree path ≡ Here (ToObject number)
+pub dataset_here : (tree : Tree) (path : List ℕ) (number : ℕ) (d : Dataset) → first_holding (path_rules tree path) ≡ None → location_of tree path ≡ Here (ToObject number)
     → dataset_of tree number ≡ Some d → (first_holding (dataset_rules tree path) ≡ None) × (dataset_at tree path ≡ Some d)
 dataset_here tree path number d h there some = (first-behind (path_rules tree path) (array_rule tree path) h ∙ rw (there, some) refl, rw (there, some) refl)

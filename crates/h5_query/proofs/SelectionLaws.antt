@@ -5,6 +5,7 @@ use Rattle.std.proofs.lemmas.List.FromFn.{length-range_with_len}
 use Rattle.std.specs.Prelude.{MatchResult, nat_le, ◌==◌, ◌&&◌, if◌then◌else◌, filter}
 use Rattle.std.specs.List.{list_any, range_with_len}
 use Rattle.std.specs.Option.{option_map_or}
+use Rattle.std.proofs.lemmas.Bool.{not-false}
 use Rattle.h5_model.proofs.RefusalLaws.{length-axes_of}
 use Rattle.h5_model.specs.Edits.Refusal.{first_holding}
 use Rattle.h5_model.specs.Scripts.Reading.{dataset_rules, selection_rules}
@@ -55,10 +56,7 @@ module _ (sizes : List ℕ) (hyper : Hyper) where
 
     ranked : (b : Bool) → is_of_one_rank hyper ≡ b → (s : Slab) → Ok s ≡ slab_of hyper → has_rank (length sizes) hyper ≡ true
     ranked false is s h = absurd (let never : Ok s ≡ Err slab.RankMismatch = rw is at h in cc)
-    ranked true is s h = same_not (has_rank (length sizes) hyper) (one_rank ∙ ap not is) where
-      same_not : (b : Bool) → not b ≡ false → b ≡ true
-      same_not true h = refl
-      same_not false h = absurd (cc)
+    ranked true is s h = not-false (has_rank (length sizes) hyper) (one_rank ∙ ap not is)
 
     pub slab_long : (s : Slab) → Ok s ≡ slab_of hyper → length sizes ≡ length s
     slab_long s is =

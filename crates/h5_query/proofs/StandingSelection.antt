@@ -2,6 +2,7 @@
 use Rattle.std.proofs.Common.{◌≡◌, ℕ, List, [], ◌∷◌, Bool, true, false, not, Result, Ok, Err, if◌then◌else◌, None, length, refl, sym, ◌∙◌, subst, arith}
 use Rattle.std.specs.Prelude.{◌&&◌, nat_le}
 use Rattle.std.specs.List.{list_any}
+use Rattle.std.proofs.lemmas.Bool.{and_parts}
 use Rattle.h5_model.specs.Edits.Refusal.{first_holding}
 use Rattle.h5_model.specs.Views.Selection.{Slab, Within, axes_of, has_rank, has_no_stride, overlaps, is_within}
 use Rattle.h5_model.specs.declared.edit_fault.EditFault.TheVariants as fault
@@ -14,10 +15,6 @@ use Rattle.h5_shape.specs.declared.slab.SlabFault.{SlabFault}
 use Rattle.h5_shape.specs.declared.slab.SlabFault.TheVariants as slab_fault
 use Rattle.h5_query.specs.Selected.{IsSlabOf, hyper_rules}
 use Rattle.h5_query.proofs.SelectionLaws.{selection_few}
-
-and_first : (a b : Bool) → (a && b) ≡ true → a ≡ true
-and_first true b both = refl
-and_first false b both = absurd (let never : false ≡ true = both in cc)
 
 -- what four lists keep to that are a selection
 module _ (slab : Slab) where
@@ -40,7 +37,7 @@ module _ (sizes : List ℕ) (hyper : Hyper) (selection : slab_of hyper ≡ Ok (a
 
   ranked : has_rank (length sizes) hyper ≡ true
   ranked =
-      let own = and_first (has_rank (length hyper.start) hyper) (nat_le (length hyper.start) 32) rules.0 in
+      let own = (and_parts (has_rank (length hyper.start) hyper) (nat_le (length hyper.start) 32) rules.0).0 in
       let long = length-axes_of (length hyper.start) hyper own in
       subst (λ n. has_rank n hyper ≡ true) (sym long ∙ rank) own
 

@@ -3,7 +3,7 @@ use Rattle.std.specs.Prelude.{◌≡◌, ℕ, None, Some, List}
 use Rattle.std.specs.FinMap.{get, entries}
 use Rattle.h5_model.specs.Tree.Objects.{Tree, ToObject, Object, Content, Attribute, Links}
 use Rattle.h5_model.specs.Tree.Objects as tree
-use Rattle.h5_model.specs.Tree.Paths.{Located, Here, located}
+use Rattle.h5_model.specs.Tree.Paths.{Located, Here, location_of}
 use Rattle.h5_model.specs.Edits.Refusal.{first_holding}
 use Rattle.h5_model.specs.Scripts.Reading.{path_rules}
 use Rattle.h5_model.specs.declared.edit_fault.EditFault.{EditFault}
@@ -30,7 +30,7 @@ IsFoundAs whole _ _ = ⊥
 -- no rule of a path holds, and this stands there
 pub record HasFound (tree : Tree) (path : List ℕ) (found : Found) : Type 0 where
   pub accepted : first_holding (path_rules tree path) ≡ None
-  pub there : IsFoundAs tree (located tree path) found
+  pub there : IsFoundAs tree (location_of tree path) found
 
 -- the rules refuse the path, or none does and memory was short
 abbrev pub IsUnfound : Tree → List ℕ → EditFault → Type 0

@@ -7,7 +7,6 @@ pub mod Found
 pub mod Kept
 pub mod Selected
 pub use Rattle.h5_open.specs.Opened
-pub use Rattle.h5_open.specs.Described
 pub use Rattle.h5_open.specs.Told
 pub use Rattle.h5_open.specs.Links
 pub use Rattle.h5_open.specs.declared.opened.object.OpenedObject as OpenedObjectType

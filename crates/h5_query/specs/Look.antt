@@ -5,25 +5,25 @@ use Rattle.std.specs.Option.{option_and_then}
 use Rattle.h5_model.specs.Format.Fixed.{Fixed}
 use Rattle.h5_model.specs.Tree.Objects.{Tree, ToObject, Object, Attribute, Dataset, Storage, links_of, dataset_of}
 use Rattle.h5_model.specs.Tree.Objects as tree
-use Rattle.h5_model.specs.Tree.Paths.{Located, Here, located, object_at, dataset_at}
+use Rattle.h5_model.specs.Tree.Paths.{Located, Here, location_of, object_at, dataset_at}
 use Rattle.h5_model.specs.Edits.Refusal.{first_holding}
 use Rattle.h5_model.specs.Scripts.Reading.{path_rules, list_rules, object_rules, attribute_rules, cell_rules, listed_names, attribute_names, attribute_at, cell_at, shown_maximum}
 use Rattle.h5_model.specs.declared.edit_fault.EditFault.{EditFault}
 use Rattle.h5_model.specs.declared.edit_fault.EditFault.TheVariants as fault
 use Rattle.h5_query.specs.declared.kind.Kind.{Kind}
 use Rattle.h5_query.specs.declared.kind.Kind.TheVariants.{Group, Dataset as ArrayOf, Soft}
-use Rattle.h5_query.specs.declared.kind.StoreKind.{StoreKind}
-use Rattle.h5_query.specs.declared.kind.StoreKind.TheVariants as store
+use Rattle.h5_model.specs.declared.dataset.Store.{Store}
+use Rattle.h5_model.specs.declared.dataset.Store.TheVariants as store
 
 -- how cells are stored, as a look tells it: not whether contiguous cells are stored yet
-abbrev pub IsStored : Storage → StoreKind → Type 0
+abbrev pub IsStored : Storage → Store (List ℕ) → Type 0
 IsStored tree.Compact store.Compact = Unit {0}
 IsStored (tree.Contiguous stored) store.Contiguous = Unit {0}
 IsStored (tree.Chunked sizes) (store.Chunked chunk) = chunk ≡ sizes
 IsStored _ _ = ⊥
 
 -- a dataset of this type, sizes, maxima, store and fill value; an unlimited maximum is shown as 2^64 - 1
-pub record IsShown (d : Dataset) (fixed : Fixed) (dims maxima : List ℕ) (stored : StoreKind) (fill : ℤ) : Type 0 where
+pub record IsShown (d : Dataset) (fixed : Fixed) (dims maxima : List ℕ) (stored : Store (List ℕ)) (fill : ℤ) : Type 0 where
   pub fixed_is : fixed ≡ d.fixed
   pub dims_are : dims ≡ d.sizes
   pub maxima_are : maxima ≡ map shown_maximum d.maxima
@@ -46,7 +46,7 @@ IsKind whole _ kind = ⊥
 -- no rule of a path holds, and the link is of this kind
 pub record HasKind (tree : Tree) (path : List ℕ) (kind : Kind) : Type 0 where
   pub accepted : first_holding (path_rules tree path) ≡ None
-  pub found : IsKind tree (located tree path) kind
+  pub found : IsKind tree (location_of tree path) kind
 
 -- a group stands there, which has links of these names
 pub record HasLinksNamed (tree : Tree) (path : List ℕ) (names : List (List ℕ)) : Type 0 where

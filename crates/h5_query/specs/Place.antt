@@ -1,7 +1,7 @@
 -- What a path leads to in an opened image.
 use Rattle.std.specs.Prelude.{◌≡◌, ℕ, Bool, is_none, List, [], ◌∷◌, Some, None}
 use Rattle.h5_model.specs.Tree.Objects.{Tree, Link, ToObject, Soft}
-use Rattle.h5_model.specs.Tree.Paths.{Here, Missing, names_of, located, object_at, parent_at}
+use Rattle.h5_model.specs.Tree.Paths.{Here, Missing, names_of, location_of, object_at, parent_at}
 use Rattle.h5_model.specs.Edits.Refusal.{first_holding, is_deep, has_no_parent, has_no_group}
 use Rattle.h5_model.specs.Scripts.Reading.{path_rules, object_rules}
 use Rattle.h5_model.specs.declared.edit_fault.EditFault.{EditFault}
@@ -15,7 +15,7 @@ use Rattle.h5_query.specs.declared.place.Spot.TheVariants as spot
 
 -- no rule of a path refuses it, and it leads to this link
 abbrev pub PathLeadsTo : Tree → List ℕ → Link → Type 0
-PathLeadsTo tree path link = (first_holding (path_rules tree path) ≡ None) × (located tree path ≡ Here link)
+PathLeadsTo tree path link = (first_holding (path_rules tree path) ≡ None) × (location_of tree path ≡ Here link)
 
 -- the link of a place
 abbrev pub link_at : Place → Link
@@ -49,16 +49,16 @@ abbrev pub group_rules : Tree → List ℕ → List (EditFault × Bool)
 group_rules tree path =
     (fault.BadPath, is_none (names_of path))
     ∷ (fault.PathTooDeep, is_deep path)
-    ∷ (fault.NoSuchParent, has_no_parent (located tree path))
-    ∷ (fault.NotAGroup, has_no_group (located tree path))
+    ∷ (fault.NoSuchParent, has_no_parent (location_of tree path))
+    ∷ (fault.NotAGroup, has_no_group (location_of tree path))
     ∷ []
 
 -- the path has no name; or the group before its last name has a link of it, which leads to this place; or it has none
 abbrev pub IsSpotAt : FileState → List ℕ → Spot → Type 0
 IsSpotAt f path spot.Root = names_of path ≡ Some []
 IsSpotAt f path (spot.Taken parent name place) =
-    (parent_at f.tree path ≡ Some (parent, name.now)) × (located f.tree path ≡ Here (link_at place)) × IsOfNumber f place
-IsSpotAt f path (spot.Free parent name) = (parent_at f.tree path ≡ Some (parent, name.now)) × (located f.tree path ≡ Missing)
+    (parent_at f.tree path ≡ Some (parent, name.now)) × (location_of f.tree path ≡ Here (link_at place)) × IsOfNumber f place
+IsSpotAt f path (spot.Free parent name) = (parent_at f.tree path ≡ Some (parent, name.now)) × (location_of f.tree path ≡ Missing)
 
 -- no rule of these refuses the path, and this is its spot
 abbrev pub IsSpotOf : FileState → List ℕ → Spot → Type 0

@@ -1,15 +1,7 @@
 //! What stands at a path.
 
-use h5_model::Fixed;
+use h5_model::{Fixed, Store};
 use h5_open::Dims;
-
-/// How the cells of a dataset are stored. Chunks come with their sizes, in cells.
-#[derive(Debug, Drop)]
-pub enum StoreKind {
-    Compact,
-    Contiguous,
-    Chunked(Dims),
-}
 
 /// What stands at a path.
 #[derive(Debug, Drop)]
@@ -21,7 +13,7 @@ pub enum Kind<'a> {
         fixed: Fixed,
         dims: Dims,
         maxima: Dims,
-        store: StoreKind,
+        store: Store<Dims>,
         fill: i128,
     },
     /// A soft link, with its text.

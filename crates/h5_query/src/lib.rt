@@ -27,7 +27,7 @@ pub use h5_open::{
     Values, get, group_links, known_array, new_body, sorted,
 };
 pub use h5_shape::{HyperRef, Slab, SlabFault};
-pub use kind::{Kind, StoreKind};
+pub use kind::Kind;
 pub use links::{kind_at, store_of};
 pub use names::{LinkNames, names_at};
 pub use path::MAX_DEPTH;

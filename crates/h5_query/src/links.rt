@@ -2,15 +2,15 @@
 
 ghost use Rattle.std.specs.Prelude.{◌≡◌, ℕ, List, Some, MatchResult, length, map};
 ghost use Rattle.h5_model.specs.Edits.Refusal.{first_holding};
-ghost use Rattle.h5_model.specs.Format.Reads.{storage_of};
 ghost use Rattle.h5_model.specs.Scripts.Reading.{path_rules, shown_maximum};
+ghost use Rattle.h5_model.specs.Format.Described.{storage_of};
 ghost use Rattle.h5_open.specs.Layouts.{layout_in};
 ghost use Rattle.h5_query.specs.Look.{HasKind, IsArrayKind, IsStored};
 
 use crate::array::stored_array;
-use crate::kind::{Kind, StoreKind};
+use crate::kind::Kind;
 use crate::place::{Place, look};
-use h5_model::EditFault;
+use h5_model::{EditFault, Store};
 use h5_open::{ArrayRef, Dims, Layout, MAX_RANK, Opened, OpenedContent, StoredArray};
 
 /// How a maximum that is unlimited is shown.
@@ -72,19 +72,19 @@ fn write_maxima(array: &ArrayRef<'_>, shown: &mut [u64])
 }
 
 /// How the cells of an array are stored. Chunks come with their sizes, in cells. Takes no memory.
-pub fn store_of(array: &StoredArray<'_>) -> StoreKind
+pub fn store_of(array: &StoredArray<'_>) -> Store<Dims>
     ensures { IsStored array.now.storage result }
 {
     store_kind(array.array().layout())
 }
 
 /// How the cells of a layout are stored.
-fn store_kind(layout: &Layout<'_>) -> StoreKind
+fn store_kind(layout: &Layout<'_>) -> Store<Dims>
     ensures { (sizes : List ℕ) → IsStored (storage_of sizes (layout_in layout.now)) result }
 {
     match layout {
-        Layout::Compact(_) => StoreKind::Compact,
-        Layout::Contiguous(_) => StoreKind::Contiguous,
-        Layout::Chunked { sizes, .. } => StoreKind::Chunked(sizes.dims()),
+        Layout::Compact(_) => Store::Compact,
+        Layout::Contiguous(_) => Store::Contiguous,
+        Layout::Chunked { sizes, .. } => Store::Chunked(sizes.dims()),
     }
 }

@@ -9,7 +9,7 @@ use Rattle.h5_model.specs.Format.PlainLength.{nodes_over, rows_of}
 use Rattle.h5_model.specs.Format.Sizes.{group_node, symbol_node}
 use Rattle.h5_model.specs.Tree.Objects.{Link, ToObject, Soft}
 use Rattle.h5_btree.specs.Writing.Written.{root_level}
-use Rattle.h5_group.specs.Heap.Links.{Leads, ToGroup, ToArray, ToText, spelled}
+use Rattle.h5_group.specs.Heap.Links.{Leads, ToGroup, ToArray, ToText, heap_texts}
 use Rattle.h5_group.specs.Writing.Laws as laws
 use Rattle.h5_group.specs.Writing.Places.{ArePlaces}
 use Rattle.h5_group.specs.declared.write.places.GroupPlaces.{GroupPlaces}
@@ -57,7 +57,7 @@ texts_of [] = []
 texts_of ((name, ToObject n) ∷ es) = name ∷ texts_of es
 texts_of ((name, Soft text) ∷ es) = name ∷ text ∷ texts_of es
 
-spelled_is : (es : List (List ℕ × Link)) (ls : List (List ℕ × Leads)) → AllZip laws.IsLinkWritten es ls → spelled ls ≡ texts_of es
+spelled_is : (es : List (List ℕ × Link)) (ls : List (List ℕ × Leads)) → AllZip laws.IsLinkWritten es ls → heap_texts ls ≡ texts_of es
 unfolding texts_of
 spelled_is [] [] all = refl
 spelled_is [] (l ∷ ls) all = absurd all
@@ -73,7 +73,7 @@ spelled_is ((name, Soft text) ∷ es) ((own, ToText other) ∷ ls) all = (λ i. 
 pub same_places : (leaf internal : ℕ) (es : List (List ℕ × Link)) (xs ys : List (List ℕ × Leads)) (p : GroupPlaces) → AllZip laws.IsLinkWritten es xs → AllZip laws.IsLinkWritten es ys
     → ArePlaces leaf internal xs p → ArePlaces leaf internal ys p
 same_places leaf internal es xs ys p all_xs all_ys are =
-    let texts : spelled xs ≡ spelled ys = spelled_is es xs all_xs ∙ sym (spelled_is es ys all_ys) in
+    let texts : heap_texts xs ≡ heap_texts ys = spelled_is es xs all_xs ∙ sym (spelled_is es ys all_ys) in
     let count : length xs ≡ length ys = AllZip-long laws.IsLinkWritten es xs all_xs ∙ sym (AllZip-long laws.IsLinkWritten es ys all_ys) in
     record {
       tree = are.tree ∙ ap (λ n. nodes_over 64 (2 * internal) (rows_of (2 * leaf) n) * group_node internal) count;

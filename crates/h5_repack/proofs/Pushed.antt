@@ -20,7 +20,7 @@ use Rattle.h5_group.specs.declared.write.places.GroupPlaces.{GroupPlaces}
 use Rattle.h5_repack.specs.Blocks.ArrayHeader.{group_written, header_written, data_written, address_written}
 use Rattle.h5_repack.specs.Blocks.Others.{OthersBytes}
 use Rattle.h5_repack.specs.Blocks.Written.{chunks_of}
-use Rattle.h5_layout.specs.Described.{Described}
+use Rattle.h5_model.specs.Format.Described.{Described}
 use Rattle.h5_repack.specs.declared.blocks.cells.Cells.{Cells}
 use Rattle.h5_repack.proofs.BlockLaws.HeaderLaws.{group_is, header_is, data_is, address_is}
 use Rattle.h5_repack.specs.Image.Written.{content_place, group_heap_place, data_address}

@@ -32,7 +32,7 @@ use Rattle.h5_group.proofs.WriteLaws.Lengths.{group_length}
 use Rattle.h5_repack.specs.Blocks.ArrayHeader.{FitsLayout, IsArrayToWrite, IsLength, group_written, header_written, data_written}
 use Rattle.h5_repack.specs.Blocks.Others.{OthersBytes}
 use Rattle.h5_repack.specs.Blocks.Written.{AreCellsToWrite, AreOthers, HasRoom, chunks_of}
-use Rattle.h5_layout.specs.Described.{Described}
+use Rattle.h5_model.specs.Format.Described.{Described}
 use Rattle.h5_repack.specs.declared.blocks.cells.Cells.{Cells}
 use Rattle.h5_repack.specs.declared.blocks.cells.Cells.TheVariants.{Unset, Filled, Stored, Chunks}
 use Rattle.h5_model.specs.Tree.Places.{cells}

@@ -20,7 +20,7 @@ use Rattle.h5_repack.specs.Image.Plain.{IsPlain, IsLowContent}
 use Rattle.h5_repack.specs.Image.Written.{object_length, content_place, group_heap_place, data_address}
 use Rattle.h5_repack.specs.Blocks.Others.{OthersBytes}
 use Rattle.h5_repack.specs.Blocks.Written.{AreOthers, chunks_of}
-use Rattle.h5_layout.specs.Described.{Described}
+use Rattle.h5_model.specs.Format.Described.{Described}
 use Rattle.h5_repack.specs.declared.blocks.cells.Cells.{Cells}
 use Rattle.h5_model.specs.Tree.Links.{tree_link}
 use Rattle.h5_repack.specs.Objects.Objects.{IsNewArray, IsNewObject, content_chunks}

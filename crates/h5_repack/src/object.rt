@@ -47,15 +47,7 @@ pub(crate) fn push_group(
 {
     let new = new_links(alloc, layout, links)?;
     push_group_header(out, at, at + places.tree, others)?;
-    push_links(
-        alloc,
-        out,
-        layout.k.leaf,
-        layout.k.internal,
-        at,
-        places,
-        &new,
-    )?;
+    push_links(alloc, out, &layout.k, at, places, &new)?;
     Ok(())
 }
 

@@ -102,7 +102,7 @@ fn measure_group(
     let Ok(bare) = new_links(alloc, &layout, links) else {
         return Err(WriteFault::NoMemory);
     };
-    match group_places(k.leaf, k.internal, &bare) {
+    match group_places(k, &bare) {
         Ok(places) => Ok(Size {
             header,
             extent: Extent::Links(places),

@@ -11,10 +11,10 @@ use Rattle.h5_model.specs.Edits.Applied.{State, state_after}
 use Rattle.h5_model.specs.Edits.EditFaults.{refused_text}
 use Rattle.h5_model.specs.Scripts.Lines.{Command, Change, ListAll, Dump, Repack, Unread}
 use Rattle.h5_model.specs.Scripts.Sessions.{Session}
-use Rattle.h5_model.specs.Tree.Paths.{located}
+use Rattle.h5_model.specs.Tree.Paths.{location_of}
 use Rattle.h5_model.specs.Scripts.Reading.{path_rules}
 use Rattle.h5_model.specs.Edits.Refusal.{first_holding}
-use Rattle.h5_model.specs.Scripts.Answers.{dumped}
+use Rattle.h5_model.specs.Scripts.Answers.{dump_of}
 use Rattle.h5_model.specs.Scripts.Text.{list_text}
 use Rattle.h5_model.specs.Views.Shown.{Views, refreshed_of}
 use Rattle.h5_model.specs.declared.edits.Edit.{Edit}
@@ -147,7 +147,7 @@ pub list_refused : (s : SessionState) → IsAnswered s ListAll s (refused_text f
 unfolding answer_at IsGivenAt
 list_refused s = record { given = Some fault.NoMemory; run = record { allowed = tt; session_is = refl; left = refl }; text_is = refl; outcome_is = refl }
 
-pub dump_told : (s : SessionState) (path : List ℕ) → first_holding (path_rules s.file.tree path) ≡ None → IsAnswered s (Dump path) s (dumped s.file.tree path (located s.file.tree path)) Told
+pub dump_told : (s : SessionState) (path : List ℕ) → first_holding (path_rules s.file.tree path) ≡ None → IsAnswered s (Dump path) s (dump_of s.file.tree path (location_of s.file.tree path)) Told
 unfolding answer_at IsGivenAt
 dump_told s path accepted = record {
   given = None;

@@ -6,7 +6,7 @@ use Rattle.std.proofs.lemmas.List.{reverse-append}
 use Rattle.std.proofs.lemmas.List.Elements.{All-get_or, filter_map-append}
 use Rattle.std.proofs.lemmas.List.Splits.{slice_split_none, length-slice_split}
 use Rattle.std.proofs.lemmas.List.Sums.{suffix_len_is, suffix_len-le-length}
-use Rattle.h5_model.specs.Scripts.Lines.{Command, line_asks, commands_of, finished}
+use Rattle.h5_model.specs.Scripts.Lines.{Command, line_asks, commands_of, finished_lines}
 use Rattle.h5_script.specs.Pieces.{HasNoEnd, AreWholeLines, commands_of_line}
 
 -- ---- commands
@@ -90,7 +90,7 @@ take_behind (x ∷ a) b zero k is = absurd (omega (arith, is))
 take_behind (x ∷ a) b (suc n) k is = ap (λ xs. x ∷ xs) (take_behind a b n k (omega (arith, is)))
 
 -- whole lines are finished, and then those of what stands behind them
-pub finished-whole : (done rest : List ℕ) → AreWholeLines done → finished (done ++ rest) ≡ done ++ finished rest
+pub finished-whole : (done rest : List ℕ) → AreWholeLines done → finished_lines (done ++ rest) ≡ done ++ finished_lines rest
 finished-whole done rest whole =
     let same : suffix_len inner (done ++ rest) ≡ suffix_len inner rest
     = ap (prefix_len inner) (reverse-append done rest) ∙ prefix_behind (reverse rest) (reverse done) (whole_ends done whole) in
@@ -100,12 +100,12 @@ finished-whole done rest whole =
     take_behind done rest (length (done ++ rest) - suffix_len inner (done ++ rest)) (length rest - suffix_len inner rest) count
 
 -- without an end no line is finished
-pub finished-none : (rest : List ℕ) → HasNoEnd rest → finished rest ≡ []
+pub finished-none : (rest : List ℕ) → HasNoEnd rest → finished_lines rest ≡ []
 finished-none rest endless =
     let all : suffix_len inner rest ≡ length rest - 0 = suffix_len_is inner rest 0 0 (omega arith)
     (λ k low below. ap not (All-get_or (λ b. eqb b 10 ≡ false) rest k 0 below endless)) (λ some. absurd (omega (arith, some))) in
     let none : length rest - suffix_len inner rest ≡ 0 = omega (arith, all) in
     ap (λ n. take n rest) none
 
-pub finished_is : (done rest : List ℕ) → AreWholeLines done → HasNoEnd rest → finished (done ++ rest) ≡ done
+pub finished_is : (done rest : List ℕ) → AreWholeLines done → HasNoEnd rest → finished_lines (done ++ rest) ≡ done
 finished_is done rest whole endless = finished-whole done rest whole ∙ ap (λ xs. done ++ xs) (finished-none rest endless) ∙ append-nil done

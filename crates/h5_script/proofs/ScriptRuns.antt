@@ -5,7 +5,7 @@ use Rattle.std.specs.Io.KnownBytes.{Consumes, Keeps, IsAtEnd}
 use Rattle.std.proofs.lemmas.Bool.Decides.{nat_tests}
 use Rattle.std.proofs.lemmas.List.{take-take}
 use Rattle.h5_dump.specs.Session.{SessionState}
-use Rattle.h5_model.specs.Scripts.Lines.{Command, commands_of, finished, within_limit}
+use Rattle.h5_model.specs.Scripts.Lines.{Command, commands_of, finished_lines, within_limit}
 use Rattle.h5_script.specs.Pieces.{AreWholeLines, HasRunLines, HasBegunLines, IsUnderway, commands_of_line}
 use Rattle.h5_script.specs.Runs.{HasRun, HasCounted, HasBegun, IsRunCut}
 use Rattle.h5_script.specs.Script.{none_ran, IsDone, IsUnread, IsTooLong, IsCutOff, IsStopped}
@@ -40,7 +40,7 @@ by_stop (Err g) P Q e f stopped is q = subst Q (sym (stopped ∙ is)) q
 within_short : (script : List ℕ) → length script ≤ limit → within_limit script ≡ script
 within_short script short =
     let test : nat_lt limit (length script) ≡ false = grind (arith, nat_tests) in
-    ap (λ b. cond b (finished (take limit script)) script) test
+    ap (λ b. cond b (finished_lines (take limit script)) script) test
 
 take_length_append : (a b : List ℕ) → take (length a) (a ++ b) ≡ a
 take_length_append [] b = refl
@@ -50,11 +50,11 @@ take_front : (a b : List ℕ) (n : ℕ) → n ≡ length a → take n (a ++ b) �
 take_front a b n is = ap (λ k. take k (a ++ b)) is ∙ take_length_append a b
 
 -- of a script that is too long the lines that its first bytes finish
-within_long : (script front more : List ℕ) → script ≡ front ++ more → length front ≡ limit → limit < length script → within_limit script ≡ finished front
+within_long : (script front more : List ℕ) → script ≡ front ++ more → length front ≡ limit → limit < length script → within_limit script ≡ finished_lines front
 within_long script front more is counted long =
     let test : nat_lt limit (length script) ≡ true = grind (arith, nat_tests) in
-    ap (λ b. cond b (finished (take limit script)) script) test
-    ∙ ap (λ xs. finished (take limit xs)) is ∙ ap finished (take_front front more limit (sym counted))
+    ap (λ b. cond b (finished_lines (take limit script)) script) test
+    ∙ ap (λ xs. finished_lines (take limit xs)) is ∙ ap finished_lines (take_front front more limit (sym counted))
 
 -- whatever follows the lines that were run, the run of the whole has begun
 begun_within : (done rest : List ℕ) (s t : SessionState) (old new : Known) → AreWholeLines done → HasBegun (commands_of done) s t old new → HasBegun (commands_of (done ++ rest)) s t old new
@@ -84,7 +84,7 @@ module _ (s : SessionState) (input old : Known) where
   stopped_at_first f is = cut_off s s input input old old f is (record {
     script = [];
     read = consumes_none input;
-    run = inl (has_begun_none (commands_of (finished (within_limit []))) s old);
+    run = inl (has_begun_none (commands_of (finished_lines (within_limit []))) s old);
   })
 
   module _ (m : SessionState) (mid : Known) (now : Known) (held : List ℕ) (room : ℕ) (a : Ran) (under : IsUnderway s m input mid old now held room a) where
@@ -102,7 +102,7 @@ module _ (s : SessionState) (input old : Known) where
       read = consumes_kept input mid left under.script under.read kept;
       short = low;
       run = subst (λ (bytes : List ℕ). HasRun (commands_of bytes) s m old now)
-          (sym (ap finished (sym under.run.parts) ∙ finished_is under.run.done held under.run.whole under.run.endless)) whole_run.run;
+          (sym (ap finished_lines (sym under.run.parts) ∙ finished_is under.run.done held under.run.whole under.run.endless)) whole_run.run;
     }
 
     -- all commands of the script
@@ -224,8 +224,8 @@ module _ (s : SessionState) (input old : Known) where
             script = grown;
             read = read_more;
             run = inl (subst (λ (xs : List ℕ). HasBegun (commands_of xs) s t old new)
-                (sym (ap finished (within_short grown short ∙ ap (λ xs. under.script ++ xs) (sym is) ∙ sym begun.parts) ∙ finished-whole begun.done begun.others begun.whole))
-                (begun_within begun.done (finished begun.others) s t old new begun.whole begun.run));
+                (sym (ap finished_lines (within_short grown short ∙ ap (λ xs. under.script ++ xs) (sym is) ∙ sym begun.parts) ∙ finished-whole begun.done begun.others begun.whole))
+                (begun_within begun.done (finished_lines begun.others) s t old new begun.whole begun.run));
           }
 
       -- only a part of it is
@@ -242,7 +242,7 @@ module _ (s : SessionState) (input old : Known) where
           let taken : length part ≡ min room (length piece) = ap length is ∙ length-take room piece in
           omega (arith, length-append under.script part, taken, read.within, over, under.limit)
 
-      within_front : (part : List ℕ) → room < count → part ≡ take room piece → within_limit grown ≡ finished (under.script ++ part)
+      within_front : (part : List ℕ) → room < count → part ≡ take room piece → within_limit grown ≡ finished_lines (under.script ++ part)
       within_front part over is =
           let more = parted part over is in
           within_long grown (under.script ++ part) more.0 more.1 (front_long part over is) (omega (arith, long_grown, under.limit, over))
@@ -256,7 +256,7 @@ module _ (s : SessionState) (input old : Known) where
             read = read_more;
             long = omega (arith, long_grown, under.limit, over);
             run = subst (λ (xs : List ℕ). HasRun (commands_of xs) s t old new)
-                (sym (within_front part over is ∙ ap finished (sym all.parts) ∙ finished_is all.done after all.whole all.endless)) all.run.run;
+                (sym (within_front part over is ∙ ap finished_lines (sym all.parts) ∙ finished_is all.done after all.whole all.endless)) all.run.run;
           }
 
       pub cut_over : (part : List ℕ) (t : SessionState) (new : Known) → room < count → part ≡ take room piece → HasBegunLines (held ++ part) m t now new → IsCutOff s t input left old new
@@ -266,9 +266,9 @@ module _ (s : SessionState) (input old : Known) where
             script = grown;
             read = read_more;
             run = inl (subst (λ (xs : List ℕ). HasBegun (commands_of xs) s t old new)
-                (sym (ap finished (within_front part over is ∙ ap finished (sym begun.parts) ∙ finished-whole begun.done begun.others begun.whole)
-                ∙ finished-whole begun.done (finished begun.others) begun.whole))
-                (begun_within begun.done (finished (finished begun.others)) s t old new begun.whole begun.run));
+                (sym (ap finished_lines (within_front part over is ∙ ap finished_lines (sym begun.parts) ∙ finished-whole begun.done begun.others begun.whole)
+                ∙ finished-whole begun.done (finished_lines begun.others) begun.whole))
+                (begun_within begun.done (finished_lines (finished_lines begun.others)) s t old new begun.whole begun.run));
           }
 
       pub cut_piece : (within : ℕ) (part : List ℕ) (t : SessionState) (new : Known) → within ≡ min count room → part ≡ take within piece → HasBegunLines (held ++ part) m t now new

@@ -9,7 +9,7 @@ use Rattle.h5_model.specs.Scripts.Answers.{has_many_views, shown_text, view_is_l
 use Rattle.h5_model.specs.Scripts.Lines.{OpenView, Show, Close}
 use Rattle.h5_model.specs.Scripts.Reading.{selection_rules}
 use Rattle.h5_model.specs.Tree.Objects.{Tree, Dataset, dataset_of}
-use Rattle.h5_model.specs.Tree.Paths.{dataset_at, located, names_of, object_at}
+use Rattle.h5_model.specs.Tree.Paths.{dataset_at, location_of, names_of, object_at}
 use Rattle.h5_model.specs.Views.Selection.{Slab, axes_of}
 use Rattle.h5_model.specs.Views.Shown.{Shown, View, shows}
 use Rattle.h5_model.specs.Views.ViewFaults.{view_fault_text}
@@ -61,8 +61,8 @@ stands tree path hyper h =
     let rules = none_holds (selection_rules tree path hyper) h in
     let form : is_none (names_of path) ≡ false = rules.0 in
     let later = rules.1.1 in
-    let placed : is_here (located tree path) ≡ true = here (located tree path) (located-is_place tree path form) later.0 later.1.0 later.1.1.0 in
-    let found : (d : Dataset) × (dataset_at tree path ≡ Some d) = some_of (is_here (located tree path)) (dataset_at tree path) placed later.1.1.1.0 in
+    let placed : is_here (location_of tree path) ≡ true = here (location_of tree path) (located-is_place tree path form) later.0 later.1.0 later.1.1.0 in
+    let found : (d : Dataset) × (dataset_at tree path ≡ Some d) = some_of (is_here (location_of tree path)) (dataset_at tree path) placed later.1.1.1.0 in
     numbered (object_at tree path) found.0 found.1 where
       numbered : (at : Option ℕ) (d : Dataset) → option_and_then (dataset_of tree) at ≡ Some d → (number : ℕ) × (at ≡ Some number)
       numbered None d is = absurd (cc)

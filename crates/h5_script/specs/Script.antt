@@ -2,7 +2,7 @@
 use Rattle.std.specs.Prelude.{◌⊎◌, ℕ, ◌<◌, ◌≤◌, Option, List, length}
 use Rattle.std.specs.Io.KnownBytes.{Consumes, IsAtEnd}
 use Rattle.h5_dump.specs.Session.{SessionState}
-use Rattle.h5_model.specs.Scripts.Lines.{commands_of, finished, within_limit}
+use Rattle.h5_model.specs.Scripts.Lines.{commands_of, finished_lines, within_limit}
 use Rattle.h5_script.specs.Runs.{HasRun, HasCounted, HasBegun}
 use Rattle.h5_script.specs.declared.ran.Ran.{Ran}
 use Rattle.h5_script.specs.declared.fault.RunFault.{RunFault}
@@ -25,7 +25,7 @@ pub record IsUnread (before after : SessionState) (input left old new : Option (
   pub script : List ℕ
   pub read : Consumes input left script
   pub short : length script ≤ 16777216
-  pub run : HasRun (commands_of (finished script)) before after old new
+  pub run : HasRun (commands_of (finished_lines script)) before after old new
 
 -- more bytes were read than a script has: the lines that the others finish were run
 pub record IsTooLong (before after : SessionState) (input left old new : Option (List ℕ)) : Type 0 where
@@ -38,7 +38,7 @@ pub record IsTooLong (before after : SessionState) (input left old new : Option 
 pub record IsCutOff (before after : SessionState) (input left old new : Option (List ℕ)) : Type 0 where
   pub script : List ℕ
   pub read : Consumes input left script
-  pub run : HasBegun (commands_of (finished (within_limit script))) before after old new
+  pub run : HasBegun (commands_of (finished_lines (within_limit script))) before after old new
       ⊎ (IsAtEnd left × HasBegun (commands_of (within_limit script)) before after old new)
 
 -- what was done where a run ends early

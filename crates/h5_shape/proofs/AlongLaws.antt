@@ -8,23 +8,23 @@ use Rattle.std.proofs.Math.Nat.{mul-le-mul_left, mul-le-mul_right}
 use Rattle.std.specs.List.{flat_map}
 use Rattle.h5_model.specs.declared.Axis.{Axis}
 use Rattle.h5_model.specs.Views.Selection.{has_no_cell, overlaps, fits_along}
-use Rattle.h5_shape.specs.Loops.{spaced}
+use Rattle.h5_shape.specs.Loops.{spaced_places}
 use Rattle.h5_shape.specs.Parts.{numbers_along}
 use Rattle.h5_shape.specs.PartsLeft.{IsBoxed}
 
-length-spaced : (n step p : ℕ) → length (spaced n step p) ≡ n
+length-spaced : (n step p : ℕ) → length (spaced_places n step p) ≡ n
 length-spaced zero step p = refl
 length-spaced (suc n) step p = ap suc (length-spaced n step (p + step))
 
-get_or-spaced : (n step p i : ℕ) → i < n → get_or (spaced n step p) i 0 ≡ p + i * step
+get_or-spaced : (n step p i : ℕ) → i < n → get_or (spaced_places n step p) i 0 ≡ p + i * step
 get_or-spaced zero step p i low = absurd (omega arith)
 get_or-spaced (suc n) step p zero low = omega arith
 get_or-spaced (suc n) step p (suc i) low = get_or-spaced n step (p + step) i (omega arith) ∙ omega arith
 
-pub length-rows : (b e st n p : ℕ) → length (flat_map (spaced b e) (spaced n st p)) ≡ n * b
+pub length-rows : (b e st n p : ℕ) → length (flat_map (spaced_places b e) (spaced_places n st p)) ≡ n * b
 length-rows b e st zero p = omega arith
 length-rows b e st (suc n) p =
-    length-append (spaced b e p) (flat_map (spaced b e) (spaced n st (p + st)))
+    length-append (spaced_places b e p) (flat_map (spaced_places b e) (spaced_places n st (p + st)))
     ∙ omega (arith, length-spaced b e p, length-rows b e st n (p + st))
 
 -- a position by its block, and its place there
@@ -44,20 +44,20 @@ quotient-next b t some =
     (rw same at (div-mul-add (t / b + 1) b (t % b) rest), rw same at (mod-mul-add (t / b + 1) b (t % b) rest))
 
 -- the place at a position: so far into a row, so many rows on
-pub get_or-rows : (b e st n p t : ℕ) → 0 < b → t < n * b → get_or (flat_map (spaced b e) (spaced n st p)) t 0 ≡ p + t / b * st + t % b * e
+pub get_or-rows : (b e st n p t : ℕ) → 0 < b → t < n * b → get_or (flat_map (spaced_places b e) (spaced_places n st p)) t 0 ≡ p + t / b * st + t % b * e
 get_or-rows b e st zero p t some low = absurd (omega arith)
 get_or-rows b e st (suc n) p t some low =
-    let rest = flat_map (spaced b e) (spaced n st (p + st)) in
+    let rest = flat_map (spaced_places b e) (spaced_places n st (p + st)) in
     elim (cases_lt t b) [
       | inl here ↦
-          let long : t < length (spaced b e p) = omega (arith, length-spaced b e p) in
+          let long : t < length (spaced_places b e p) = omega (arith, length-spaced b e p) in
           let parts = quotient-low b t here in
-          let first : get_or (spaced b e p ++ rest) t 0 ≡ p + t * e = get_or_append_left (spaced b e p) rest 0 t long ∙ get_or-spaced b e p t here in
+          let first : get_or (spaced_places b e p ++ rest) t 0 ≡ p + t * e = get_or_append_left (spaced_places b e p) rest 0 t long ∙ get_or-spaced b e p t here in
           rw (parts.0, parts.1) (first ∙ omega arith)
       | inr past ↦
           let back : b + (t - b) ≡ t = omega arith in
           let parts : (t / b ≡ (t - b) / b + 1) × (t % b ≡ (t - b) % b) = rw back at (quotient-next b (t - b) some) in
-          let one : get_or (spaced b e p ++ rest) t 0 ≡ get_or rest (t - b) 0 = get_or-append_right (spaced b e p) rest b t 0 (length-spaced b e p) past in
+          let one : get_or (spaced_places b e p ++ rest) t 0 ≡ get_or rest (t - b) 0 = get_or-append_right (spaced_places b e p) rest b t 0 (length-spaced b e p) past in
           let two : get_or rest (t - b) 0 ≡ p + st + (t - b) / b * st + (t - b) % b * e = get_or-rows b e st n (p + st) (t - b) some (omega arith) in
           rw (parts.0, parts.1) (one ∙ two ∙ omega arith)
     ]

@@ -1,6 +1,6 @@
 -- A selection with one more dimension, by loops over its blocks and over the cells of a block.
 use Rattle.std.proofs.Common.{◌≡◌, ℕ, suc, ◌+◌, ◌-◌, ◌*◌, ◌^◌, ◌<◌, ◌≤◌, List, [], ◌∷◌, length, take, drop, get_or, inl, inr, sym, ap, ◌∙◌, arith, true, false}
-use Rattle.std.proofs.lemmas.Bool.{cases_lt}
+use Rattle.std.proofs.lemmas.Bool.{cases_lt, and_parts, or_parts}
 use Rattle.std.proofs.lemmas.Bool.Decides.{nat_tests}
 use Rattle.std.proofs.lemmas.List.{append-nil}
 use Rattle.std.proofs.Math.Seq.{take-length}
@@ -9,8 +9,7 @@ use Rattle.std.specs.List.{flat_map, list_any}
 use Rattle.h5_model.specs.Tree.Places.{cells}
 use Rattle.h5_model.specs.declared.Axis.{Axis}
 use Rattle.h5_model.specs.Views.Selection.{Slab, fits_along, fits_all, has_no_cell, overlaps, selects_none}
-use Rattle.h5_model.proofs.WithinLaws.{both, neither}
-use Rattle.h5_shape.specs.Loops.{spaced, selected_from, first_place}
+use Rattle.h5_shape.specs.Loops.{spaced_places, selected_from, first_place}
 use Rattle.h5_shape.proofs.LoopLaws.{same_flat, flat_flat}
 
 pub tail_is : {X : Type 0} (x : X) (xs : List X) → take (length (x ∷ xs) - 1) xs ≡ xs
@@ -19,22 +18,22 @@ tail_is x xs = let less : length (x ∷ xs) - 1 ≡ length xs = omega arith in r
 pub select_step : (sizes : List ℕ) (slab : Slab) (d0 : ℕ) (a0 : Axis) → 1 ≤ length sizes → 1 ≤ length slab → (f g h : ℕ → List ℕ) (c : ℕ)
     → c ≡ cells (take (length sizes - 1) (drop 1 sizes))
     → ((p : ℕ) → f p ≡ selected_from (take (length sizes - 1) (drop 1 sizes)) (take (length slab - 1) (drop 1 slab)) p)
-    → ((p : ℕ) → g p ≡ flat_map f (spaced (get_or slab 0 a0).block c p))
-    → ((p : ℕ) → h p ≡ flat_map g (spaced (get_or slab 0 a0).count ((get_or slab 0 a0).stride * c) p))
+    → ((p : ℕ) → g p ≡ flat_map f (spaced_places (get_or slab 0 a0).block c p))
+    → ((p : ℕ) → h p ≡ flat_map g (spaced_places (get_or slab 0 a0).count ((get_or slab 0 a0).stride * c) p))
     → (p : ℕ) → h p ≡ selected_from sizes slab p
 select_step [] slab d0 a0 long wide f g h c below first second third p = absurd (omega arith)
 select_step (d ∷ ds) [] d0 a0 long wide f g h c below first second third p = absurd (omega arith)
 select_step (d ∷ ds) (a ∷ rest) d0 a0 long wide f g h c below first second third p =
     let under : c ≡ cells ds = rw (tail_is d ds) at below in
     let inner : (q : ℕ) → f q ≡ selected_from ds rest q = rw (tail_is d ds, tail_is a rest) at first in
-    let outer = spaced a.count (a.stride * c) p in
-    third p ∙ same_flat g (λ q. flat_map f (spaced a.block c q)) second outer
-    ∙ sym (flat_flat f (spaced a.block c) outer)
-    ∙ same_flat f (selected_from ds rest) inner (flat_map (spaced a.block c) outer)
-    ∙ ap (λ (n : ℕ). flat_map (selected_from ds rest) (flat_map (spaced a.block n) (spaced a.count (a.stride * n) p))) under
+    let outer = spaced_places a.count (a.stride * c) p in
+    third p ∙ same_flat g (λ q. flat_map f (spaced_places a.block c q)) second outer
+    ∙ sym (flat_flat f (spaced_places a.block c) outer)
+    ∙ same_flat f (selected_from ds rest) inner (flat_map (spaced_places a.block c) outer)
+    ∙ ap (λ (n : ℕ). flat_map (selected_from ds rest) (flat_map (spaced_places a.block n) (spaced_places a.count (a.stride * n) p))) under
 
 -- an axis of one block
-pub one_block : (g : ℕ → List ℕ) (count step : ℕ) → count ≡ 1 → (p : ℕ) → g p ≡ flat_map g (spaced count step p)
+pub one_block : (g : ℕ → List ℕ) (count step : ℕ) → count ≡ 1 → (p : ℕ) → g p ≡ flat_map g (spaced_places count step p)
 one_block g count step one p = rw one (sym (append-nil (g p)))
 
 steps_room : (m stride d c : ℕ) → 1 ≤ m → m * stride ≤ d → suc m * (stride * c) ≤ 2 * (d * c)
@@ -57,7 +56,7 @@ step_room [] slab a0 long wide fits more small c below = absurd (omega arith)
 step_room (d ∷ ds) [] a0 long wide fits more small c below = absurd (omega arith)
 step_room (d ∷ ds) (a ∷ rest) a0 long wide fits more small c below =
     let under : c ≡ cells ds = rw (tail_is d ds) at below in
-    let split : (fits_along d a ≡ true) × (fits_all ds rest ≡ true) = both (fits_along d a) (fits_all ds rest) fits in
+    let split : (fits_along d a ≡ true) × (fits_all ds rest ≡ true) = and_parts (fits_along d a) (fits_all ds rest) fits in
     let room : a.count * (a.stride * cells ds) ≤ 2 * (d * cells ds) = axis_room a d (cells ds) split.0 more in
     rw under (omega arith)
 
@@ -66,8 +65,8 @@ pub origin_below : (sizes : List ℕ) (slab : Slab) → length sizes ≡ length 
 origin_below [] slab same fits some = omega arith
 origin_below (d ∷ ds) [] same fits some = absurd (omega arith)
 origin_below (d ∷ ds) (a ∷ rest) same fits some =
-    let split : (fits_along d a ≡ true) × (fits_all ds rest ≡ true) = both (fits_along d a) (fits_all ds rest) fits in
-    let parts : (has_no_cell a ≡ false) × (selects_none rest ≡ false) = neither (has_no_cell a) (selects_none rest) some in
+    let split : (fits_along d a ≡ true) × (fits_all ds rest ≡ true) = and_parts (fits_along d a) (fits_all ds rest) fits in
+    let parts : (has_no_cell a ≡ false) × (selects_none rest ≡ false) = or_parts (has_no_cell a) (selects_none rest) some in
     let low : a.start + 1 ≤ d = first_low a d split.0 parts.0 in
     let under : first_place ds rest < cells ds = origin_below ds rest (omega arith) split.1 parts.1 in
     let rows : (a.start + 1) * cells ds ≤ d * cells ds = mul-le-mul_right (cells ds) low in
@@ -93,7 +92,7 @@ origin_room (d ∷ ds) (a ∷ rest) a0 long wide same fits some c o below start 
 pub some_count : (slab : Slab) (a0 : Axis) → 1 ≤ length slab → selects_none slab ≡ false → 0 < (get_or slab 0 a0).count
 some_count [] a0 wide some = absurd (omega arith)
 some_count (a ∷ rest) a0 wide some =
-    let parts : (has_no_cell a ≡ false) × (selects_none rest ≡ false) = neither (has_no_cell a) (selects_none rest) some in
+    let parts : (has_no_cell a ≡ false) × (selects_none rest ≡ false) = or_parts (has_no_cell a) (selects_none rest) some in
     grind (arith, nat_tests, parts.0)
 
 -- an axis selects no more numbers than the size
@@ -119,9 +118,9 @@ depth_room [] slab a0 long wide fits some apart c n m below low few = absurd (om
 depth_room (d ∷ ds) [] a0 long wide fits some apart c n m below low few = absurd (omega arith)
 depth_room (d ∷ ds) (a ∷ rest) a0 long wide fits some apart c n m below low few =
     let under : c ≡ cells ds = rw (tail_is d ds) at below in
-    let split : (fits_along d a ≡ true) × (fits_all ds rest ≡ true) = both (fits_along d a) (fits_all ds rest) fits in
-    let parts : (has_no_cell a ≡ false) × (selects_none rest ≡ false) = neither (has_no_cell a) (selects_none rest) some in
-    let blocks : (overlaps a ≡ false) × (list_any overlaps rest ≡ false) = neither (overlaps a) (list_any overlaps rest) apart in
+    let split : (fits_along d a ≡ true) × (fits_all ds rest ≡ true) = and_parts (fits_along d a) (fits_all ds rest) fits in
+    let parts : (has_no_cell a ≡ false) × (selects_none rest ≡ false) = or_parts (has_no_cell a) (selects_none rest) some in
+    let blocks : (overlaps a ≡ false) × (list_any overlaps rest ≡ false) = or_parts (overlaps a) (list_any overlaps rest) apart in
     let count : 0 < a.count = grind (arith, nat_tests, parts.0) in
     let cells_along : a.count * a.block ≤ d = axis_cells a d split.0 blocks.0 count in
     let rows : (a.count * a.block) * c ≤ d * c = mul-le-mul_right c cells_along in

@@ -109,12 +109,6 @@ module _ (a : Axis) (x S full r : ℕ) (far : x ≡ a.start + (full * S + r)) (r
   pub below_every : a.count ≤ full → IsBelow a x (a.count * a.block)
   below_every many = (omega arith, λ t inside. (λ below. inside, λ before. all_below t inside many))
 
-pub below_none : (a : Axis) (x : ℕ) → x ≤ a.start → IsBelow a x 0
-below_none a x before = (omega arith, λ t inside. (λ below. absurd (omega (arith, before, below)), λ never. absurd (omega (arith, never))))
-
-pub below_empty : (a : Axis) (x : ℕ) → a.block ≡ 0 → IsBelow a x 0
-below_empty a x none = (omega arith, λ t inside. absurd (let nothing : a.count * a.block ≡ a.count * 0 = ap (λ n. a.count * n) none in omega (arith, inside, nothing)))
-
 pub some_block : (n : ℕ) → (n ≡ 0 → ⊥) → 0 < n
 some_block zero some = absurd (some refl)
 some_block (suc n) some = omega arith

@@ -2,12 +2,12 @@
 use Rattle.std.proofs.Common.{◌≡◌, ℕ, ◌-◌, ◌*◌, ◌/◌, ◌%◌, ◌<◌, ◌≤◌, inl, inr, List, [], ◌∷◌, length, sym, ap, ◌∙◌, arith, true}
 use Rattle.std.proofs.Math.Nat.{div-mul-le_self, mul-div_left, mul-le-mul_right}
 use Rattle.std.proofs.lemmas.Nat.{div-add-mod', le-div}
+use Rattle.std.proofs.lemmas.Bool.{and_parts}
 use Rattle.h5_model.specs.declared.hyperslab.Axis.{Axis}
 use Rattle.h5_model.specs.Tree.Grid.{corner_of}
 use Rattle.h5_model.specs.Tree.Places.{cells, is_inside}
 use Rattle.h5_model.specs.Views.Selection.{Slab, is_selected, is_selected_along}
 use Rattle.h5_model.proofs.SelectionLaws.{from_selected_along}
-use Rattle.h5_model.proofs.WithinLaws.{both}
 use Rattle.h5_shape.specs.MetFirsts.{LieBeside, ShareNoBox, is_written_at, last_along, met_firsts}
 use Rattle.h5_shape.proofs.GridBoxes.{factors}
 use Rattle.h5_shape.proofs.MetLaws.{met_held, no_member}
@@ -44,12 +44,12 @@ never_beside (b ∷ bs) (a ∷ rest) (c ∷ cs) (x ∷ xs) [] beside some left r
 never_beside (b ∷ bs) (a ∷ rest) (c ∷ cs) (x ∷ xs) (y ∷ ys) (inl here) some left right long short same =
     let sizes = factors b (cells bs) some in
     let first : x / b * b ≡ y / b * b = cc in
-    here x y (both (is_selected_along a x) (is_selected rest xs) left).0 (both (is_selected_along c y) (is_selected cs ys) right).0
+    here x y (and_parts (is_selected_along a x) (is_selected rest xs) left).0 (and_parts (is_selected_along c y) (is_selected cs ys) right).0
     (sym (mul-div_left (x / b) sizes.0) ∙ ap (λ n. n / b) first ∙ mul-div_left (y / b) sizes.0)
 never_beside (b ∷ bs) (a ∷ rest) (c ∷ cs) (x ∷ xs) (y ∷ ys) (inr below) some left right long short same =
     let sizes = factors b (cells bs) some in
     let others : corner_of bs xs ≡ corner_of bs ys = cc in
-    never_beside bs rest cs xs ys below sizes.1 (both (is_selected_along a x) (is_selected rest xs) left).1 (both (is_selected_along c y) (is_selected cs ys) right).1
+    never_beside bs rest cs xs ys below sizes.1 (and_parts (is_selected_along a x) (is_selected rest xs) left).1 (and_parts (is_selected_along c y) (is_selected cs ys) right).1
     (omega (arith, long)) (omega (arith, short)) others
 
 pub beside_met : (sizes box : List ℕ) (written view : Slab) → length box ≡ length sizes → 0 < cells box → LieBeside box written view
@@ -58,5 +58,5 @@ beside_met sizes box written view rank some beside = no_member (met_firsts sizes
     let held = met_held sizes box (is_written_at sizes written) view rank some first at in
     let edit = held.0 in
     let seen = held.1 in
-    never_beside box written view edit.index seen.index beside some (both (is_inside sizes edit.index) (is_selected written edit.index) edit.passes).1 seen.passes
+    never_beside box written view edit.index seen.index beside some (and_parts (is_inside sizes edit.index) (is_selected written edit.index) edit.passes).1 seen.passes
     edit.long seen.long (edit.corner ∙ sym seen.corner))

@@ -1,6 +1,6 @@
 -- The boxes of a grid by their first indexes, and what they hold.
 use Rattle.std.proofs.Common.{◌≡◌, ℕ, zero, suc, ◌+◌, ◌-◌, ◌*◌, ◌/◌, ◌%◌, ◌<◌, ◌≤◌, inl, inr, List, [], ◌∷◌, length, get_or, map, refl, sym, ap, ap₂, ◌∙◌, subst, arith, Bool, true}
-use Rattle.std.proofs.lemmas.Bool.{cases_order}
+use Rattle.std.proofs.lemmas.Bool.{cases_order, and_parts}
 use Rattle.std.proofs.lemmas.Bool.Decides.{nat_tests}
 use Rattle.std.proofs.lemmas.List.Folds.{Any-from_list_any, list_any_at}
 use Rattle.std.proofs.lemmas.List.FromFn.{get_or-range_with_len, length-range_with_len}
@@ -12,7 +12,6 @@ use Rattle.h5_model.specs.Format.Links.{Before}
 use Rattle.h5_model.specs.Tree.Grid.{boxes_along, boxes_of, corner_of, grid_of, in_box, inner_of, some_in_box}
 use Rattle.h5_model.specs.Tree.Places.{IsInside, cells, index_of, is_inside, place_of}
 use Rattle.h5_model.proofs.PlaceLaws.{index-place, inside-index, place_below, positive}
-use Rattle.h5_model.proofs.WithinLaws.{both}
 use Rattle.h5_shape.proofs.Members.{In, from_map, in_map, in_range}
 use Rattle.h5_shape.specs.MetFirsts.{first_of_box}
 use Rattle.h5_shape.proofs.PartedLaws.{before_less, before_same, pairs_map}
@@ -122,7 +121,7 @@ place-inside (d ∷ ds) [] index some long inside = absurd (omega (arith, long))
 place-inside (d ∷ ds) (b ∷ bs) [] some long inside = absurd (cc)
 place-inside (d ∷ ds) (b ∷ bs) (x ∷ xs) some long inside =
     let parts = factors b (cells bs) some in
-    let split = both _ (is_inside ds xs) inside in
+    let split = and_parts _ (is_inside ds xs) inside in
     let low : x < d = grind (arith, nat_tests, split.0) in
     (along d b x parts.0 low, place-inside ds bs xs parts.1 (omega (arith, long)) split.1)
 

@@ -1,5 +1,5 @@
 -- Which selected cells lie in a box: those at the positions of its spans.
-use Rattle.std.proofs.Common.{◌≡◌, ℕ, ◌+◌, ◌-◌, ◌*◌, ◌/◌, ◌%◌, ◌<◌, ◌≤◌, List, [], ◌∷◌, length, map, refl, ap, ◌∙◌, arith}
+use Rattle.std.proofs.Common.{◌≡◌, ℕ, ◌+◌, ◌-◌, ◌*◌, ◌/◌, ◌%◌, ◌<◌, ◌≤◌, List, [], ◌∷◌, length, refl, ap, ◌∙◌, arith}
 use Rattle.std.specs.Prelude.{◌↔◌}
 use Rattle.std.proofs.lemmas.Nat.{div-add-mod', div-mul-add, mod_below}
 use Rattle.h5_model.specs.declared.hyperslab.Axis.{Axis}
@@ -48,19 +48,7 @@ held_in (a ∷ rest) (c ∷ cs) (b ∷ bs) (s ∷ ss) (t ∷ ts) long are first 
       λ held. (λ i. one.1 held.0 i ∷ more.1 held.1 i),
     )
 
--- where a span of each dimension has a position, the first of them is a selected cell of the box
-abbrev pub firsts : List Span → List ℕ
-firsts spans = map (λ (s : Span). s.from) spans
-
-pub met_first : (slab : Slab) (spans : List Span) → AreSpans slab spans → IsInside (selection_shape slab) (firsts spans) × HoldsCell spans (firsts spans)
-met_first [] [] are = (tt, tt)
-met_first [] (s ∷ ss) are = absurd are
-met_first (a ∷ rest) [] are = absurd are
-met_first (a ∷ rest) (s ∷ ss) are =
-    let more = met_first rest ss are.1 in
-    ((omega (arith, are.0.some, are.0.inside), more.0), ((omega arith, omega (arith, are.0.some)), more.1))
-
--- and where a selected cell lies in the box, no span is empty
+-- where a selected cell lies in the box, no span is empty
 pub met_some : (slab : Slab) (corner sizes : List ℕ) (spans : List Span) (at : List ℕ) → AreApart slab → AreSpansIn slab corner sizes spans → HoldsCell spans at → AreSpans slab spans
 met_some [] corner sizes [] at apart are held = tt
 met_some [] corner sizes (s ∷ ss) at apart are held = absurd are

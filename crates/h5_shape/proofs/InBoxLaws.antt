@@ -1,12 +1,11 @@
 -- The spans of an axis after the other, from the last on.
-use Rattle.std.proofs.Common.{◌≡◌, ℕ, zero, suc, ◌+◌, ◌*◌, ◌^◌, ◌<◌, ◌≤◌, List, [], ◌∷◌, true, false, length, drop, set, get_or, refl, ap, ◌∙◌, subst, arith}
-use Rattle.std.proofs.lemmas.List.{drop_all}
+use Rattle.std.proofs.Common.{◌≡◌, ℕ, zero, suc, ◌+◌, ◌*◌, ◌^◌, ◌<◌, List, [], ◌∷◌, true, false, length, drop, set, get_or, refl, ap, ◌∙◌, subst, arith}
 use Rattle.h5_model.specs.declared.hyperslab.Axis.{Axis}
 use Rattle.h5_model.specs.Tree.Places.{cells}
 use Rattle.h5_model.specs.Views.Selection.{Slab, fits_along, overlaps, selected_cells}
 use Rattle.h5_shape.specs.PartCells.{selection_shape}
 use Rattle.h5_shape.specs.declared.parts.Span.{Span}
-use Rattle.h5_shape.specs.InBox.{AreApart, AreSpans, AreSpansIn, IsSpan, IsSpanIn}
+use Rattle.h5_shape.specs.InBox.{AreApart, AreSpans, IsSpan}
 
 drop_next : {X : Type 0} (xs : List X) (k : ℕ) (d : X) → k < length xs → drop k xs ≡ get_or xs k d ∷ drop (suc k) xs
 drop_next [] k d there = absurd (omega (arith, there))
@@ -31,11 +30,6 @@ apart_at (a ∷ rest) (suc k) d there are = apart_at rest k d (omega (arith, the
 
 module _ (axes : Slab) (corner sizes : List ℕ) (spans : List Span) (k : ℕ) (d : Axis) (s : Span) (there : k < length axes) (cs : length corner ≡ length axes) (bs : length sizes ≡ length axes)
     (ss : length spans ≡ length axes) where
-  pub each_more : IsSpanIn (get_or axes k d) (get_or corner k 0) (get_or sizes k 0) s → AreSpansIn (drop (k + 1) axes) (drop (k + 1) corner) (drop (k + 1) sizes) (drop (k + 1) spans)
-      → AreSpansIn (drop k axes) (drop k corner) (drop k sizes) (drop k (set spans k s))
-  each_more here rest =
-      rw (drop_at axes k d there, drop_at corner k 0 (omega (arith, there, cs)), drop_at sizes k 0 (omega (arith, there, bs)), put_at spans k s (omega (arith, there, ss))) (here, rest)
-
   more_is : AreSpans (drop k axes) (drop k (set spans k s)) ≡ (IsSpan (get_or axes k d) s × AreSpans (drop (k + 1) axes) (drop (k + 1) spans))
   more_is = (λ i. AreSpans (drop_at axes k d there i) (put_at spans k s (omega (arith, there, ss)) i))
 
@@ -44,10 +38,6 @@ module _ (axes : Slab) (corner sizes : List ℕ) (spans : List Span) (k : ℕ) (
 
   pub some_less : AreSpans (drop k axes) (drop k (set spans k s)) → IsSpan (get_or axes k d) s × AreSpans (drop (k + 1) axes) (drop (k + 1) spans)
   some_less are = subst (λ (X : Type 0). X) more_is are
-
-pub none_left : (axes : Slab) (corner sizes : List ℕ) (spans : List Span) (k : ℕ) → length axes ≤ k → length spans ≤ k
-    → AreSpansIn (drop k axes) (drop k corner) (drop k sizes) (drop k spans) × AreSpans (drop k axes) (drop k spans)
-none_left axes corner sizes spans k few fewer = rw (drop_all k axes few, drop_all k spans fewer) (tt, tt)
 
 pub shape_cells : (slab : Slab) → cells (selection_shape slab) ≡ selected_cells slab
 shape_cells [] = refl

@@ -1,14 +1,14 @@
 -- One more dimension around the selected cells of the inner ones.
-use Rattle.std.proofs.Common.{◌≡◌, ℕ, zero, suc, ◌+◌, ◌-◌, ◌*◌, ◌<◌, ◌≤◌, ◌⊎◌, inl, inr, List, [], ◌∷◌, ◌++◌, length, drop, get_or, refl, sym, ap, ◌∙◌, arith, Bool, true, false, not, ◌||◌}
+use Rattle.std.proofs.Common.{◌≡◌, ℕ, zero, suc, ◌+◌, ◌-◌, ◌*◌, ◌<◌, ◌≤◌, ◌⊎◌, inl, inr, List, [], ◌∷◌, ◌++◌, length, drop, get_or, refl, sym, ap, ◌∙◌, arith, true, false, not, ◌||◌}
 use Rattle.std.proofs.lemmas.List.{drop_all}
 use Rattle.std.proofs.Math.Nat.{mul-le-mul_right}
 use Rattle.std.specs.List.{flat_map, list_any}
+use Rattle.std.proofs.lemmas.Bool.{not-true, and_parts, or_parts}
 use Rattle.h5_model.specs.Tree.Places.{cells}
 use Rattle.h5_model.specs.declared.Axis.{Axis}
 use Rattle.h5_model.specs.Views.Selection.{Slab, axes_from, fits_along, fits_all, has_no_cell, has_no_stride, is_run, overlaps, selects_none}
-use Rattle.h5_model.proofs.WithinLaws.{both, neither}
 use Rattle.h5_shape.specs.declared.single_run.InnerRun.{InnerRun}
-use Rattle.h5_shape.specs.Loops.{spaced, selected_from}
+use Rattle.h5_shape.specs.Loops.{spaced_places, selected_from}
 use Rattle.h5_shape.specs.InnerRuns.{HasNoInnerRun, IsInnerRun, IsSelecting, follow_on, selects_along}
 use Rattle.h5_shape.proofs.JoinLaws.{IsFree, free_axis, follow_cases, numbers_from, joined, run_front, unjoined}
 
@@ -28,21 +28,17 @@ axis_first (suc k) (x ∷ s) (y ∷ t) (z ∷ n) (w ∷ b) hs ht hn hb =
 
 split_axis : (d : ℕ) (ds : List ℕ) (a : Axis) (rest : Slab) → IsSelecting (d ∷ ds) (a ∷ rest) → (selects_along d a ≡ true) × IsSelecting ds rest
 split_axis d ds a rest h =
-    let strides : (has_no_stride a ≡ false) × (list_any has_no_stride rest ≡ false) = neither (has_no_stride a) (list_any has_no_stride rest) h.strides in
-    let apart : (overlaps a ≡ false) × (list_any overlaps rest ≡ false) = neither (overlaps a) (list_any overlaps rest) h.apart in
-    let some : (has_no_cell a ≡ false) × (selects_none rest ≡ false) = neither (has_no_cell a) (selects_none rest) h.some in
-    let fits : (fits_along d a ≡ true) × (fits_all ds rest ≡ true) = both (fits_along d a) (fits_all ds rest) h.fits in
+    let strides : (has_no_stride a ≡ false) × (list_any has_no_stride rest ≡ false) = or_parts (has_no_stride a) (list_any has_no_stride rest) h.strides in
+    let apart : (overlaps a ≡ false) × (list_any overlaps rest ≡ false) = or_parts (overlaps a) (list_any overlaps rest) h.apart in
+    let some : (has_no_cell a ≡ false) × (selects_none rest ≡ false) = or_parts (has_no_cell a) (selects_none rest) h.some in
+    let fits : (fits_along d a ≡ true) × (fits_all ds rest ≡ true) = and_parts (fits_along d a) (fits_all ds rest) h.fits in
     (rw (strides.0, apart.0, some.0, fits.0) refl, record { strides = strides.1; apart = apart.1; some = some.1; fits = fits.1 })
-
-no_fault : (b : Bool) → not b ≡ true → b ≡ false
-no_fault true h = absurd (cc)
-no_fault false h = refl
 
 join_axis : (d : ℕ) (ds : List ℕ) (a : Axis) (rest : Slab) → selects_along d a ≡ true → IsSelecting ds rest → IsSelecting (d ∷ ds) (a ∷ rest)
 join_axis d ds a rest here h =
-    let parts : (not (has_no_stride a || (overlaps a || has_no_cell a)) ≡ true) × (fits_along d a ≡ true) = both (not (has_no_stride a || (overlaps a || has_no_cell a))) (fits_along d a) here in
-    let first : (has_no_stride a ≡ false) × ((overlaps a || has_no_cell a) ≡ false) = neither (has_no_stride a) (overlaps a || has_no_cell a) (no_fault (has_no_stride a || (overlaps a || has_no_cell a)) parts.0) in
-    let second : (overlaps a ≡ false) × (has_no_cell a ≡ false) = neither (overlaps a) (has_no_cell a) first.1 in
+    let parts : (not (has_no_stride a || (overlaps a || has_no_cell a)) ≡ true) × (fits_along d a ≡ true) = and_parts (not (has_no_stride a || (overlaps a || has_no_cell a))) (fits_along d a) here in
+    let first : (has_no_stride a ≡ false) × ((overlaps a || has_no_cell a) ≡ false) = or_parts (has_no_stride a) (overlaps a || has_no_cell a) (not-true (has_no_stride a || (overlaps a || has_no_cell a)) parts.0) in
+    let second : (overlaps a ≡ false) × (has_no_cell a ≡ false) = or_parts (overlaps a) (has_no_cell a) first.1 in
     record {
       strides = rw first.0 h.strides;
       apart = rw second.0 h.apart;
@@ -57,11 +53,11 @@ abbrev Begins : ℕ → List ℕ → Type 0
 Begins p ps = (rest : List ℕ) × (ps ≡ p ∷ rest)
 
 -- where each inner list begins with its place, so does the whole
-begins_flat : (f : ℕ → List ℕ) → ((q : ℕ) → Begins q (f q)) → (n b t step p : ℕ) → 0 < n → 0 < b → Begins p (flat_map f (flat_map (spaced b step) (spaced n t p)))
+begins_flat : (f : ℕ → List ℕ) → ((q : ℕ) → Begins q (f q)) → (n b t step p : ℕ) → 0 < n → 0 < b → Begins p (flat_map f (flat_map (spaced_places b step) (spaced_places n t p)))
 begins_flat f heads zero b t step p blocks numbers = absurd (omega arith)
 begins_flat f heads (suc n) zero t step p blocks numbers = absurd (omega arith)
 begins_flat f heads (suc n) (suc b) t step p blocks numbers =
-    let others = spaced b step (p + step) ++ flat_map (spaced (suc b) step) (spaced n t (p + t)) in
+    let others = spaced_places b step (p + step) ++ flat_map (spaced_places (suc b) step) (spaced_places n t (p + t)) in
     ((heads p).0 ++ flat_map f others, ap (λ (xs : List ℕ). xs ++ flat_map f others) (heads p).1)
 
 begins : (ds : List ℕ) (slab : Slab) → IsSelecting ds slab → (p : ℕ) → Begins p (selected_from ds slab p)
@@ -74,11 +70,11 @@ begins (d ∷ ds) (a ∷ rest) h p =
 
 -- where no inner list is a run, the whole is none
 broken_first : (f : ℕ → List ℕ) → ((q : ℕ) → Begins q (f q)) → ((q : ℕ) → is_run (f q) ≡ false) → (n b t step p : ℕ) → 0 < n → 0 < b
-    → is_run (flat_map f (flat_map (spaced b step) (spaced n t p))) ≡ false
+    → is_run (flat_map f (flat_map (spaced_places b step) (spaced_places n t p))) ≡ false
 broken_first f heads none zero b t step p blocks numbers = absurd (omega arith)
 broken_first f heads none (suc n) zero t step p blocks numbers = absurd (omega arith)
 broken_first f heads none (suc n) (suc b) t step p blocks numbers =
-    let others = flat_map f (spaced b step (p + step) ++ flat_map (spaced (suc b) step) (spaced n t (p + t))) in
+    let others = flat_map f (spaced_places b step (p + step) ++ flat_map (spaced_places (suc b) step) (spaced_places n t (p + t))) in
     let here : is_run (p ∷ (heads p).0) ≡ false = ap is_run (sym (heads p).1) ∙ none p in
     ap (λ (xs : List ℕ). is_run (xs ++ others)) (heads p).1 ∙ run_front p (heads p).0 others here
 

@@ -8,7 +8,7 @@ use Rattle.std.specs.Prelude.{◌==◌}
 use Rattle.std.specs.List.{flat_map}
 use Rattle.h5_model.specs.declared.Axis.{Axis}
 use Rattle.h5_model.specs.Views.Selection.{rises_by_one, is_run}
-use Rattle.h5_shape.specs.Loops.{spaced}
+use Rattle.h5_shape.specs.Loops.{spaced_places}
 use Rattle.h5_shape.specs.InnerRuns.{follow_on, selects_along}
 use Rattle.h5_shape.proofs.LoopLaws.{same_flat, spaced_rows, spaced_join}
 
@@ -25,14 +25,14 @@ rises_front p (x ∷ xs) ys h = elim (x == p) as (λ b. (b && rises_by_one (p + 
 pub run_front : (p : ℕ) (xs ys : List ℕ) → is_run (p ∷ xs) ≡ false → is_run ((p ∷ xs) ++ ys) ≡ false
 run_front p xs ys h = rises_front (p + 1) xs ys h
 
-rises_broken : (n p q : ℕ) (ys : List ℕ) → q ≢ p + n → rises_by_one p (spaced n 1 p ++ q ∷ ys) ≡ false
+rises_broken : (n p q : ℕ) (ys : List ℕ) → q ≢ p + n → rises_by_one p (spaced_places n 1 p ++ q ∷ ys) ≡ false
 rises_broken zero p q ys else = let test : (q == p) ≡ false = grind (arith, nat_tests) in rw test refl
 rises_broken (suc n) p q ys else =
     let here : (p == p) ≡ true = grind (arith, nat_tests) in
     rw here (rises_broken n (p + 1) q ys (λ same. else (omega arith)))
 
 -- consecutive places with one behind them that is not the next
-pub run_broken : (n p q : ℕ) (ys : List ℕ) → 0 < n → q ≢ p + n → is_run (spaced n 1 p ++ q ∷ ys) ≡ false
+pub run_broken : (n p q : ℕ) (ys : List ℕ) → 0 < n → q ≢ p + n → is_run (spaced_places n 1 p ++ q ∷ ys) ≡ false
 run_broken zero p q ys some else = absurd (omega arith)
 run_broken (suc n) p q ys some else = rises_broken n (p + 1) q ys (λ same. else (omega arith))
 
@@ -57,7 +57,7 @@ free_axis size a h = record {
 
 -- the places of the numbers that an axis selects, of which the first stands here
 abbrev pub numbers_from : Axis → ℕ → ℕ → List ℕ
-numbers_from a step p = flat_map (spaced a.block step) (spaced a.count (a.stride * step) p)
+numbers_from a step p = flat_map (spaced_places a.block step) (spaced_places a.count (a.stride * step) p)
 
 -- ---- without a gap
 
@@ -65,40 +65,40 @@ numbers_from a step p = flat_map (spaced a.block step) (spaced a.count (a.stride
 pub follow_cases : (a : Axis) (m step : ℕ) → follow_on a m step ≡ true → ((a.count ≡ 1) × (a.block ≡ 1)) ⊎ ((m ≡ step) × ((a.count ≡ 1) ⊎ (a.stride ≡ a.block)))
 follow_cases a m step h = grind (arith, nat_tests)
 
-row_of : (a : Axis) (step p : ℕ) → (a.count ≡ 1) ⊎ (a.stride ≡ a.block) → numbers_from a step p ≡ spaced (a.count * a.block) step p
+row_of : (a : Axis) (step p : ℕ) → (a.count ≡ 1) ⊎ (a.stride ≡ a.block) → numbers_from a step p ≡ spaced_places (a.count * a.block) step p
 row_of a step p (inl one) =
     let all : 1 * a.block ≡ a.block = omega arith in
-    rw one (rw all (append-nil (spaced a.block step p)))
+    rw one (rw all (append-nil (spaced_places a.block step p)))
 row_of a step p (inr same) = rw same (spaced_rows a.count a.block step p)
 
-pub joined : (a : Axis) (m step : ℕ) (f : ℕ → List ℕ) → ((q : ℕ) → f q ≡ spaced m 1 q) → follow_on a m step ≡ true
-    → (p : ℕ) → flat_map f (numbers_from a step p) ≡ spaced (a.count * a.block * m) 1 p
+pub joined : (a : Axis) (m step : ℕ) (f : ℕ → List ℕ) → ((q : ℕ) → f q ≡ spaced_places m 1 q) → follow_on a m step ≡ true
+    → (p : ℕ) → flat_map f (numbers_from a step p) ≡ spaced_places (a.count * a.block * m) 1 p
 joined a m step f inner h p = elim (follow_cases a m step h) [
   | inl one ↦
       let all : 1 * 1 * m ≡ m = omega arith in
       rw (one.0, one.1) (rw all (append-nil (f p) ∙ inner p))
   | inr row ↦
       ap (flat_map f) (row_of a step p row.1)
-      ∙ same_flat f (spaced m 1) inner (spaced (a.count * a.block) step p)
+      ∙ same_flat f (spaced_places m 1) inner (spaced_places (a.count * a.block) step p)
       ∙ rw row.0 (spaced_join (a.count * a.block) step p)
 ]
 
 -- ---- with a gap
 
-broken_behind : (f : ℕ → List ℕ) (m : ℕ) → 0 < m → ((q : ℕ) → f q ≡ spaced m 1 q) → (xs zs : List ℕ) (n p q : ℕ) → flat_map f xs ≡ spaced n 1 p
+broken_behind : (f : ℕ → List ℕ) (m : ℕ) → 0 < m → ((q : ℕ) → f q ≡ spaced_places m 1 q) → (xs zs : List ℕ) (n p q : ℕ) → flat_map f xs ≡ spaced_places n 1 p
     → 0 < n → q ≢ p + n → is_run (flat_map f (xs ++ q ∷ zs)) ≡ false
 broken_behind f zero some inner xs zs n p q front long else = absurd (omega arith)
 broken_behind f (suc m) some inner xs zs n p q front long else =
-    rw (flat_map-append f xs (q ∷ zs), front, inner q) (run_broken n p q (spaced m 1 (q + 1) ++ flat_map f zs) long else)
+    rw (flat_map-append f xs (q ∷ zs), front, inner q) (run_broken n p q (spaced_places m 1 (q + 1) ++ flat_map f zs) long else)
 
-pub unjoined : (size : ℕ) (a : Axis) (m step : ℕ) (f : ℕ → List ℕ) → 0 < m → m ≤ step → ((q : ℕ) → f q ≡ spaced m 1 q) → IsFree size a
+pub unjoined : (size : ℕ) (a : Axis) (m step : ℕ) (f : ℕ → List ℕ) → 0 < m → m ≤ step → ((q : ℕ) → f q ≡ spaced_places m 1 q) → IsFree size a
     → follow_on a m step ≡ false → (p : ℕ) → is_run (flat_map f (numbers_from a step p)) ≡ false
 unjoined size a m step f some short inner free h p = by_numbers a.count a.block free.count free.block free.apart h where
-  first : (q : ℕ) → flat_map f (q ∷ []) ≡ spaced m 1 q
+  first : (q : ℕ) → flat_map f (q ∷ []) ≡ spaced_places m 1 q
   first q = append-nil (f q) ∙ inner q
 
   by_numbers : (n b : ℕ) → 0 < n → 0 < b → (b ≤ a.stride) ⊎ (n ≤ 1) → (n == 1 && b == 1 || m == step && (n == 1 || a.stride == b)) ≡ false
-      → is_run (flat_map f (flat_map (spaced b step) (spaced n (a.stride * step) p))) ≡ false
+      → is_run (flat_map f (flat_map (spaced_places b step) (spaced_places n (a.stride * step) p))) ≡ false
   by_numbers zero b blocks cells apart h = absurd (omega arith)
   by_numbers (suc n) zero blocks cells apart h = absurd (omega arith)
   by_numbers (suc zero) (suc zero) blocks cells apart h = absurd (cc)
@@ -113,15 +113,15 @@ unjoined size a m step f some short inner free h p = by_numbers a.count a.block 
       let farther : 2 * step ≤ a.stride * step = mul-le-mul_right step other in
       omega arith)
   by_numbers (suc (suc n)) (suc (suc b)) blocks cells apart h = elim (m == step) as (λ v. (m == step) ≡ v
-      → is_run (flat_map f (flat_map (spaced (suc (suc b)) step) (spaced (suc (suc n)) (a.stride * step) p))) ≡ false) [
+      → is_run (flat_map f (flat_map (spaced_places (suc (suc b)) step) (spaced_places (suc (suc n)) (a.stride * step) p))) ≡ false) [
         | false ↦ λ part. broken_behind f m some inner (p ∷ []) _ m p (p + step) (first p) some (λ same. grind (arith, nat_tests))
         | true ↦ λ whole.
             let row : m ≡ step = grind (arith, nat_tests) in
             let other : suc (suc (suc b)) ≤ a.stride = grind (arith, nat_tests) in
             let far : suc (suc (suc b)) * step ≤ a.stride * step = mul-le-mul_right step other in
             let q = p + a.stride * step in
-            broken_behind f m some inner (spaced (suc (suc b)) step p) (spaced (suc b) step (q + step) ++ flat_map (spaced (suc (suc b)) step) (spaced n (a.stride * step) (q + a.stride * step)))
+            broken_behind f m some inner (spaced_places (suc (suc b)) step p) (spaced_places (suc b) step (q + step) ++ flat_map (spaced_places (suc (suc b)) step) (spaced_places n (a.stride * step) (q + a.stride * step)))
             (suc (suc b) * step) p q
-            (same_flat f (spaced m 1) inner (spaced (suc (suc b)) step p) ∙ ap (λ (n : ℕ). flat_map (spaced n 1) (spaced (suc (suc b)) step p)) row ∙ spaced_join (suc (suc b)) step p)
+            (same_flat f (spaced_places m 1) inner (spaced_places (suc (suc b)) step p) ∙ ap (λ (n : ℕ). flat_map (spaced_places n 1) (spaced_places (suc (suc b)) step p)) row ∙ spaced_join (suc (suc b)) step p)
             (omega arith) (λ same. omega arith)
       ] refl

@@ -7,8 +7,7 @@ use Rattle.std.proofs.lemmas.Nat.{pow_below}
 use Rattle.std.proofs.Math.Nat.{mul-le-mul_left, pow-le-pow_right}
 use Rattle.std.specs.List.{flat_map}
 use Rattle.h5_shape.specs.declared.loops.Loop.{Loop}
-use Rattle.h5_shape.specs.declared.loops.LoopNest.{LoopNest}
-use Rattle.h5_shape.specs.Loops.{spaced, loop_places, nest_places, place_reached, ahead, AreAtStart, AreWithin, IsStanding, ArePlacesBelow, GoesOn, nest_cells}
+use Rattle.h5_shape.specs.Loops.{spaced_places, loop_places, nest_places, place_reached, ahead, AreAtStart, AreWithin, IsStanding, ArePlacesBelow, GoesOn}
 
 -- ---- lists
 
@@ -26,7 +25,7 @@ flat_one {X} (x ∷ xs) = ap (λ (ys : List X). x ∷ ys) (flat_one xs)
 
 -- ---- spaced places
 
-pub spaced-append : (m n step p : ℕ) → spaced m step p ++ spaced n step (p + m * step) ≡ spaced (m + n) step p
+pub spaced-append : (m n step p : ℕ) → spaced_places m step p ++ spaced_places n step (p + m * step) ≡ spaced_places (m + n) step p
 spaced-append zero n step p =
     let at : p + zero * step ≡ p = omega arith in
     let sum : zero + n ≡ n = omega arith in
@@ -37,14 +36,14 @@ spaced-append (suc m) n step p =
     rw (at, sum) (ap (λ (xs : List ℕ). p ∷ xs) (spaced-append m n step (p + step)))
 
 -- places that go on where those before them end are one row of places
-pub spaced_rows : (n b step p : ℕ) → flat_map (spaced b step) (spaced n (b * step) p) ≡ spaced (n * b) step p
+pub spaced_rows : (n b step p : ℕ) → flat_map (spaced_places b step) (spaced_places n (b * step) p) ≡ spaced_places (n * b) step p
 spaced_rows zero b step p = let none : zero * b ≡ 0 = omega arith in rw none refl
 spaced_rows (suc n) b step p =
     let all : suc n * b ≡ b + n * b = omega arith in
     rw (all, spaced_rows n b step (p + b * step)) (spaced-append b (n * b) step p)
 
 -- runs that follow one another without a gap are one
-pub spaced_join : (n s p : ℕ) → flat_map (spaced s 1) (spaced n s p) ≡ spaced (n * s) 1 p
+pub spaced_join : (n s p : ℕ) → flat_map (spaced_places s 1) (spaced_places n s p) ≡ spaced_places (n * s) 1 p
 spaced_join n s p = let unit : s * 1 ≡ s = omega arith in rw unit at (spaced_rows n s 1 p)
 
 -- ---- loops
@@ -78,18 +77,15 @@ start-ahead (l ∷ ls) h = rw (start-zero (l ∷ ls) h, h.0) (ap (flat_map (loop
 
 -- ---- a nest of loops
 
-pub single : (nest : LoopNest) (step p : ℕ) → nest_cells nest p ≡ flat_map (nest_cells nest) (spaced 1 step p)
-single nest step p = sym (append-nil (nest_cells nest p))
-
 pub merged : (loops : List Loop) (length origin count step : ℕ) → step ≡ length → (p : ℕ)
-    → flat_map (spaced (count * step) 1) (nest_places [] p) ≡ flat_map (λ q. flat_map (spaced length 1) (nest_places [] q)) (spaced count step p)
+    → flat_map (spaced_places (count * step) 1) (nest_places [] p) ≡ flat_map (λ q. flat_map (spaced_places length 1) (nest_places [] q)) (spaced_places count step p)
 merged loops length origin count step same p =
-    rw (← same) (append-nil (spaced (count * step) 1 p) ∙ sym (spaced_join count step p)
-    ∙ same_flat (spaced step 1) (λ q. spaced step 1 q ++ []) (λ q. sym (append-nil (spaced step 1 q))) (spaced count step p))
+    rw (← same) (append-nil (spaced_places (count * step) 1 p) ∙ sym (spaced_join count step p)
+    ∙ same_flat (spaced_places step 1) (λ q. spaced_places step 1 q ++ []) (λ q. sym (append-nil (spaced_places step 1 q))) (spaced_places count step p))
 
 pub pushed : (ls : List Loop) (l : Loop) (length p : ℕ)
-    → flat_map (spaced length 1) (nest_places (ls ++ l ∷ []) p) ≡ flat_map (λ q. flat_map (spaced length 1) (nest_places ls q)) (spaced (suc l.more) l.step p)
-pushed ls l length p = ap (flat_map (spaced length 1)) (nest_places-push ls l p) ∙ flat_flat (spaced length 1) (nest_places ls) (loop_places l p)
+    → flat_map (spaced_places length 1) (nest_places (ls ++ l ∷ []) p) ≡ flat_map (λ q. flat_map (spaced_places length 1) (nest_places ls q)) (spaced_places (suc l.more) l.step p)
+pushed ls l length p = ap (flat_map (spaced_places length 1)) (nest_places-push ls l p) ∙ flat_flat (spaced_places length 1) (nest_places ls) (loop_places l p)
 
 -- ---- bounds
 
@@ -107,24 +103,24 @@ below-starts n l [] h = tt
 below-starts n l (x ∷ xs) h = (h.0, below-starts n l xs (below-right n (loop_places l x) (flat_map (loop_places l) xs) h))
 
 -- the same of runs of cells
-pub below_runs : (n o len : ℕ) → 0 < len → (xs : List ℕ) → ArePlacesBelow n (flat_map (λ p. spaced len 1 (o + p)) xs) → ArePlacesBelow n (map (λ p. o + p) xs)
+pub below_runs : (n o len : ℕ) → 0 < len → (xs : List ℕ) → ArePlacesBelow n (flat_map (λ p. spaced_places len 1 (o + p)) xs) → ArePlacesBelow n (map (λ p. o + p) xs)
 below_runs n o zero some xs h = absurd (omega arith)
 below_runs n o (suc len) some [] h = tt
 below_runs n o (suc len) some (x ∷ xs) h =
-    (h.0, below_runs n o (suc len) some xs (below-right n (spaced (suc len) 1 (o + x)) (flat_map (λ p. spaced (suc len) 1 (o + p)) xs) h))
+    (h.0, below_runs n o (suc len) some xs (below-right n (spaced_places (suc len) 1 (o + x)) (flat_map (λ p. spaced_places (suc len) 1 (o + p)) xs) h))
 
 pub below_shift : (n m o : ℕ) → n ≤ m → (xs : List ℕ) → ArePlacesBelow n (map (λ p. o + p) xs) → ArePlacesBelow m xs
 below_shift n m o more [] h = tt
 below_shift n m o more (x ∷ xs) h = (omega (arith, h.0), below_shift n m o more xs h.1)
 
-pub last_below : (n len p : ℕ) → 0 < len → ArePlacesBelow n (spaced len 1 p) → p + len ≤ n
+pub last_below : (n len p : ℕ) → 0 < len → ArePlacesBelow n (spaced_places len 1 p) → p + len ≤ n
 last_below n zero p some h = absurd (omega arith)
 last_below n (suc zero) p some h = omega (arith, h.0)
 last_below n (suc (suc len)) p some h = let rest : (p + 1) + suc len ≤ n = last_below n (suc len) (p + 1) (omega arith) h.1 in omega arith
 
 -- ---- steps
 
-spaced-step : (n step p : ℕ) → 0 < n → spaced n step p ≡ p ∷ spaced (n - 1) step (p + step)
+spaced-step : (n step p : ℕ) → 0 < n → spaced_places n step p ≡ p ∷ spaced_places (n - 1) step (p + step)
 spaced-step zero step p some = absurd (omega arith)
 spaced-step (suc n) step p some = let less : suc n - 1 ≡ n = omega arith in rw less refl
 
@@ -144,7 +140,7 @@ step_first : (l : Loop) (ls : List Loop) → 0 < l.left → l.left ≤ l.more
     → ahead (l ∷ ls) ≡ (place_reached (l ∷ ls) + l.step) ∷ ahead (stepped l ∷ ls)
 step_first l ls some low =
     ap (λ (xs : List ℕ). xs ++ flat_map (loop_places l) (ahead ls)) (spaced-step l.left l.step (place_reached (l ∷ ls) + l.step) some)
-    ∙ ap (λ (p : ℕ). (place_reached (l ∷ ls) + l.step) ∷ (spaced (l.left - 1) l.step (p + l.step) ++ flat_map (loop_places l) (ahead ls))) (sym (stands_after l ls some low))
+    ∙ ap (λ (p : ℕ). (place_reached (l ∷ ls) + l.step) ∷ (spaced_places (l.left - 1) l.step (p + l.step) ++ flat_map (loop_places l) (ahead ls))) (sym (stands_after l ls some low))
 
 -- what a step of loop k gives and leaves
 pub own_step : (loops : List Loop) (k place : ℕ) (d : Loop) → k < length loops → 0 < (get_or loops k d).left → IsStanding (drop k loops) place
@@ -170,7 +166,7 @@ step_below bound loops k place d low some stands h =
 
 rest_below : (bound : ℕ) (l : Loop) (ls : List Loop) → ArePlacesBelow bound (ahead (l ∷ ls)) → ArePlacesBelow bound (ahead ls)
 rest_below bound l ls h =
-    below-starts bound l (ahead ls) (below-right bound (spaced l.left l.step (place_reached (l ∷ ls) + l.step)) (flat_map (loop_places l) (ahead ls)) h)
+    below-starts bound l (ahead ls) (below-right bound (spaced_places l.left l.step (place_reached (l ∷ ls) + l.step)) (flat_map (loop_places l) (ahead ls)) h)
 
 -- where the loops around loop k stand
 pub record StandsAround (loops : List Loop) (k place bound : ℕ) (d : Loop) (after : List Loop) : Type 0 where

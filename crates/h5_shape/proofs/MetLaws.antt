@@ -1,15 +1,14 @@
 -- The boxes that an edit and a view both meet, from the parts of one selection.
-use Rattle.std.proofs.Common.{◌≡◌, ◌⊎◌, ℕ, zero, suc, ◌*◌, ◌<◌, ◌≤◌, inl, inr, List, [], ◌∷◌, length, get_or, map, refl, sym, ap, ap₂, ◌∙◌, subst, arith, Bool, true, false, cond, ◌&&◌, ◌||◌}
+use Rattle.std.proofs.Common.{◌≡◌, ℕ, zero, suc, ◌*◌, ◌<◌, ◌≤◌, inl, inr, List, [], ◌∷◌, length, get_or, map, refl, sym, ap, ap₂, ◌∙◌, subst, arith, Bool, true, false, cond, ◌&&◌}
 use Rattle.std.specs.Prelude.{◌==◌, nat_lt}
 use Rattle.std.proofs.lemmas.Bool.Decides.{nat_tests}
-use Rattle.std.proofs.lemmas.List.{length-map}
 use Rattle.std.specs.List.{filter, list_any, range_with_len}
+use Rattle.std.proofs.lemmas.Bool.{or_parts, or_cases, and_parts}
 use Rattle.h5_model.specs.Tree.Grid.{boxes_of, in_box, some_in_box}
 use Rattle.h5_model.specs.Tree.Places.{IsInside, cells, index_of, is_inside}
 use Rattle.h5_model.specs.Views.Selection.{Slab, Selected, Within, is_selected}
 use Rattle.h5_model.specs.Views.Shown.{met_boxes}
 use Rattle.h5_model.proofs.SelectionLaws.{from_is_selected, to_is_selected}
-use Rattle.h5_model.proofs.WithinLaws.{both}
 use Rattle.h5_shape.proofs.Members.{In, all_in, contains_in, from_map, in_contains, in_map}
 use Rattle.h5_shape.specs.declared.parts.Span.{Span}
 use Rattle.h5_shape.specs.MetFirsts.{AreRanked, first_of_box, is_lost_at, is_reduced, is_written_at, loses_box, meets_box, met_firsts, reaches_past}
@@ -34,7 +33,7 @@ module _ (sizes box : List ℕ) (touched : List ℕ → Bool) (slab : Slab) (lon
   met_held first at =
       let found = from_map (first_of_box box) first (filter both_held (boxes_of sizes box)) at in
       let there = filter_in both_held found.0 (boxes_of sizes box) found.1 in
-      let split = both (some_in_box box touched found.0) (some_in_box box (is_selected slab) found.0) there.1 in
+      let split = and_parts (some_in_box box touched found.0) (some_in_box box (is_selected slab) found.0) there.1 in
       let rank : length found.0 ≡ length box = box_long sizes box found.0 long there.0 in (
         subst (λ (f : List ℕ). IsHeldIn box f touched) found.2 (some_held box touched found.0 rank split.0),
         subst (λ (f : List ℕ). IsHeldIn box f (is_selected slab)) found.2 (some_held box (is_selected slab) found.0 rank split.1),
@@ -114,7 +113,7 @@ pub written_met : (sizes box : List ℕ) (written view : Slab) (parts : List (Li
 written_met sizes box written view parts wide rank same within some parted =
     let corners = map part_corner parts in
     all_met sizes box (is_written_at sizes written) view (rank ∙ sym wide) some (filter (meets_box view box) corners)
-    (λ index touched. (both (is_inside sizes index) (is_selected written index) touched).0)
+    (λ index touched. (and_parts (is_inside sizes index) (is_selected written index) touched).0)
     (filter_rises (meets_box view box) corners (corners_rise written box parts rank parted))
     (λ first at.
     let there = filter_in (meets_box view box) first corners at in
@@ -128,7 +127,7 @@ written_met sizes box written view parts wide rank same within some parted =
       meets_held view box first (rank ∙ sym same) some (is_first box first (is_selected written) held) there.1,
     ))
     (λ first edit seen.
-    let split = both (is_inside sizes edit.index) (is_selected written edit.index) edit.passes in
+    let split = and_parts (is_inside sizes edit.index) (is_selected written edit.index) edit.passes in
     in_filter (meets_box view box) first corners
     (held_corner written box parts rank parted first (record { index = edit.index; long = edit.long; corner = edit.corner; passes = split.1 }))
     (held_meets view box first (rank ∙ sym same) some seen))
@@ -140,7 +139,7 @@ pub lost_met : (sizes kept box : List ℕ) (view : Slab) (parts : List (List Spa
 lost_met sizes kept box view parts wide as_many rank some parted =
     let corners = map part_corner parts in
     all_met sizes box (is_lost_at sizes kept) view (rank ∙ sym wide) some (filter (loses_box sizes kept box) corners)
-    (λ index touched. (both (is_inside sizes index) _ touched).0)
+    (λ index touched. (and_parts (is_inside sizes index) _ touched).0)
     (filter_rises (loses_box sizes kept box) corners (corners_rise view box parts rank parted))
     (λ first at.
     let there = filter_in (loses_box sizes kept box) first corners at in
@@ -163,23 +162,15 @@ none_lost sizes kept box view wide as_many rank none = by_size (cells box) refl 
       let some : 0 < cells box = omega (arith, is) in
       no_member (met_firsts sizes box (is_lost_at sizes kept) view) (λ first at.
       let held = met_held sizes box (is_lost_at sizes kept) view (rank ∙ sym wide) some first at in
-      let split = both (is_inside sizes first) (reaches_past sizes kept box first) (held_loses sizes kept box first (rank ∙ sym wide) (as_many ∙ sym wide) some held.0) in
+      let split = and_parts (is_inside sizes first) (reaches_past sizes kept box first) (held_loses sizes kept box first (rank ∙ sym wide) (as_many ∙ sym wide) some held.0) in
       let never : true ≡ false = sym split.1 ∙ none_loses sizes kept box first none in
       cc)
 
 -- ---- the parts in boxes
 
-either : (p q : Bool) → (p || q) ≡ true → (p ≡ true) ⊎ (q ≡ true)
-either true q h = inl refl
-either false q h = inr h
-
-neither : (p q : Bool) → (p || q) ≡ false → (p ≡ false) × (q ≡ false)
-neither true q h = absurd (cc)
-neither false q h = (refl, h)
-
 pub zero_cells : (box : List ℕ) → list_any (λ d. d == 0) box ≡ true → cells box ≡ 0
 zero_cells [] some = absurd (cc)
-zero_cells (b ∷ bs) some = elim (either (b == 0) (list_any (λ d. d == 0) bs) some) [
+zero_cells (b ∷ bs) some = elim (or_cases (b == 0) (list_any (λ d. d == 0) bs) some) [
   | inl here ↦ let none : b ≡ 0 = grind (arith, nat_tests, here) in ap (λ n. n * cells bs) none ∙ omega arith
   | inr there ↦ ap (λ n. b * n) (zero_cells bs there) ∙ omega arith
 ]
@@ -187,7 +178,7 @@ zero_cells (b ∷ bs) some = elim (either (b == 0) (list_any (λ d. d == 0) bs) 
 pub some_cells : (box : List ℕ) → list_any (λ d. d == 0) box ≡ false → (0 < cells box) × ((d : ℕ) → d < length box → 1 ≤ get_or box d 0)
 some_cells [] none = (omega arith, λ d low. absurd (omega (arith, low)))
 some_cells (b ∷ bs) none =
-    let split = neither (b == 0) (list_any (λ d. d == 0) bs) none in
+    let split = or_parts (b == 0) (list_any (λ d. d == 0) bs) none in
     let more : 0 < b = grind (arith, nat_tests, split.0) in
     let rest = some_cells bs split.1 in
     (product b (cells bs) more rest.0, each more rest.1) where
@@ -214,9 +205,3 @@ parts_long slab box parts rank h = all_in (λ (part : List Span). length part �
     let some = h.some there.0 part there.1 in
     let inside = (h.cells there.0 part there.1 some.0 some.1).0 in
     ap (λ (p : List Span). length p) (sym there.2) ∙ long_part _ some.0 some.1 ∙ long_position slab some.0 inside ∙ sym rank)
-
--- ---- for callers
-
--- as many as the definition has
-pub length-met_firsts : (sizes box : List ℕ) (touched : List ℕ → Bool) (slab : Slab) → length (met_firsts sizes box touched slab) ≡ length (met_boxes sizes box touched slab)
-length-met_firsts sizes box touched slab = length-map (met_boxes sizes box touched slab) (first_of_box box)

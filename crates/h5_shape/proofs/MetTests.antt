@@ -1,7 +1,7 @@
 -- The tests of a box by its first index say what it holds.
-use Rattle.std.proofs.Common.{◌≡◌, ◌⊎◌, ℕ, suc, ◌+◌, ◌-◌, ◌*◌, ◌/◌, ◌%◌, ◌<◌, ◌≤◌, inl, inr, List, [], ◌∷◌, length, get_or, min, refl, sym, ap, ap₂, ◌∙◌, arith, Bool, true, false, ◌&&◌, ◌||◌}
+use Rattle.std.proofs.Common.{◌≡◌, ℕ, suc, ◌+◌, ◌-◌, ◌*◌, ◌/◌, ◌%◌, ◌<◌, ◌≤◌, inl, inr, List, [], ◌∷◌, length, get_or, min, refl, sym, ap, ap₂, ◌∙◌, arith, Bool, true, false, ◌&&◌, ◌||◌}
 use Rattle.std.specs.Prelude.{nat_lt, not}
-use Rattle.std.proofs.lemmas.Bool.{cases_lt}
+use Rattle.std.proofs.lemmas.Bool.{cases_lt, and_right, not-true, or_cases, or_parts, or_right, and_parts}
 use Rattle.std.proofs.lemmas.Bool.Decides.{nat_tests}
 use Rattle.std.proofs.lemmas.List.Folds.{Any-from_list_any, list_any_at}
 use Rattle.std.proofs.lemmas.List.FromFn.{get_or-range_with_len, length-range_with_len}
@@ -13,7 +13,6 @@ use Rattle.h5_model.specs.Tree.Places.{cells, is_inside}
 use Rattle.h5_model.specs.Views.Selection.{Slab, is_selected, is_selected_along}
 use Rattle.h5_model.proofs.PlaceLaws.{positive}
 use Rattle.h5_model.proofs.SelectionLaws.{from_selected_along, to_selected_along}
-use Rattle.h5_model.proofs.WithinLaws.{both}
 use Rattle.h5_shape.specs.InBox.{IsBelow, number_along}
 use Rattle.h5_shape.specs.MetFirsts.{is_lost_at, is_reduced, loses_box, meets_along, meets_box, reaches_past}
 use Rattle.h5_shape.proofs.GridBoxes.{IsHeldIn, factors}
@@ -111,7 +110,7 @@ meets_held (a ∷ rest) (b ∷ bs) [] rank some is meets = absurd (omega (arith,
 meets_held (a ∷ rest) (b ∷ bs) (c ∷ cs) rank some is meets =
     let sizes = factors b (cells bs) some in
     let firsts = first_parts b c bs cs sizes.0 is in
-    let split = both (meets_along a c b) (meets_box rest bs cs) meets in
+    let split = and_parts (meets_along a c b) (meets_box rest bs cs) meets in
     let below = meets_held rest bs cs (omega (arith, rank)) sizes.1 firsts.1 split.1 in
     let x = number_met a c b split.0 in
     let here : x.0 / b * b ≡ c = number_in b x.0 c sizes.0 firsts.0 x.1 x.2 in
@@ -134,19 +133,11 @@ held_meets slab box first rank some held = go slab box first held.index rank som
       let sizes = factors b (cells bs) some in
       let head : x / b * b ≡ c = cc in
       let others : corner_of bs xs ≡ cs = cc in
-      let split = both (is_selected_along a x) (is_selected rest xs) selected in
+      let split = and_parts (is_selected_along a x) (is_selected rest xs) selected in
       let at = in_number b x c sizes.0 head in
       ap₂ (λ (p q : Bool). p && q) (met_number a c b x at.0 at.1 split.0) (go rest bs cs xs (omega (arith, rank)) sizes.1 (omega (arith, long)) others split.1)
 
 -- ---- what is lost
-
-either : (p q : Bool) → (p || q) ≡ true → (p ≡ true) ⊎ (q ≡ true)
-either true q h = inl refl
-either false q h = inr h
-
-pub or_right : (p q : Bool) → q ≡ true → (p || q) ≡ true
-or_right true q h = refl
-or_right false q h = h
 
 -- the first index itself where it is inside
 pub first_inside : (sizes box first : List ℕ) → length box ≡ length sizes → 0 < cells box → IsFirst box first → is_inside sizes first ≡ true → IsHeldIn box first (is_inside sizes)
@@ -164,18 +155,10 @@ first_inside sizes box first rank some is inside =
 lost_of : (sizes kept index : List ℕ) → is_inside sizes index ≡ true → is_inside kept index ≡ false → is_lost_at sizes kept index ≡ true
 lost_of sizes kept index inside outside = ap₂ (λ (p q : Bool). p && not q) inside outside
 
-and_false : (p : Bool) → (p && false) ≡ false
-and_false true = refl
-and_false false = refl
-
-not_true : (b : Bool) → not b ≡ true → b ≡ false
-not_true true h = absurd (cc)
-not_true false h = refl
-
 pub loses_held : (sizes kept box first : List ℕ) → length box ≡ length sizes → length kept ≡ length sizes → 0 < cells box → IsFirst box first → loses_box sizes kept box first ≡ true
     → IsHeldIn box first (is_lost_at sizes kept)
 loses_held sizes kept box first rank as_many some is loses =
-    let split = both (is_inside sizes first) (reaches_past sizes kept box first) loses in
+    let split = and_parts (is_inside sizes first) (reaches_past sizes kept box first) loses in
     go sizes kept box first rank as_many some is split.0 split.1 where
       go : (sizes kept box first : List ℕ) → length box ≡ length sizes → length kept ≡ length sizes → 0 < cells box → IsFirst box first → is_inside sizes first ≡ true
           → reaches_past sizes kept box first ≡ true → IsHeldIn box first (is_lost_at sizes kept)
@@ -186,9 +169,9 @@ loses_held sizes kept box first rank as_many some is loses =
       go (d ∷ ds) (k ∷ ks) (b ∷ bs) (c ∷ cs) rank as_many some is inside past =
           let parts = factors b (cells bs) some in
           let firsts = first_parts b c bs cs parts.0 is in
-          let split = both (nat_lt c d) (is_inside ds cs) inside in
+          let split = and_parts (nat_lt c d) (is_inside ds cs) inside in
           let low : c < d = grind (arith, nat_tests, split.0) in
-          elim (either (nat_lt k (min d (c + b))) (reaches_past ds ks bs cs) past) [
+          elim (or_cases (nat_lt k (min d (c + b))) (reaches_past ds ks bs cs) past) [
             | inl here ↦
                 let more : k < min d (c + b) = grind (arith, nat_tests, here) in
                 let x = min d (c + b) - 1 in
@@ -206,22 +189,22 @@ loses_held sizes kept box first rank as_many some is loses =
                 }
             | inr there ↦
                 let rest = go ds ks bs cs (omega (arith, rank)) (omega (arith, as_many)) parts.1 firsts.1 split.1 there in
-                let halves = both (is_inside ds rest.index) (not (is_inside ks rest.index)) rest.passes in
+                let halves = and_parts (is_inside ds rest.index) (not (is_inside ks rest.index)) rest.passes in
                 record {
                   index = c ∷ rest.index;
                   long = ap suc rest.long;
                   corner = ap₂ (λ (n : ℕ) (ns : List ℕ). n ∷ ns) firsts.0 rest.corner;
                   passes = lost_of (d ∷ ds) (k ∷ ks) (c ∷ rest.index) (ap₂ (λ (p q : Bool). p && q) split.0 halves.0)
-                      (ap (λ q. nat_lt c k && q) (not_true (is_inside ks rest.index) halves.1) ∙ and_false (nat_lt c k));
+                      (ap (λ q. nat_lt c k && q) (not-true (is_inside ks rest.index) halves.1) ∙ and_right (nat_lt c k) false refl);
                 }
           ]
 
 pub held_loses : (sizes kept box first : List ℕ) → length box ≡ length sizes → length kept ≡ length sizes → 0 < cells box → IsHeldIn box first (is_lost_at sizes kept)
     → loses_box sizes kept box first ≡ true
 held_loses sizes kept box first rank as_many some held =
-    let split = both (is_inside sizes held.index) (not (is_inside kept held.index)) held.passes in
+    let split = and_parts (is_inside sizes held.index) (not (is_inside kept held.index)) held.passes in
     ap₂ (λ (p q : Bool). p && q) (inside sizes box first held.index rank some held.corner split.0)
-    (past sizes kept box first held.index rank as_many some held.corner split.0 (not_true (is_inside kept held.index) split.1)) where
+    (past sizes kept box first held.index rank as_many some held.corner split.0 (not-true (is_inside kept held.index) split.1)) where
       inside : (sizes box first index : List ℕ) → length box ≡ length sizes → 0 < cells box → corner_of box index ≡ first → is_inside sizes index ≡ true → is_inside sizes first ≡ true
       inside [] [] [] index rank some is within = refl
       inside [] [] (c ∷ cs) index rank some is within = absurd (cc)
@@ -233,7 +216,7 @@ held_loses sizes kept box first rank as_many some held =
           let parts = factors b (cells bs) some in
           let head : x / b * b ≡ c = cc in
           let others : corner_of bs xs ≡ cs = cc in
-          let split = both (nat_lt x d) (is_inside ds xs) within in
+          let split = and_parts (nat_lt x d) (is_inside ds xs) within in
           let at = in_number b x c parts.0 head in
           let low : x < d = grind (arith, nat_tests, split.0) in
           let less : c < d = omega (arith, low, at.0) in
@@ -253,7 +236,7 @@ held_loses sizes kept box first rank as_many some held =
           let parts = factors b (cells bs) some in
           let head : x / b * b ≡ c = cc in
           let others : corner_of bs xs ≡ cs = cc in
-          let split = both (nat_lt x d) (is_inside ds xs) within in
+          let split = and_parts (nat_lt x d) (is_inside ds xs) within in
           let at = in_number b x c parts.0 head in
           let low : x < d = grind (arith, nat_tests, split.0) in
           elim (cases_lt x k) [
@@ -274,11 +257,8 @@ none_loses (d ∷ ds) [] box first none = refl
 none_loses (d ∷ ds) (k ∷ ks) [] first none = refl
 none_loses (d ∷ ds) (k ∷ ks) (b ∷ bs) [] none = refl
 none_loses (d ∷ ds) (k ∷ ks) (b ∷ bs) (c ∷ cs) none =
-    let split = neither_of (nat_lt k d) (is_reduced ds ks) none in
+    let split = or_parts (nat_lt k d) (is_reduced ds ks) none in
     let least : d ≤ k = grind (arith, nat_tests, split.0) in
     let low : min d (c + b) ≤ k = omega (arith, least) in
     let here : nat_lt k (min d (c + b)) ≡ false = grind (arith, nat_tests, low) in
-    ap₂ (λ (p q : Bool). p || q) here (none_loses ds ks bs cs split.1) where
-      neither_of : (p q : Bool) → (p || q) ≡ false → (p ≡ false) × (q ≡ false)
-      neither_of true q h = absurd (cc)
-      neither_of false q h = (refl, h)
+    ap₂ (λ (p q : Bool). p || q) here (none_loses ds ks bs cs split.1)

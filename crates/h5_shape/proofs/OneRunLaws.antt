@@ -4,14 +4,15 @@ use Rattle.std.proofs.lemmas.Bool.Decides.{nat_tests}
 use Rattle.std.proofs.lemmas.List.{append-nil}
 use Rattle.std.specs.Prelude.{nat_le}
 use Rattle.std.specs.List.{list_any}
+use Rattle.std.proofs.lemmas.Bool.{and_parts}
 use Rattle.h5_model.specs.declared.Hyper.{Hyper}
 use Rattle.h5_model.specs.Views.Selection.{Slab, axes_of, has_rank, has_no_stride, is_run, overlaps, selection_of, selects_none}
 use Rattle.h5_model.proofs.RefusalLaws.{length-axes_of}
-use Rattle.h5_model.proofs.WithinLaws.{both, from_is_within}
+use Rattle.h5_model.proofs.WithinLaws.{from_is_within}
 use Rattle.h5_shape.specs.declared.runs.CellRun.{CellRun}
 use Rattle.h5_shape.specs.declared.single_run.InnerRun.{InnerRun}
 use Rattle.h5_shape.specs.declared.slab.SlabFault.TheVariants as fault
-use Rattle.h5_shape.specs.Loops.{spaced, first_place}
+use Rattle.h5_shape.specs.Loops.{spaced_places, first_place}
 use Rattle.h5_shape.specs.Runs.{cell_runs}
 use Rattle.h5_shape.specs.Slab.{is_of_one_rank}
 use Rattle.h5_shape.specs.InnerRuns.{HasNoInnerRun, IsInnerRun, IsSelecting}
@@ -32,7 +33,7 @@ module _ (sizes : List ℕ) (hyper : Hyper) where
         selection = rw (ranked, kept.strides, kept.apart) refl;
         rank = long;
         within = from_is_within sizes (axes_of hyper) (sym long) (rw kept.some kept.fits);
-        runs = ap cell_runs (selection-from sizes (axes_of hyper) (sym long) kept.fits kept.apart ∙ run.places (first_place sizes (axes_of hyper)) ∙ sym (append-nil (spaced inner.length 1 (first_place sizes (axes_of hyper)))))
+        runs = ap cell_runs (selection-from sizes (axes_of hyper) (sym long) kept.fits kept.apart ∙ run.places (first_place sizes (axes_of hyper)) ∙ sym (append-nil (spaced_places inner.length 1 (first_place sizes (axes_of hyper)))))
             ∙ rw (← run.start) (runs_spaced inner.length inner.place [] run.some tt);
       }
 
@@ -52,7 +53,7 @@ module _ (sizes : List ℕ) (hyper : Hyper) where
     -- each of the lists has a number for each size
     pub one-run_rank : has_rank (length sizes) hyper ≡ true
     one-run_rank =
-        let own : has_rank (length hyper.start) hyper ≡ true = (both (has_rank (length hyper.start) hyper) (nat_le (length hyper.start) 32) lists.0).0 in
+        let own : has_rank (length hyper.start) hyper ≡ true = (and_parts (has_rank (length hyper.start) hyper) (nat_le (length hyper.start) 32) lists.0).0 in
         let long : length hyper.start ≡ length sizes = sym (length-axes_of (length hyper.start) hyper own) ∙ one.rank in
         ap (λ (n : ℕ). has_rank n hyper) (sym long) ∙ own
 

@@ -1,6 +1,6 @@
 -- The selected cells by their positions.
 use Rattle.std.proofs.Common.{◌≡◌, ℕ, zero, suc, ◌+◌, ◌-◌, ◌*◌, ◌/◌, ◌%◌, ◌<◌, ◌≤◌, ◌⊎◌, inl, inr, List, [], ◌∷◌, length, get_or, refl, sym, ap, ◌∙◌, arith, false}
-use Rattle.std.proofs.lemmas.Bool.{cases_order}
+use Rattle.std.proofs.lemmas.Bool.{cases_order, or_parts}
 use Rattle.std.proofs.lemmas.Bool.Decides.{nat_tests}
 use Rattle.std.proofs.lemmas.Nat.{div-mul-add, mod-mul-add, div_below, mod_below, mul-add-lt, div-add-mod'}
 use Rattle.std.proofs.lemmas.List.{get_or_append_left, get_or-append_right, length-append}
@@ -8,9 +8,8 @@ use Rattle.std.specs.List.{flat_map, list_any}
 use Rattle.h5_model.specs.declared.Axis.{Axis}
 use Rattle.h5_model.specs.Tree.Places.{cells, place_of, IsInside}
 use Rattle.h5_model.specs.Views.Selection.{Slab, Selected, Within, selection_of, overlaps, selects_none}
-use Rattle.h5_model.proofs.WithinLaws.{neither}
 use Rattle.h5_model.proofs.PlaceLaws.{positive, place_below}
-use Rattle.h5_shape.specs.Loops.{spaced, selected_from, first_place}
+use Rattle.h5_shape.specs.Loops.{spaced_places, selected_from, first_place}
 use Rattle.h5_shape.specs.PartCells.{selection_shape, selected_index}
 use Rattle.h5_shape.proofs.AlongLaws.{get_or-rows, length-rows, offset_rises}
 use Rattle.h5_shape.proofs.SelectedPlaces.{selection-from}
@@ -67,7 +66,7 @@ length-selected_from [] (a ∷ rest) rank p = absurd (omega arith)
 length-selected_from (d ∷ ds) [] rank p = absurd (omega arith)
 length-selected_from (d ∷ ds) (a ∷ rest) rank p =
     let c = cells ds in
-    let starts = flat_map (spaced a.block c) (spaced a.count (a.stride * c) p) in
+    let starts = flat_map (spaced_places a.block c) (spaced_places a.count (a.stride * c) p) in
     length-pieces (selected_from ds rest) (cells (selection_shape rest)) (length-selected_from ds rest (omega arith)) starts
     ∙ ap (λ (n : ℕ). n * cells (selection_shape rest)) (length-rows a.block c (a.stride * c) a.count p)
 
@@ -82,7 +81,7 @@ get_or-selected_from (d ∷ ds) (a ∷ rest) (t ∷ ts) q rank h =
     let c = cells ds in
     let o = first_place ds rest in
     let p = q + (a.start * c + o) in
-    let starts = flat_map (spaced a.block c) (spaced a.count (a.stride * c) p) in
+    let starts = flat_map (spaced_places a.block c) (spaced_places a.count (a.stride * c) p) in
     let some : 0 < a.block = positive t a.count a.block h.0 in
     let low : t < length starts = omega (arith, length-rows a.block c (a.stride * c) a.count p, h.0) in
     let x = a.start + t / a.block * a.stride + t % a.block in
@@ -136,7 +135,7 @@ position-once [] (t ∷ ts) other apart one two same = absurd one
 position-once (a ∷ rest) [] other apart one two same = absurd one
 position-once (a ∷ rest) (t ∷ ts) [] apart one two same = absurd two
 position-once (a ∷ rest) (t ∷ ts) (u ∷ us) apart one two same =
-    let free : (overlaps a ≡ false) × (list_any overlaps rest ≡ false) = neither (overlaps a) (list_any overlaps rest) apart in
+    let free : (overlaps a ≡ false) × (list_any overlaps rest ≡ false) = or_parts (overlaps a) (list_any overlaps rest) apart in
     let number : a.start + t / a.block * a.stride + t % a.block ≡ a.start + u / a.block * a.stride + u % a.block = cc in
     let others : selected_index rest ts ≡ selected_index rest us = cc in
     let here : t ≡ u = same_number a t u free.0 one.0 two.0 number in

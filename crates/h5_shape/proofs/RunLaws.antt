@@ -6,11 +6,11 @@ use Rattle.std.specs.Option.{is_some}
 use Rattle.std.specs.Iterator.{YieldsFirst}
 use Rattle.h5_model.specs.Views.Selection.{rises_by_one, is_run}
 use Rattle.h5_shape.specs.declared.runs.CellRun.{CellRun}
-use Rattle.h5_shape.specs.Loops.{spaced}
-use Rattle.h5_shape.specs.Runs.{put, cell_runs, places_in, AreMaximal}
+use Rattle.h5_shape.specs.Loops.{spaced_places}
+use Rattle.h5_shape.specs.Runs.{runs_with, cell_runs, places_in, AreMaximal}
 
 -- the first run begins with the place that was put
-put_first : (p : ℕ) (rs : List CellRun) → (r : CellRun) × (ss : List CellRun) × (r.place ≡ p) × (put p rs ≡ r ∷ ss)
+put_first : (p : ℕ) (rs : List CellRun) → (r : CellRun) × (ss : List CellRun) × (r.place ≡ p) × (runs_with p rs ≡ r ∷ ss)
 put_first p [] = (record { place = p; length = 1 }, [], refl, refl)
 put_first p (r ∷ rs) = elim (r.place == p + 1) as (λ b. (s : CellRun) × (ss : List CellRun) × (s.place ≡ p)
     × (cond b (record { place = p; length = r.length + 1 } ∷ rs) (record { place = p; length = 1 } ∷ r ∷ rs) ≡ s ∷ ss)) [
@@ -23,24 +23,24 @@ abbrev pub BeginsElse : ℕ → List ℕ → Type 0
 BeginsElse place [] = Unit {0}
 BeginsElse place (p ∷ ps) = (p == place) ≡ false
 
-put_alone : (p : ℕ) (xs : List ℕ) → BeginsElse (p + 1) xs → put p (cell_runs xs) ≡ record { place = p; length = 1 } ∷ cell_runs xs
+put_alone : (p : ℕ) (xs : List ℕ) → BeginsElse (p + 1) xs → runs_with p (cell_runs xs) ≡ record { place = p; length = 1 } ∷ cell_runs xs
 put_alone p [] else = refl
 put_alone p (x ∷ xs) else =
     let first : (r : CellRun) × (ss : List CellRun) × (r.place ≡ x) × (cell_runs (x ∷ xs) ≡ r ∷ ss) = put_first x (cell_runs xs) in
     let apart : (first.0.place == p + 1) ≡ false = rw first.2 else in
-    ap (put p) first.3
+    ap (runs_with p) first.3
     ∙ ap (λ b. cond b (record { place = p; length = first.0.length + 1 } ∷ first.1) (record { place = p; length = 1 } ∷ first.0 ∷ first.1)) apart
     ∙ ap (λ (rs : List CellRun). record { place = p; length = 1 } ∷ rs) (sym first.3)
 
-pub runs_spaced : (n p : ℕ) (xs : List ℕ) → 0 < n → BeginsElse (p + n) xs → cell_runs (spaced n 1 p ++ xs) ≡ record { place = p; length = n } ∷ cell_runs xs
+pub runs_spaced : (n p : ℕ) (xs : List ℕ) → 0 < n → BeginsElse (p + n) xs → cell_runs (spaced_places n 1 p ++ xs) ≡ record { place = p; length = n } ∷ cell_runs xs
 runs_spaced zero p xs some else = absurd (omega arith)
 runs_spaced (suc zero) p xs some else = put_alone p xs else
 runs_spaced (suc (suc n)) p xs some else =
     let end : (p + 1) + suc n ≡ p + suc (suc n) = omega arith in
-    let rest : cell_runs (spaced (suc n) 1 (p + 1) ++ xs) ≡ record { place = p + 1; length = suc n } ∷ cell_runs xs = runs_spaced (suc n) (p + 1) xs (omega arith) (rw end else) in
+    let rest : cell_runs (spaced_places (suc n) 1 (p + 1) ++ xs) ≡ record { place = p + 1; length = suc n } ∷ cell_runs xs = runs_spaced (suc n) (p + 1) xs (omega arith) (rw end else) in
     let next : (p + 1 == p + 1) ≡ true = grind (arith, nat_tests) in
     let grown : suc n + 1 ≡ suc (suc n) = omega arith in
-    ap (put p) rest ∙ rw (next, grown) refl
+    ap (runs_with p) rest ∙ rw (next, grown) refl
 
 -- there is exactly one
 abbrev pub is_single : List CellRun → Bool
@@ -48,7 +48,7 @@ is_single [] = false
 is_single (r ∷ []) = true
 is_single (r ∷ s ∷ rs) = false
 
-rises : (p : ℕ) (ps : List ℕ) → rises_by_one (p + 1) ps ≡ is_single (put p (cell_runs ps))
+rises : (p : ℕ) (ps : List ℕ) → rises_by_one (p + 1) ps ≡ is_single (runs_with p (cell_runs ps))
 rises p [] = refl
 rises p (q ∷ qs) =
     let first : (r : CellRun) × (ss : List CellRun) × (r.place ≡ q) × (cell_runs (q ∷ qs) ≡ r ∷ ss) = put_first q (cell_runs qs) in
@@ -64,7 +64,7 @@ rises p (q ∷ qs) =
     ] refl in
     cases
     ∙ ap (λ b. is_single (cond b (record { place = p; length = first.0.length + 1 } ∷ first.1) (record { place = p; length = 1 } ∷ first.0 ∷ first.1))) (sym same)
-    ∙ ap (λ (rs : List CellRun). is_single (put p rs)) (sym first.3) where
+    ∙ ap (λ (rs : List CellRun). is_single (runs_with p rs)) (sym first.3) where
       heads : (r s : CellRun) (rs : List CellRun) → is_single (r ∷ rs) ≡ is_single (s ∷ rs)
       heads r s [] = refl
       heads r s (t ∷ rs) = refl
@@ -83,7 +83,7 @@ single-steps rs ss ts (Some x) None first second some false h = absurd (cc)
 single-steps rs ss ts (Some x) (Some y) first second some true h = absurd (cc)
 single-steps rs ss ts (Some x) (Some y) first second some false h = sym (ap is_single (first ∙ ap (λ (l : List CellRun). x ∷ l) second))
 
-put_places : (p : ℕ) (rs : List CellRun) → places_in (put p rs) ≡ p ∷ places_in rs
+put_places : (p : ℕ) (rs : List CellRun) → places_in (runs_with p rs) ≡ p ∷ places_in rs
 put_places p [] = refl
 put_places p (r ∷ rs) = elim (r.place == p + 1) as (λ b. (r.place == p + 1) ≡ b
     → places_in (cond b (record { place = p; length = r.length + 1 } ∷ rs) (record { place = p; length = 1 } ∷ r ∷ rs)) ≡ p ∷ places_in (r ∷ rs)) [
@@ -102,7 +102,7 @@ longer : (p : ℕ) (r : CellRun) (rs : List CellRun) → r.place ≡ p + 1 → A
 longer p r [] next h = omega arith
 longer p r (s ∷ rs) next h = (omega arith, λ e. h.1 (omega arith), h.2)
 
-put_maximal : (p : ℕ) (rs : List CellRun) → AreMaximal rs → AreMaximal (put p rs)
+put_maximal : (p : ℕ) (rs : List CellRun) → AreMaximal rs → AreMaximal (runs_with p rs)
 put_maximal p [] h = omega arith
 put_maximal p (r ∷ rs) h = elim (r.place == p + 1) as (λ b. (r.place == p + 1) ≡ b
     → AreMaximal (cond b (record { place = p; length = r.length + 1 } ∷ rs) (record { place = p; length = 1 } ∷ r ∷ rs))) [

@@ -1,7 +1,7 @@
 -- A selection's places are what its axes list.
 use Rattle.std.proofs.Common.{◌≡◌, ℕ, zero, suc, ◌+◌, ◌-◌, ◌*◌, ◌/◌, ◌%◌, ◌<◌, ◌≤◌, ◌⊎◌, inl, inr, List, [], ◌∷◌, ◌++◌, length, map, refl, sym, ap, ◌∙◌, arith, Bool, true, false, cond, ◌&&◌}
 use Rattle.std.proofs.lemmas.Bool.Decides.{nat_tests}
-use Rattle.std.proofs.lemmas.Bool.{cases_lt}
+use Rattle.std.proofs.lemmas.Bool.{cases_lt, and_parts, or_parts}
 use Rattle.std.proofs.lemmas.Nat.{div-mul-add, mod-mul-add}
 use Rattle.std.proofs.lemmas.List.Elements.{filter-append}
 use Rattle.std.proofs.lemmas.Grind.{flat_map-append}
@@ -13,8 +13,7 @@ use Rattle.h5_model.specs.Tree.Places.{cells, index_of}
 use Rattle.h5_model.specs.declared.Axis.{Axis}
 use Rattle.h5_model.specs.Views.Selection.{Slab, in_block, is_selected_along, is_selected, selection_of, fits_along, fits_all, overlaps}
 use Rattle.h5_model.proofs.SelectionLaws.{from_some_below, to_some_below}
-use Rattle.h5_model.proofs.WithinLaws.{both, neither}
-use Rattle.h5_shape.specs.Loops.{spaced, selected_from, first_place}
+use Rattle.h5_shape.specs.Loops.{spaced_places, selected_from, first_place}
 use Rattle.h5_shape.proofs.LoopLaws.{same_flat}
 
 -- ---- ranges
@@ -32,7 +31,7 @@ filter_none p a (suc n) none =
     let here : p a ≡ false = none a (omega arith) (omega arith) in
     rw here (filter_none p (a + 1) n (λ x low high. none x (omega arith) (omega arith)))
 
-filter_all : (p : ℕ → Bool) (a n : ℕ) → ((x : ℕ) → a ≤ x → x < a + n → p x ≡ true) → filter p (range_with_len a n) ≡ spaced n 1 a
+filter_all : (p : ℕ → Bool) (a n : ℕ) → ((x : ℕ) → a ≤ x → x < a + n → p x ≡ true) → filter p (range_with_len a n) ≡ spaced_places n 1 a
 filter_all p a zero all = refl
 filter_all p a (suc n) all =
     let here : p a ≡ true = all a (omega arith) (omega arith) in
@@ -76,7 +75,7 @@ not_selected a x none = elim (is_selected_along a x) as (λ b. is_selected_along
 blocks : (a : Axis) (d : ℕ) → (a.block ≤ a.stride) ⊎ (a.count ≤ 1) → ((i : ℕ) → i < a.count → a.start + i * a.stride + a.block ≤ d)
     → (k i x n : ℕ) → i + k ≡ a.count → x + n ≡ d → ((j : ℕ) → j < i → a.start + j * a.stride + a.block ≤ x)
     → ((j : ℕ) → i ≤ j → j < a.count → x ≤ a.start + j * a.stride)
-    → filter (is_selected_along a) (range_with_len x n) ≡ flat_map (spaced a.block 1) (spaced k a.stride (a.start + i * a.stride))
+    → filter (is_selected_along a) (range_with_len x n) ≡ flat_map (spaced_places a.block 1) (spaced_places k a.stride (a.start + i * a.stride))
 blocks a d apart ends zero i x n all size before after =
     filter_none (is_selected_along a) x n (λ y low high. not_selected a y (λ j below _.
     let past : a.start + j * a.stride + a.block ≤ x = before j (omega arith) in omega arith))
@@ -92,11 +91,11 @@ blocks a d apart ends (suc k) i x n all size before after =
       | inl early ↦ let past : a.start + j * a.stride + a.block ≤ x = before j early in omega arith
       | inr late ↦ let steps : i * a.stride ≤ j * a.stride = mul-le-mul_right a.stride late in absurd (omega arith)
     ])) in
-    let two : filter (is_selected_along a) (range_with_len s a.block) ≡ spaced a.block 1 s = filter_all (is_selected_along a) s a.block (λ y low high.
+    let two : filter (is_selected_along a) (range_with_len s a.block) ≡ spaced_places a.block 1 s = filter_all (is_selected_along a) s a.block (λ y low high.
     let here : in_block a y i ≡ true = grind (arith, nat_tests) in
     to_some_below a.count (in_block a y) i (omega arith) here) in
     let next : a.start + suc i * a.stride ≡ s + a.stride = omega arith in
-    let three : filter (is_selected_along a) (range_with_len (s + a.block) n') ≡ flat_map (spaced a.block 1) (spaced k a.stride (a.start + suc i * a.stride)) =
+    let three : filter (is_selected_along a) (range_with_len (s + a.block) n') ≡ flat_map (spaced_places a.block 1) (spaced_places k a.stride (a.start + suc i * a.stride)) =
     blocks a d apart ends k (suc i) (s + a.block) n' (omega arith) (omega arith)
     (λ j below. let steps : j * a.stride ≤ i * a.stride = mul-le-mul_right a.stride (omega arith) in omega arith)
     (λ j from below. let steps : suc i * a.stride ≤ j * a.stride = mul-le-mul_right a.stride from in
@@ -110,10 +109,10 @@ blocks a d apart ends (suc k) i x n all size before after =
     ∙ ap (λ (xs : List ℕ). xs ++ filter (is_selected_along a) (range_with_len s a.block ++ range_with_len (s + a.block) n')) one
     ∙ filter-append (is_selected_along a) (range_with_len s a.block) (range_with_len (s + a.block) n')
     ∙ ap (λ (xs : List ℕ). xs ++ filter (is_selected_along a) (range_with_len (s + a.block) n')) two
-    ∙ ap (λ (xs : List ℕ). spaced a.block 1 s ++ xs) (three ∙ ap (λ (from : ℕ). flat_map (spaced a.block 1) (spaced k a.stride from)) next)
+    ∙ ap (λ (xs : List ℕ). spaced_places a.block 1 s ++ xs) (three ∙ ap (λ (from : ℕ). flat_map (spaced_places a.block 1) (spaced_places k a.stride from)) next)
 
 along : (a : Axis) (d : ℕ) → overlaps a ≡ false → fits_along d a ≡ true
-    → filter (is_selected_along a) (range_with_len 0 d) ≡ flat_map (spaced a.block 1) (spaced a.count a.stride a.start)
+    → filter (is_selected_along a) (range_with_len 0 d) ≡ flat_map (spaced_places a.block 1) (spaced_places a.count a.stride a.start)
 along a d apart fits =
     let wide : (a.block ≤ a.stride) ⊎ (a.count ≤ 1) = grind (arith, nat_tests) in
     let room : a.start + (a.count - 1) * a.stride + a.block ≤ d = grind (arith, nat_tests) in
@@ -121,7 +120,7 @@ along a d apart fits =
     blocks a d wide
     (λ i low. let steps : i * a.stride ≤ (a.count - 1) * a.stride = mul-le-mul_right a.stride (omega arith) in omega arith)
     a.count 0 0 d (omega arith) (omega arith) (λ j low. absurd (omega arith)) (λ j low high. omega arith)
-    ∙ ap (λ (from : ℕ). flat_map (spaced a.block 1) (spaced a.count a.stride from)) zero_add
+    ∙ ap (λ (from : ℕ). flat_map (spaced_places a.block 1) (spaced_places a.count a.stride from)) zero_add
 
 -- ---- rows of a grid
 
@@ -165,17 +164,17 @@ pub map_flat : {X Y Z : Type 0} (h : Y → Z) (f : X → List Y) (xs : List X) �
 map_flat h f [] = refl
 map_flat {X} {Y} {Z} h f (x ∷ xs) = map-append h (f x) (flat_map f xs) ∙ ap (λ (zs : List Z). map h (f x) ++ zs) (map_flat h f xs)
 
-pub spaced_shift : (o n s p : ℕ) → spaced n s (o + p) ≡ map (λ x. o + x) (spaced n s p)
+pub spaced_shift : (o n s p : ℕ) → spaced_places n s (o + p) ≡ map (λ x. o + x) (spaced_places n s p)
 spaced_shift o zero s p = refl
 spaced_shift o (suc n) s p =
     let next : (o + p) + s ≡ o + (p + s) = omega arith in
     rw next (ap (λ (xs : List ℕ). (o + p) ∷ xs) (spaced_shift o n s (p + s)))
 
-spaced_scale : (c o n s p : ℕ) → map (λ x. x * c + o) (spaced n s p) ≡ spaced n (s * c) (p * c + o)
+spaced_scale : (c o n s p : ℕ) → map (λ x. x * c + o) (spaced_places n s p) ≡ spaced_places n (s * c) (p * c + o)
 spaced_scale c o zero s p = refl
 spaced_scale c o (suc n) s p =
     let next : (p + s) * c + o ≡ (p * c + o) + s * c = omega arith in
-    let rest : map (λ x. x * c + o) (spaced n s (p + s)) ≡ spaced n (s * c) ((p * c + o) + s * c) = spaced_scale c o n s (p + s) ∙ ap (spaced n (s * c)) next in
+    let rest : map (λ x. x * c + o) (spaced_places n s (p + s)) ≡ spaced_places n (s * c) ((p * c + o) + s * c) = spaced_scale c o n s (p + s) ∙ ap (spaced_places n (s * c)) next in
     rw rest refl
 
 pub selected_from_shift : (o : ℕ) (sizes : List ℕ) (slab : Slab) (p : ℕ) → selected_from sizes slab (o + p) ≡ map (λ x. o + x) (selected_from sizes slab p)
@@ -183,14 +182,14 @@ selected_from_shift o [] slab p = refl
 selected_from_shift o (d ∷ ds) [] p = refl
 selected_from_shift o (d ∷ ds) (a ∷ rest) p =
     let c = cells ds in
-    let outer = spaced a.count (a.stride * c) p in
-    ap (λ (xs : List ℕ). flat_map (selected_from ds rest) (flat_map (spaced a.block c) xs)) (spaced_shift o a.count (a.stride * c) p)
-    ∙ ap (flat_map (selected_from ds rest)) (flat_map-map (spaced a.block c) (λ x. o + x) outer
-    ∙ same_flat (λ x. spaced a.block c (o + x)) (λ x. map (λ y. o + y) (spaced a.block c x)) (λ x. spaced_shift o a.block c x) outer
-    ∙ sym (map_flat (λ y. o + y) (spaced a.block c) outer))
-    ∙ flat_map-map (selected_from ds rest) (λ x. o + x) (flat_map (spaced a.block c) outer)
-    ∙ same_flat (λ x. selected_from ds rest (o + x)) (λ x. map (λ y. o + y) (selected_from ds rest x)) (λ x. selected_from_shift o ds rest x) (flat_map (spaced a.block c) outer)
-    ∙ sym (map_flat (λ y. o + y) (selected_from ds rest) (flat_map (spaced a.block c) outer))
+    let outer = spaced_places a.count (a.stride * c) p in
+    ap (λ (xs : List ℕ). flat_map (selected_from ds rest) (flat_map (spaced_places a.block c) xs)) (spaced_shift o a.count (a.stride * c) p)
+    ∙ ap (flat_map (selected_from ds rest)) (flat_map-map (spaced_places a.block c) (λ x. o + x) outer
+    ∙ same_flat (λ x. spaced_places a.block c (o + x)) (λ x. map (λ y. o + y) (spaced_places a.block c x)) (λ x. spaced_shift o a.block c x) outer
+    ∙ sym (map_flat (λ y. o + y) (spaced_places a.block c) outer))
+    ∙ flat_map-map (selected_from ds rest) (λ x. o + x) (flat_map (spaced_places a.block c) outer)
+    ∙ same_flat (λ x. selected_from ds rest (o + x)) (λ x. map (λ y. o + y) (selected_from ds rest x)) (λ x. selected_from_shift o ds rest x) (flat_map (spaced_places a.block c) outer)
+    ∙ sym (map_flat (λ y. o + y) (selected_from ds rest) (flat_map (spaced_places a.block c) outer))
 
 -- ---- the selection
 
@@ -202,18 +201,18 @@ chosen_cells (d ∷ ds) [] same fits apart = absurd (omega arith)
 chosen_cells (d ∷ ds) (a ∷ rest) same fits apart =
     let c = cells ds in
     let o = first_place ds rest in
-    let split : (fits_along d a ≡ true) × (fits_all ds rest ≡ true) = both (fits_along d a) (fits_all ds rest) fits in
-    let free : (overlaps a ≡ false) × (list_any overlaps rest ≡ false) = neither (overlaps a) (list_any overlaps rest) apart in
+    let split : (fits_along d a ≡ true) × (fits_all ds rest ≡ true) = and_parts (fits_along d a) (fits_all ds rest) fits in
+    let free : (overlaps a ≡ false) × (list_any overlaps rest ≡ false) = or_parts (overlaps a) (list_any overlaps rest) apart in
     let g = λ (r : ℕ). is_selected rest (index_of ds r) in
     let below : filter g (range_with_len 0 c) ≡ selected_from ds rest o = chosen_cells ds rest (omega arith) split.1 free.1 in
-    let axis : filter (is_selected_along a) (range_with_len 0 d) ≡ flat_map (spaced a.block 1) (spaced a.count a.stride a.start) = along a d free.0 split.0 in
-    let blocks_of = flat_map (spaced a.block 1) (spaced a.count a.stride a.start) in
+    let axis : filter (is_selected_along a) (range_with_len 0 d) ≡ flat_map (spaced_places a.block 1) (spaced_places a.count a.stride a.start) = along a d free.0 split.0 in
+    let blocks_of = flat_map (spaced_places a.block 1) (spaced_places a.count a.stride a.start) in
     let unit : 1 * c ≡ c = omega arith in
-    let scaled : map (λ x. x * c + o) blocks_of ≡ flat_map (spaced a.block c) (spaced a.count (a.stride * c) (a.start * c + o)) =
-    map_flat (λ x. x * c + o) (spaced a.block 1) (spaced a.count a.stride a.start)
-    ∙ same_flat (λ x. map (λ y. y * c + o) (spaced a.block 1 x)) (λ x. spaced a.block c (x * c + o)) (λ x. spaced_scale c o a.block 1 x ∙ ap (λ (s : ℕ). spaced a.block s (x * c + o)) unit) (spaced a.count a.stride a.start)
-    ∙ sym (flat_map-map (spaced a.block c) (λ x. x * c + o) (spaced a.count a.stride a.start))
-    ∙ ap (flat_map (spaced a.block c)) (spaced_scale c o a.count a.stride a.start) in
+    let scaled : map (λ x. x * c + o) blocks_of ≡ flat_map (spaced_places a.block c) (spaced_places a.count (a.stride * c) (a.start * c + o)) =
+    map_flat (λ x. x * c + o) (spaced_places a.block 1) (spaced_places a.count a.stride a.start)
+    ∙ same_flat (λ x. map (λ y. y * c + o) (spaced_places a.block 1 x)) (λ x. spaced_places a.block c (x * c + o)) (λ x. spaced_scale c o a.block 1 x ∙ ap (λ (s : ℕ). spaced_places a.block s (x * c + o)) unit) (spaced_places a.count a.stride a.start)
+    ∙ sym (flat_map-map (spaced_places a.block c) (λ x. x * c + o) (spaced_places a.count a.stride a.start))
+    ∙ ap (flat_map (spaced_places a.block c)) (spaced_scale c o a.count a.stride a.start) in
     grid (is_selected_along a) g d c
     ∙ ap (flat_map (λ x. map (λ y. x * c + y) (filter g (range_with_len 0 c)))) axis
     ∙ same_flat (λ x. map (λ y. x * c + y) (filter g (range_with_len 0 c))) (λ x. selected_from ds rest (x * c + o))

@@ -3,11 +3,11 @@ use Rattle.std.proofs.Common.{◌≡◌, ℕ, zero, suc, ◌^◌, ◌<◌, ◌�
 use Rattle.std.proofs.lemmas.Bool.Decides.{nat_tests}
 use Rattle.std.specs.Prelude.{◌==◌}
 use Rattle.std.specs.List.{AllZip, flat_map, list_any}
+use Rattle.std.proofs.lemmas.Bool.{and_parts, or_parts}
 use Rattle.h5_model.specs.declared.Axis.{Axis}
 use Rattle.h5_model.specs.Views.Selection.{Slab, Within, fits_along, fits_all, has_no_cell, overlaps, selects_none}
-use Rattle.h5_model.proofs.WithinLaws.{both, neither}
 use Rattle.h5_shape.specs.declared.parts.Span.{Span}
-use Rattle.h5_shape.specs.Loops.{spaced}
+use Rattle.h5_shape.specs.Loops.{spaced_places}
 use Rattle.h5_shape.specs.Parts.{numbers_along, spans_from, spans_along, parts_of}
 use Rattle.h5_shape.specs.PartsLeft.{AreBoxed}
 use Rattle.h5_shape.proofs.SlabRuns.{within_fits}
@@ -20,9 +20,9 @@ boxed_all [] [] rank sizes some apart top = tt
 boxed_all [] (b ∷ bs) rank sizes some apart top = absurd (omega arith)
 boxed_all (a ∷ rest) [] rank sizes some apart top = absurd (omega arith)
 boxed_all (a ∷ rest) (b ∷ bs) rank sizes some apart top =
-    let cells : (has_no_cell a ≡ false) × (selects_none rest ≡ false) = neither (has_no_cell a) (selects_none rest) some in
-    let free : (overlaps a ≡ false) × (list_any overlaps rest ≡ false) = neither (overlaps a) (list_any overlaps rest) apart in
-    let fits : (fits_along (2 ^ 64) a ≡ true) × (fits_all (replicate (length rest) (2 ^ 64)) rest ≡ true) = both (fits_along (2 ^ 64) a) (fits_all (replicate (length rest) (2 ^ 64)) rest) top in (
+    let cells : (has_no_cell a ≡ false) × (selects_none rest ≡ false) = or_parts (has_no_cell a) (selects_none rest) some in
+    let free : (overlaps a ≡ false) × (list_any overlaps rest ≡ false) = or_parts (overlaps a) (list_any overlaps rest) apart in
+    let fits : (fits_along (2 ^ 64) a ≡ true) × (fits_all (replicate (length rest) (2 ^ 64)) rest ≡ true) = and_parts (fits_along (2 ^ 64) a) (fits_all (replicate (length rest) (2 ^ 64)) rest) top in (
       record { sized = sizes 0 (omega arith); some = cells.0; apart = free.0; top = fits.0 },
       boxed_all rest bs (omega arith) (λ d low. sizes (suc d) (omega arith)) cells.1 free.1 fits.1,
     )
@@ -34,7 +34,7 @@ boxed_slab slab boxes rank sizes some apart within =
 
 -- ---- a selection of no cell
 
-no_blocks : (n : ℕ) (xs : List ℕ) → n ≡ 0 → flat_map (spaced n 1) xs ≡ []
+no_blocks : (n : ℕ) (xs : List ℕ) → n ≡ 0 → flat_map (spaced_places n 1) xs ≡ []
 no_blocks zero [] none = refl
 no_blocks zero (x ∷ xs) none = no_blocks zero xs refl
 no_blocks (suc n) xs none = absurd (omega arith)
@@ -42,7 +42,7 @@ no_blocks (suc n) xs none = absurd (omega arith)
 no_numbers : (a : Axis) → has_no_cell a ≡ true → numbers_along a ≡ []
 no_numbers a none = elim (a.count == 0) as (λ b. (a.count == 0) ≡ b → numbers_along a ≡ []) [
   | true ↦ λ e. let count : a.count ≡ 0 = grind (arith, nat_tests) in rw count refl
-  | false ↦ λ e. let block : a.block ≡ 0 = grind (arith, nat_tests) in no_blocks a.block (spaced a.count a.stride a.start) block
+  | false ↦ λ e. let block : a.block ≡ 0 = grind (arith, nat_tests) in no_blocks a.block (spaced_places a.count a.stride a.start) block
 ] refl
 
 none_under : (ss : List Span) (parts : List (List Span)) → parts ≡ [] → flat_map (λ s. map (λ part. s ∷ part) parts) ss ≡ []

@@ -6,7 +6,7 @@ use Rattle.h5_model.specs.Views.Selection.{Slab, Within, is_selected, selection_
 use Rattle.h5_model.proofs.SelectionLaws.{from_is_selected}
 use Rattle.h5_model.proofs.WithinLaws.{no_cell, to_is_within}
 use Rattle.h5_shape.specs.declared.loops.LoopNest.{LoopNest}
-use Rattle.h5_shape.specs.Loops.{spaced, nest_places, AreAtStart, ArePlacesBelow, nest_cells, selected_from, first_place}
+use Rattle.h5_shape.specs.Loops.{spaced_places, nest_places, AreAtStart, ArePlacesBelow, nest_cells, selected_from, first_place}
 use Rattle.h5_shape.specs.Left.{cells_at, left_of}
 use Rattle.h5_shape.proofs.LoopLaws.{same_flat, start-ahead}
 use Rattle.h5_shape.proofs.SelectedPlaces.{filter_none, map_flat, spaced_shift, selected_from_shift, selection-from}
@@ -25,8 +25,8 @@ left_some nest sizes slab fresh origin cells same fits apart =
     let o = nest.origin in
     let none : o + 0 ≡ o = omega arith in
     ap (cells_at nest) (start-ahead (take nest.depth nest.loops) fresh)
-    ∙ same_flat (λ q. spaced nest.length 1 (o + q)) (λ q. map (λ x. o + x) (spaced nest.length 1 q)) (λ q. spaced_shift o nest.length 1 q) places
-    ∙ sym (map_flat (λ x. o + x) (spaced nest.length 1) places)
+    ∙ same_flat (λ q. spaced_places nest.length 1 (o + q)) (λ q. map (λ x. o + x) (spaced_places nest.length 1 q)) (λ q. spaced_shift o nest.length 1 q) places
+    ∙ sym (map_flat (λ x. o + x) (spaced_places nest.length 1) places)
     ∙ ap (map (λ x. o + x)) (cells 0)
     ∙ sym (selected_from_shift o sizes slab 0)
     ∙ ap (selected_from sizes slab) (none ∙ origin)

@@ -5,7 +5,7 @@ use Rattle.h5_model.specs.Tree.Places.{cells}
 use Rattle.h5_model.specs.declared.Axis.{Axis}
 use Rattle.h5_model.specs.Views.Selection.{Slab, fits_along, fits_all, has_no_cell, has_no_stride, is_run, overlaps, selects_none}
 use Rattle.h5_shape.specs.declared.single_run.InnerRun.{InnerRun}
-use Rattle.h5_shape.specs.Loops.{first_place, selected_from, spaced}
+use Rattle.h5_shape.specs.Loops.{first_place, selected_from, spaced_places}
 
 -- an axis has a stride, selects a number, none twice, and all of them below the size
 abbrev pub selects_along : ℕ → Axis → Bool
@@ -27,7 +27,7 @@ follow_on a run step = a.count == 1 && a.block == 1 || run == step && (a.count =
 pub record IsInnerRun (sizes : List ℕ) (slab : Slab) (run : InnerRun) : Type 0 where
   pub selecting : IsSelecting sizes slab
   pub start : run.place ≡ first_place sizes slab
-  pub places : (place : ℕ) → selected_from sizes slab place ≡ spaced run.length 1 place
+  pub places : (place : ℕ) → selected_from sizes slab place ≡ spaced_places run.length 1 place
   pub some : 0 < run.length
   pub room : run.place + run.length ≤ run.cells
   pub cells : run.cells ≡ cells sizes

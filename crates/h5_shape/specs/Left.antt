@@ -1,12 +1,12 @@
 -- What the runs of a selection have left (HDF5 dataspace reference, H5Sselect_hyperslab).
 use Rattle.std.specs.Prelude.{ℕ, ◌+◌, ◌^◌, ◌<◌, ◌≤◌, ⊤, Bool, true, false, if◌then◌else◌, List, [], ◌∷◌, take}
 use Rattle.std.specs.List.{flat_map}
-use Rattle.h5_shape.specs.Loops.{spaced, nest_ahead, ArePlacesBelow, IsStanding}
+use Rattle.h5_shape.specs.Loops.{spaced_places, nest_ahead, ArePlacesBelow, IsStanding}
 use Rattle.h5_shape.specs.declared.loops.LoopNest.{LoopNest}
 
 -- the cells at these places of a nest
 abbrev pub cells_at : LoopNest → List ℕ → List ℕ
-cells_at nest places = flat_map (λ place. spaced nest.length 1 (nest.origin + place)) places
+cells_at nest places = flat_map (λ place. spaced_places nest.length 1 (nest.origin + place)) places
 
 -- the cells from this place on, or none
 abbrev pub left_of : LoopNest → ℕ → Bool → List ℕ

@@ -8,13 +8,13 @@ use Rattle.h5_shape.specs.declared.loops.Loop.{Loop}
 use Rattle.h5_shape.specs.declared.loops.LoopNest.{LoopNest}
 
 -- so many places, a step apart
-abbrev pub spaced : ℕ → ℕ → ℕ → List ℕ
-spaced zero step place = []
-spaced (suc n) step place = place ∷ spaced n step (place + step)
+abbrev pub spaced_places : ℕ → ℕ → ℕ → List ℕ
+spaced_places zero step place = []
+spaced_places (suc n) step place = place ∷ spaced_places n step (place + step)
 
 -- the places of a loop that starts here
 abbrev pub loop_places : Loop → ℕ → List ℕ
-loop_places l place = place ∷ spaced l.more l.step (place + l.step)
+loop_places l place = place ∷ spaced_places l.more l.step (place + l.step)
 
 -- the places of all loops that start here
 abbrev pub nest_places : List Loop → ℕ → List ℕ
@@ -29,7 +29,7 @@ place_reached (l ∷ ls) = (l.more - l.left) * l.step + place_reached ls
 -- the places that follow this one
 abbrev pub ahead : List Loop → List ℕ
 ahead [] = []
-ahead (l ∷ ls) = spaced l.left l.step (place_reached (l ∷ ls) + l.step) ++ flat_map (loop_places l) (ahead ls)
+ahead (l ∷ ls) = spaced_places l.left l.step (place_reached (l ∷ ls) + l.step) ++ flat_map (loop_places l) (ahead ls)
 
 -- the same of a nest
 abbrev pub nest_ahead : LoopNest → List ℕ
@@ -61,12 +61,12 @@ ArePlacesBelow bound (p ∷ ps) = (p < bound) × ArePlacesBelow bound ps
 
 -- the cells of a nest that starts here
 abbrev pub nest_cells : LoopNest → ℕ → List ℕ
-nest_cells nest place = flat_map (spaced nest.length 1) (nest_places (take nest.depth nest.loops) place)
+nest_cells nest place = flat_map (spaced_places nest.length 1) (nest_places (take nest.depth nest.loops) place)
 
 -- all cells stand so many times, a step apart
 abbrev pub IsRepeated : LoopNest → ℕ → ℕ → LoopNest → Type 0
 IsRepeated before count step after =
-    (place : ℕ) → nest_cells after place ≡ flat_map (nest_cells before) (spaced count step place)
+    (place : ℕ) → nest_cells after place ≡ flat_map (nest_cells before) (spaced_places count step place)
 
 -- the place of the first selected cell
 abbrev pub first_place : List ℕ → Slab → ℕ
@@ -79,4 +79,4 @@ abbrev pub selected_from : List ℕ → Slab → ℕ → List ℕ
 selected_from [] slab place = place ∷ []
 selected_from (d ∷ ds) [] place = place ∷ []
 selected_from (d ∷ ds) (a ∷ rest) place =
-    flat_map (selected_from ds rest) (flat_map (spaced a.block (cells ds)) (spaced a.count (a.stride * cells ds) place))
+    flat_map (selected_from ds rest) (flat_map (spaced_places a.block (cells ds)) (spaced_places a.count (a.stride * cells ds) place))

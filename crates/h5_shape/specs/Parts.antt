@@ -5,11 +5,11 @@ use Rattle.std.specs.List.{flat_map}
 use Rattle.h5_model.specs.declared.hyperslab.Axis.{Axis}
 use Rattle.h5_model.specs.Views.Selection.{Slab}
 use Rattle.h5_shape.specs.declared.parts.Span.{Span}
-use Rattle.h5_shape.specs.Loops.{spaced}
+use Rattle.h5_shape.specs.Loops.{spaced_places}
 
 -- the numbers that an axis selects, block after block
 abbrev pub numbers_along : Axis → List ℕ
-numbers_along a = flat_map (spaced a.block 1) (spaced a.count a.stride a.start)
+numbers_along a = flat_map (spaced_places a.block 1) (spaced_places a.count a.stride a.start)
 
 -- the number at a position before spans: in the first of them where that is of its box, else in a span of its own
 abbrev pub span_number : ℕ → ℕ → ℕ → List Span → List Span

@@ -2,18 +2,18 @@
 use Rattle.std.specs.Prelude.{◌≡◌, ℕ, Bool, true, false, ⊤, List, []}
 use Rattle.h5_model.specs.Views.Selection.{Slab}
 use Rattle.h5_shape.specs.declared.parts.Span.{Span}
-use Rattle.h5_shape.specs.declared.parts.Stage.{Stage}
-use Rattle.h5_shape.specs.declared.parts.Stage.TheVariants.{Before, At, Behind}
+use Rattle.h5_shape.specs.declared.parts.Progress.{Progress}
+use Rattle.h5_shape.specs.declared.parts.Progress.TheVariants.{Before, At, Behind}
 use Rattle.h5_shape.specs.PartsLeft.{parts_after, parts_from, AreOnAxes}
 
 -- the parts that are left: from this one on, behind it, or none
-abbrev pub left_parts : Slab → List ℕ → List Span → Stage → List (List Span)
+abbrev pub left_parts : Slab → List ℕ → List Span → Progress → List (List Span)
 left_parts slab boxes part Before = parts_from slab boxes part
 left_parts slab boxes part At = parts_after slab boxes part
 left_parts slab boxes part Behind = []
 
 -- a part stands there, unless it is behind the last
-abbrev pub IsAtPart : Slab → List ℕ → List Span → Stage → Type 0
+abbrev pub IsAtPart : Slab → List ℕ → List Span → Progress → Type 0
 IsAtPart slab boxes part Before = AreOnAxes slab boxes part
 IsAtPart slab boxes part At = AreOnAxes slab boxes part
 IsAtPart slab boxes part Behind = ⊤

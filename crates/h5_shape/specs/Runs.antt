@@ -4,16 +4,16 @@ use Rattle.std.specs.List.{flat_map, range_with_len}
 use Rattle.h5_shape.specs.declared.runs.CellRun.{CellRun}
 
 -- a place before runs: one with the first run, where that is the next place
-abbrev pub put : ℕ → List CellRun → List CellRun
-put place [] = record { place = place; length = 1 } ∷ []
-put place (r ∷ rs) =
+abbrev pub runs_with : ℕ → List CellRun → List CellRun
+runs_with place [] = record { place = place; length = 1 } ∷ []
+runs_with place (r ∷ rs) =
     if r.place == place + 1 then record { place = place; length = r.length + 1 } ∷ rs
     else record { place = place; length = 1 } ∷ r ∷ rs
 
 -- the maximal runs of consecutive places
 abbrev pub cell_runs : List ℕ → List CellRun
 cell_runs [] = []
-cell_runs (p ∷ ps) = put p (cell_runs ps)
+cell_runs (p ∷ ps) = runs_with p (cell_runs ps)
 
 -- the places of runs
 abbrev pub places_in : List CellRun → List ℕ

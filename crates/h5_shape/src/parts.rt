@@ -28,7 +28,7 @@ const NO_SPAN: Span = Span {
 
 /// How far the parts have been lent.
 #[derive(Clone, Copy)]
-enum Stage {
+enum Progress {
     /// The first is still to be lent.
     Before,
     /// The part that stands here was.
@@ -44,7 +44,7 @@ pub struct ChunkParts<'a> {
     axes: &'a [Axis],
     chunk: &'a [u64],
     spans: [Span; 32],
-    stage: Stage,
+    progress: Progress,
 }
 
 impl<'a> Model for ChunkParts<'a> {
@@ -55,10 +55,10 @@ impl<'a> Model for ChunkParts<'a> {
 
     ghost Value = { List (List Span) };
 
-    ghost view = { λ p. left_parts p.axes.now p.chunk.now (take (length p.axes.now) p.spans) p.stage };
+    ghost view = { λ p. left_parts p.axes.now p.chunk.now (take (length p.axes.now) p.spans) p.progress };
 
     ghost invariant = { λ p. (length p.axes.now ≤ 32)
-        × IsAtPart p.axes.now p.chunk.now (take (length p.axes.now) p.spans) p.stage };
+        × IsAtPart p.axes.now p.chunk.now (take (length p.axes.now) p.spans) p.progress };
 }
 
 impl<'a> ChunkParts<'a> {
@@ -75,7 +75,7 @@ impl<'a> ChunkParts<'a> {
             axes,
             chunk,
             spans: [NO_SPAN; 32],
-            stage: Stage::Behind,
+            progress: Progress::Behind,
         }
     }
 
@@ -88,7 +88,7 @@ impl<'a> ChunkParts<'a> {
         self.axes = axes;
         self.chunk = chunk;
         start(axes, chunk, &mut self.spans[..axes.len()], 0);
-        self.stage = Stage::Before;
+        self.progress = Progress::Before;
     }
 
     /// Lends the next of the parts that are left: for each dimension the selected numbers in its box.
@@ -97,27 +97,27 @@ impl<'a> ChunkParts<'a> {
         ensures lent { MatchOption result (self.old ≡ []) (λ part. self.old ≡ part.now ∷ drop 1 self.old) }
     {
         let rank = self.axes.len();
-        let stage = self.stage;
-        if !step(self.axes, self.chunk, &mut self.spans[..rank], stage) {
-            self.stage = Stage::Behind;
+        let progress = self.progress;
+        if !step(self.axes, self.chunk, &mut self.spans[..rank], progress) {
+            self.progress = Progress::Behind;
             return None;
         }
-        self.stage = Stage::At;
+        self.progress = Progress::At;
         Some(&self.spans[..rank])
     }
 }
 
 /// Puts the next part in its place. Where there is none, says so.
-fn step(axes: &[Axis], chunk: &[u64], spans: &mut [Span], stage: Stage) -> bool
-    requires { IsAtPart axes.now chunk.now spans.old stage }
-    ensures next { GivesPart axes.now chunk.now (left_parts axes.now chunk.now spans.old stage) result
+fn step(axes: &[Axis], chunk: &[u64], spans: &mut [Span], progress: Progress) -> bool
+    requires { IsAtPart axes.now chunk.now spans.old progress }
+    ensures next { GivesPart axes.now chunk.now (left_parts axes.now chunk.now spans.old progress) result
         spans.new }
     ensures on { IsTrue result → AreOnAxes axes.now chunk.now spans.new }
 {
-    match stage {
-        Stage::Before => true,
-        Stage::At => go_on(axes, chunk, spans, 0),
-        Stage::Behind => false,
+    match progress {
+        Progress::Before => true,
+        Progress::At => go_on(axes, chunk, spans, 0),
+        Progress::Behind => false,
     }
 }
 

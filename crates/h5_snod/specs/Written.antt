@@ -1,10 +1,10 @@
 -- Symbol nodes as they are written (File Format Specification 3.0, sections III.B and III.C).
 use Rattle.std.specs.Prelude.{ℕ, ◌^◌, ◌<◌, List, ◌∷◌, ◌++◌, length}
 use Rattle.std.specs.List.{flat_map}
-use Rattle.h5_bytes.specs.Bytes.{number_at, undefined}
+use Rattle.h5_bytes.specs.Bytes.{number_at, undefined_address}
 use Rattle.h5_model.specs.Format.Symbols.{Entry, symbol_signature}
 use Rattle.h5_bytes.specs.Numbers.{short, middle, word, zeros}
-use Rattle.h5_model.specs.Format.Plain.{padded}
+use Rattle.h5_model.specs.Format.Plain.{with_zeros}
 use Rattle.h5_snod.specs.declared.write.NewSymbol.{NewSymbol}
 use Rattle.h5_snod.specs.declared.write.NewTarget.{NewTarget}
 use Rattle.h5_snod.specs.declared.write.NewTarget.TheVariants.{Dataset, Group, Text}
@@ -13,7 +13,7 @@ use Rattle.h5_snod.specs.declared.write.NewTarget.TheVariants.{Dataset, Group, T
 abbrev pub header_to : NewTarget → ℕ
 header_to (Dataset header) = header
 header_to (Group header tree heap) = header
-header_to (Text offset) = undefined
+header_to (Text offset) = undefined_address
 
 -- the cache type: nothing, a group's tree and heap, or a soft link's text
 abbrev pub cache_to : NewTarget → ℕ
@@ -50,4 +50,4 @@ head_bytes count = symbol_signature ++ (1 ∷ 0 ∷ short count)
 
 -- the same, the entries, and zeros, so many bytes in all
 abbrev pub symbol_node_bytes : List NewSymbol → ℕ → List ℕ
-symbol_node_bytes symbols n = padded (head_bytes (length symbols) ++ flat_map new_bytes symbols) n
+symbol_node_bytes symbols n = with_zeros (head_bytes (length symbols) ++ flat_map new_bytes symbols) n

@@ -220,12 +220,3 @@ spends_take old new len bytes room calls =
       bytes_left = omega (arith, room);
       blocks_left = omega (arith, calls);
     }
-
--- a block that is given back spends one call
-pub spends_give : (old new : Space) → new.bytes ≡ old.bytes → new.room_bytes ≡ old.room_bytes
-    → new.room_blocks + 1 ≡ old.room_blocks → Spends old new 0 1
-spends_give old new bytes room calls = record {
-  grown = let long : length new.bytes ≡ length old.bytes = ap length bytes in omega (arith, long);
-  bytes_left = omega (arith, room);
-  blocks_left = omega (arith, calls);
-}

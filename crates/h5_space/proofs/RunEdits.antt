@@ -4,8 +4,8 @@ use Rattle.std.specs.List.{insert}
 use Rattle.std.proofs.lemmas.List.{append_assoc, append-nil, append_cancel_left, set_split, drop_all, take-append-drop, take-take}
 use Rattle.h5_space.specs.Addresses.{run_entries, run_at, front, back, BeginsAt, AreRuns, IsGapAt}
 use Rattle.h5_space.specs.declared.addresses.Run.{Run}
-use Rattle.h5_space.proofs.AddressLaws.{Above, Below, Ascends, ascends_put, ascends_set, ascends_cut, sorted_from_ascends}
-use Rattle.h5_space.proofs.RunLaws.{Filled, ascends, around, front_back}
+use Rattle.h5_space.proofs.AddressLaws.{Below, Ascends, ascends_put, ascends_set, ascends_cut, sorted_from_ascends}
+use Rattle.h5_space.proofs.RunLaws.{Filled, ascends, around, front_back, run_at_is}
 
 module _ {V : Type 0} where
   pub entries_edit : (runs : List (Run V)) (r i j : ℕ) (y : Run V) (mid : List (ℕ × V)) → r < length runs → y.entries.items ≡ take i (run_at runs r) ++ (mid ++ drop j (run_at runs r))
@@ -51,14 +51,6 @@ module _ {V : Type 0} where
   begins_still first [] i e begins some = absurd begins
   begins_still first (x ∷ xs) zero e begins some = absurd (some refl)
   begins_still first (x ∷ xs) (suc i) e begins some = begins
-
-  module _ (runs : List (Run V)) (r i : ℕ) (e : ℕ × V) (y : Run V) (low : r < length runs) (items : y.entries.items ≡ insert (run_at runs r) i e) where
-    pub entries_put : run_entries (set runs r y) ≡ front runs r i ++ e ∷ back runs r i
-    entries_put = entries_edit runs r i i y (e ∷ []) low items
-
-    pub are_put : AreRuns runs → IsGapAt runs e.0 r i → BeginsAt y.first y.entries.items → AreRuns (set runs r y)
-    are_put s gap begins = are_runs (set runs r y) (front runs r i ++ e ∷ back runs r i) (filled_set runs r y s.filled begins) entries_put
-        (ascends_put (front runs r i) (back runs r i) e (subst (λ (es : List (ℕ × V)). Ascends es) (sym (front_back runs r i)) (ascends runs s)) gap.low gap.high)
 
   -- the same entries
   module _ (runs : List (Run V)) (r : ℕ) (y : Run V) (low : r < length runs) (items : y.entries.items ≡ run_at runs r) where
@@ -140,14 +132,19 @@ module _ {V : Type 0} where
   back_same runs new r i s j same before = append_cancel_left (front runs r i) (back new s j) (back runs r i)
       (ap (λ (es : List (ℕ × V)). es ++ back new s j) (sym before) ∙ front_back new s j ∙ same ∙ sym (front_back runs r i))
 
-  pub gap_same : (runs new : List (Run V)) (address r i s j : ℕ) → run_entries new ≡ run_entries runs → front new s j ≡ front runs r i → IsGapAt runs address r i → s < length new → j ≤ length (run_at new s)
-      → IsGapAt new address s j
-  gap_same runs new address r i s j same before gap there inside = record {
-    there = omega (arith, there);
-    inside = inside;
-    low = subst (λ (es : List (ℕ × V)). Below address es) (sym before) gap.low;
-    high = subst (λ (es : List (ℕ × V)). Above address es) (sym (back_same runs new r i s j same before)) gap.high;
-  }
+  -- an entry more at the place of another one
+  module _ (runs new : List (Run V)) (r i s j : ℕ) (e : ℕ × V) (x y : Run V) (same : run_entries new ≡ run_entries runs) (before : front new s j ≡ front runs r i) (there : s < length new)
+      (is : x ≡ get_or new s x) (items : y.entries.items ≡ insert x.entries.items j e) where
+    items_there : y.entries.items ≡ insert (run_at new s) j e
+    items_there = items ∙ ap (λ (es : List (ℕ × V)). insert es j e) (sym (run_at_is new s x there is))
+
+    pub entries_put : run_entries (set new s y) ≡ front runs r i ++ e ∷ back runs r i
+    entries_put = entries_edit new s j j y (e ∷ []) there items_there
+        ∙ ap (λ (es : List (ℕ × V)). es ++ e ∷ back new s j) before ∙ ap (λ (es : List (ℕ × V)). front runs r i ++ e ∷ es) (back_same runs new r i s j same before)
+
+    pub are_put : AreRuns new → IsGapAt runs e.0 r i → BeginsAt y.first (insert x.entries.items j e) → AreRuns (set new s y)
+    are_put are gap begins = are_runs (set new s y) (front runs r i ++ e ∷ back runs r i) (filled_set new s y are.filled (subst (λ (es : List (ℕ × V)). BeginsAt y.first es) (sym items) begins)) entries_put
+        (ascends_put (front runs r i) (back runs r i) e (subst (λ (es : List (ℕ × V)). Ascends es) (sym (front_back runs r i ∙ sym same)) (ascends new are)) gap.low gap.high)
 
   -- ---- a run in two halves
 

@@ -66,11 +66,6 @@ module _ {V : Type 0} where
   pub entry_read : (runs : List (Run V)) (r i : ℕ) (x : Run V) (e : ℕ × V) → r < length runs → x ≡ get_or runs r x → e ≡ get_or (get_or runs r x).entries.items i e → e ≡ get_or (run_at runs r) i e
   entry_read runs r i x e low is read = read ∙ ap (λ (es : List (ℕ × V)). get_or es i e) (sym (run_at_read runs r x (get_or runs r x).entries.items low is refl))
 
-  pub run_there : (runs : List (Run V)) (r i : ℕ) → i < length (run_at runs r) → r < length runs
-  run_there [] r i inside = absurd (omega (arith, inside))
-  run_there (y ∷ ys) zero i inside = omega arith
-  run_there (y ∷ ys) (suc r) i inside = omega (arith, run_there ys r i inside)
-
   pub run_filled : (runs : List (Run V)) (r : ℕ) (x : Run V) → Filled runs → r < length runs → x ≡ get_or runs r x → BeginsAt x.first x.entries.items
   run_filled [] r x filled low is = absurd (omega (arith, low))
   run_filled (y ∷ ys) zero x filled low is = subst (λ (z : Run V). BeginsAt z.first z.entries.items) (sym is) filled.0

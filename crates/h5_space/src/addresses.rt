@@ -1,8 +1,8 @@
 //! Values at addresses, in the order of the addresses.
-ghost use Rattle.std.specs.Prelude.{◌≡◌, ℕ, ◌+◌, ◌-◌, ◌^◌, ◌<◌, ◌≤◌, [], ◌∷◌, ◌++◌, IfErr, IfNone, IfOk, IfSome, IsFalse, IsSome, IsTrue, None, OnErr, OnOk, Some, drop, is_some, length, slice_index_or};
+ghost use Rattle.std.specs.Prelude.{◌≡◌, ℕ, ◌+◌, ◌-◌, ◌^◌, ◌<◌, ◌≤◌, [], ◌∷◌, ◌++◌, IfErr, IfNone, IfOk, IfSome, IsFalse, IsOk, IsSome, IsTrue, None, OnErr, OnOk, Some, drop, is_some, length, slice_index_or};
 ghost use Rattle.std.specs.BTreeMap.{IsEmpty, IsOrdered, Updates, get, values};
 ghost use Rattle.std.specs.Iterator.{YieldsFirst, item_count};
-ghost use Rattle.std.specs.List.{AllByRecursion};
+ghost use Rattle.std.specs.List.{AllByRecursion, insert};
 ghost use Rattle.std.specs.List.Sorted.{IsStrictlySortedBy};
 ghost use Rattle.std.specs.Map.{keys_of};
 ghost use Rattle.std.specs.Ordering.{nat_cmp};
@@ -87,6 +87,7 @@ impl<V: Copy> AddressMap<V> {
     pub fn insert(&mut self, address: u64, value: V) -> Result<(), AllocError>
         ensures updates { OnOk result (Updates nat_cmp self.old self.new address (Some value)) }
         ensures err { OnErr result (self.new ≡ self.old) }
+        ensures there { IsSome (get nat_cmp self.old address) → IsOk result }
     {
         match search(&self.runs, address) {
             Ok((run, index)) => {
@@ -278,7 +279,12 @@ fn put<V: Copy>(
         return begin(runs, entry);
     }
     let (run, index) = roomy_place(runs, run, index)?;
-    put_in(runs, run, index, entry)
+    let taker = &mut runs[run];
+    shift_in(&mut taker.entries, index, entry)?;
+    if index == 0 {
+        taker.first = entry.0;
+    }
+    Ok(())
 }
 
 /// Whether this place is behind all entries, and the run there, if any, is full.
@@ -355,7 +361,7 @@ fn split<V: Copy>(runs: &mut Vec<Run<V>>, run: usize) -> Result<(), AllocError>
 {
     // The new run comes first, so that nothing is taken away where memory is refused.
     let rest = second_half(*runs.allocator(), &runs[run].entries)?;
-    runs.insert(run + 1, rest)?;
+    shift_in(runs, run + 1, rest)?;
     runs[run].entries.truncate(HALF);
     Ok(())
 }
@@ -372,29 +378,6 @@ fn second_half<V: Copy>(alloc: Global, entries: &[(u64, V)]) -> Result<Run<V>, A
         first: entries[HALF].0,
         entries: rest,
     })
-}
-
-/// Puts an entry into a run that is there. Where memory is refused, the entries stay.
-fn put_in<V: Copy>(
-    runs: &mut Vec<Run<V>>,
-    run: usize,
-    index: usize,
-    entry: (u64, V),
-) -> Result<(), AllocError>
-    requires runs { AreRuns runs.old.items }
-    requires there { run < length runs.old.items }
-    requires gap { IsGapAt runs.old.items entry.0 run index }
-    ensures put { OnOk result (run_entries runs.new.items
-        ≡ front runs.old.items run index ++ entry ∷ back runs.old.items run index) }
-    ensures runs { AreRuns runs.new.items }
-    ensures err { OnErr result (run_entries runs.new.items ≡ run_entries runs.old.items) }
-{
-    let taker = &mut runs[run];
-    taker.entries.insert(index, entry)?;
-    if index == 0 {
-        taker.first = entry.0;
-    }
-    Ok(())
 }
 
 /// Takes an entry out, and a run whose last one it was.
@@ -415,4 +398,17 @@ fn take_entry<V: Copy>(runs: &mut Vec<Run<V>>, run: usize, index: usize) -> V
         giver.first = giver.entries[0].0;
     }
     value
+}
+
+/// Puts an item before the one at this index. Where memory is refused, the items stay.
+///
+/// `Vec::insert` says the same, and is compiled to a loop over the items behind: a rotation moves them at once.
+fn shift_in<T: Drop>(items: &mut Vec<T>, index: usize, item: T) -> Result<(), AllocError>
+    requires { index ≤ length items.old.items }
+    ensures put { OnOk result (items.new.items ≡ insert items.old.items index item) }
+    ensures err { OnErr result (items.new.items ≡ items.old.items) }
+{
+    items.push(item)?;
+    items[index..].rotate_right(1);
+    Ok(())
 }

@@ -2,7 +2,7 @@
 //! II.A).
 
 ghost use Rattle.std.specs.Prelude.{◌≡◌, ◌+◌, ◌≤◌, ◌++◌, ◌<◌, ◌⊎◌, length, MatchBool, MatchOption, OnOk, Some};
-ghost use Rattle.h5_bytes.specs.Bytes.{byte_at, number_at, undefined};
+ghost use Rattle.h5_bytes.specs.Bytes.{byte_at, number_at, undefined_address};
 ghost use Rattle.h5_model.specs.Format.Superblock.{AreKValues, IsSuperblock, base_place as base_in, chunk_field as field_bytes, chunk_k as chunk_of, driver_place as driver_in, end_field as end_in, end_of_file as end_told, has_chunk_k, internal_k as internal_of, k_values as values_of, leaf_k as leaf_of, root_header as root_in, superblock_length as length_in};
 ghost use Rattle.h5_model.specs.Format.Plain.{chunk_k_bytes, plain_superblock_length, superblock_bytes, version_of};
 ghost use Rattle.h5_model.specs.Faults.Breaches.{FieldBreach, SuperblockBreach};
@@ -120,7 +120,7 @@ fn address_fault(bytes: &[u8]) -> Option<OpenFault>
     requires { length_in bytes.now ≤ length bytes.now }
     ensures { MatchOption result
         ((number_at bytes.now (base_in bytes.now) 8 ≡ 0)
-        × (number_at bytes.now (driver_in bytes.now) 8 ≡ undefined))
+        × (number_at bytes.now (driver_in bytes.now) 8 ≡ undefined_address))
         (λ fault. FieldBreach bytes.now fault.cause fault.address) }
 {
     let behind = chunk_field(has_chunk_field(bytes));

@@ -1,9 +1,9 @@
 //! Texts of answers that the program does not reach yet, as the grammar's table and worked sessions have them.
 
-use h5_model::{EditFault, Fixed, ViewFault};
+use h5_model::{EditFault, Fixed, Store, ViewFault};
 use h5_text::{
-    ArrayText, Layout, PathText, push_accepted, push_array_line, push_dump_line, push_opened,
-    push_rows, push_view_fault,
+    ArrayText, PathText, push_accepted, push_array_line, push_dump_line, push_opened, push_rows,
+    push_view_fault,
 };
 use std::alloc::AllocError;
 use std::test::Fail;
@@ -32,7 +32,7 @@ fn push_in_chunks(out: &mut Vec<u8>, fixed: Fixed) -> Result<(), AllocError> {
         fixed,
         sizes: &[5, 4, 3],
         maxima: &[None, Some(4), Some(9)],
-        layout: Layout::Chunked(&[2, 3, 1]),
+        store: Store::Chunked(&[2, 3, 1]),
         fill: -7,
     };
     push_array_line(out, PathText::Plain(b"/d"), &array)?;
@@ -45,7 +45,7 @@ fn push_compact(out: &mut Vec<u8>, fixed: Fixed) -> Result<(), AllocError> {
         fixed,
         sizes: &[],
         maxima: &[],
-        layout: Layout::Compact,
+        store: Store::Compact,
         fill: 0,
     };
     push_dump_line(out, PathText::Plain(b"/s"), &array)

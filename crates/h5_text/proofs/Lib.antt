@@ -3,6 +3,7 @@ pub mod Joining
 pub mod RowLaws
 pub mod RowTexts
 pub mod LineTexts
+pub mod PlainTexts
 pub mod Printing
 pub mod StoredParts
 pub mod PrintedRows

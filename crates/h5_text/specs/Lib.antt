@@ -1,5 +1,5 @@
 pub mod Appends
-pub mod Layouts
 pub mod Rows
 pub mod Listing
 pub mod Printed
+pub mod Stores

@@ -6,7 +6,7 @@ ghost use Rattle.h5_text.specs.Appends.{Appends};
 ghost use Rattle.h5_text.specs.Listing.{attribute_line_head, dump_line, path_text, told_dataset};
 
 use crate::listing::{ArrayText, PathText, push_content};
-use crate::texts::{push_escaped, push_sizes, push_text, push_type, push_value};
+use crate::texts::{push_escaped, push_sizes, push_store, push_text, push_type, push_value};
 use h5_model::Fixed;
 use std::alloc::AllocError;
 
@@ -15,7 +15,7 @@ fn push_detail(out: &mut Vec<u8>, array: &ArrayText<'_, '_>) -> Result<(), Alloc
     ensures { Appends result out.old.items out.new.items (dataset_text (told_dataset array.now)) }
 {
     push_text(out, b" ")?;
-    array.layout.push_to(out)?;
+    push_store(out, &array.store)?;
     push_text(out, b" fill ")?;
     push_value(out, array.fill)
 }

@@ -14,6 +14,6 @@ pub use crate::rows::{Rows, push_rows};
 pub use crate::shown::write_shown;
 pub use crate::streams::{PrintFault, flush, write_full, write_text};
 pub use crate::texts::{
-    Layout, push_accepted, push_escaped, push_opened, push_refused, push_sizes, push_spaced_value,
+    push_accepted, push_escaped, push_opened, push_refused, push_sizes, push_spaced_value,
     push_stored_values, push_text, push_type, push_values, push_view_fault,
 };

@@ -1,13 +1,13 @@
 //! The lines that `ls` writes of an object. As with other texts, a buffer still begins with what it held where memory
 //! is refused.
 ghost use Rattle.std.specs.Prelude.{◌++◌, codes};
-ghost use Rattle.h5_model.specs.Scripts.Text.{content_text, escaped, line_of};
+ghost use Rattle.h5_model.specs.Scripts.Text.{content_text, escaped_text, line_of};
 ghost use Rattle.h5_model.specs.Tree.Objects.{Array};
 ghost use Rattle.h5_text.specs.Appends.{Appends};
 ghost use Rattle.h5_text.specs.Listing.{path_text, told_dataset};
 
-use crate::texts::{Layout, push_escaped, push_extent, push_text, push_type};
-use h5_model::Fixed;
+use crate::texts::{push_escaped, push_extent, push_text, push_type};
+use h5_model::{Fixed, Store};
 use std::alloc::AllocError;
 
 /// The path with which a line begins.
@@ -40,12 +40,12 @@ impl PathText<'_> {
 
 /// What lines tell of a dataset: its type, its sizes, as many maxima (`None` is unlimited), how its cells are stored,
 /// and its fill.
-#[derive(Clone, Copy)]
+#[derive(Drop)]
 pub struct ArrayText<'a, 'l> {
     pub fixed: Fixed,
     pub sizes: &'a [u64],
     pub maxima: &'a [Option<u64>],
-    pub layout: Layout<'l>,
+    pub store: Store<&'l [u64]>,
     pub fill: i128,
 }
 
@@ -70,7 +70,7 @@ pub fn push_group_line(out: &mut Vec<u8>, path: PathText<'_>) -> Result<(), Allo
 /// them.
 pub fn push_soft_line(out: &mut Vec<u8>, path: PathText<'_>, text: &[u8]) -> Result<(), AllocError>
     ensures { Appends result out.old.items out.new.items
-        (line_of (path_text path.entry) (codes "soft " ++ escaped text.now)) }
+        (line_of (path_text path.entry) (codes "soft " ++ escaped_text text.now)) }
 {
     path.push_to(out)?;
     push_text(out, b" soft ")?;

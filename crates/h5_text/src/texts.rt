@@ -2,14 +2,15 @@
 //! what it held, and may have a part of the text behind it.
 ghost use Rattle.std.specs.Prelude.{◌≡◌, ◌<◌, ◌++◌, codes};
 ghost use Rattle.std.specs.Fmt.{decimal, signed_decimal};
-ghost use Rattle.h5_model.specs.Scripts.Text.{escaped as escaped_text, escaped_byte, hex_digit as digit_of, is_plain as plain, size_text, sizes_text, type_text, values_text};
+ghost use Rattle.h5_model.specs.Scripts.Text.{escaped_text, escaped_byte, hex_digit as digit_of, is_plain as plain, size_text, sizes_text, type_text, values_text};
 ghost use Rattle.h5_model.specs.Scripts.Answers.{stored_values};
 ghost use Rattle.h5_model.specs.Edits.EditFaults.{refused_text};
 ghost use Rattle.h5_model.specs.Views.ViewFaults.{view_fault_text};
-ghost use Rattle.std.specs.List.{join_by, zip};
+ghost use Rattle.std.specs.List.{join_by, list_all, zip};
 ghost use Rattle.h5_text.specs.Appends.{Appends};
+ghost use Rattle.h5_text.specs.Stores.{store_text};
 
-use h5_model::{EditFault, Fixed, ViewFault};
+use h5_model::{EditFault, Fixed, Store, ViewFault};
 use h5_types::decode;
 use itoa::Buffer;
 use std::alloc::AllocError;
@@ -83,10 +84,21 @@ fn push_byte(out: &mut Vec<u8>, byte: u8) -> Result<(), AllocError>
 pub fn push_escaped(out: &mut Vec<u8>, bytes: &[u8]) -> Result<(), AllocError>
     ensures { Appends result out.old.items out.new.items (escaped_text bytes.now) }
 {
+    // Most names are plain, and are appended at once.
+    if are_plain(bytes) {
+        return push_text(out, bytes);
+    }
     for byte in bytes {
         push_byte(out, *byte)?;
     }
     Ok(())
+}
+
+/// Whether each of the bytes is printed as it stands.
+fn are_plain(bytes: &[u8]) -> bool
+    ensures { result ≡ list_all plain bytes.now }
+{
+    bytes.iter().all(|byte| is_plain(*byte))
 }
 
 /// Appends the name of a type, such as `u8`.
@@ -241,28 +253,16 @@ pub fn push_stored_values(out: &mut Vec<u8>, fixed: &Fixed, bytes: &[u8]) -> Res
     Ok(())
 }
 
-/// How the cells of a dataset are stored. Chunks come with their sizes, in cells.
-#[derive(Clone, Copy, PartialEq, Eq, Debug)]
-pub enum Layout<'a> {
-    Compact,
-    Contiguous,
-    Chunked(&'a [u64]),
-}
-
-impl Layout<'_> {
-    ghost use Rattle.h5_text.specs.Layouts.{layout_text};
-
-    /// Appends the layout's text.
-    pub(crate) fn push_to(self, out: &mut Vec<u8>) -> Result<(), AllocError>
-        ensures { Appends result out.old.items out.new.items (layout_text self.entry) }
-    {
-        match self {
-            Layout::Compact => push_text(out, b"compact"),
-            Layout::Contiguous => push_text(out, b"contiguous"),
-            Layout::Chunked(sizes) => {
-                push_text(out, b"chunked ")?;
-                push_sizes(out, sizes)
-            }
+/// Appends how the cells of a dataset are stored, in chunks with their sizes.
+pub(crate) fn push_store(out: &mut Vec<u8>, store: &Store<&[u64]>) -> Result<(), AllocError>
+    ensures { Appends result out.old.items out.new.items (store_text store.now) }
+{
+    match store {
+        Store::Compact => push_text(out, b"compact"),
+        Store::Contiguous => push_text(out, b"contiguous"),
+        Store::Chunked(sizes) => {
+            push_text(out, b"chunked ")?;
+            push_sizes(out, sizes)
         }
     }
 }

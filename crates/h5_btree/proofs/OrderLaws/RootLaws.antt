@@ -1,7 +1,7 @@
 -- The root of a tree that was read stands over the whole tree.
 use Rattle.std.proofs.Common.{◌≡◌, ℕ, zero, suc, List, [], ◌∷◌, length, sym, ap, ◌∙◌, subst}
 use Rattle.std.specs.List.{AllByRecursion}
-use Rattle.h5_bytes.specs.Bytes.{undefined}
+use Rattle.h5_bytes.specs.Bytes.{undefined_address}
 use Rattle.h5_bytes.specs.Blocks.{Inside}
 use Rattle.h5_bytes.proofs.BlockLaws.{all_left, all_right}
 use Rattle.h5_model.specs.Format.Rows.{IsRow, AreRows, next_row, nodes, leaves}
@@ -27,10 +27,10 @@ module _ (image : List ℕ) (form : TreeForm) where
 
   row_has : (level : ℕ) (row : List ℕ) → AreRows (reading_in image form) level row → AllByRecursion (IsNodeAt image form) (nodes (reading_in image form) level row)
       → AllByRecursion (IsBottom image form) (leaves (reading_in image form) level row) → AllByRecursion (HasSubtree image form (suc level)) row
-  row_has zero row are has below = row_over 0 undefined row are has below
+  row_has zero row are has below = row_over 0 undefined_address row are has below
   row_has (suc level) row are has below =
       let next : List ℕ = next_row (reading_in image form) row in
-      row_over (suc level) undefined row are.0 (all_left (IsNodeAt image form) row (nodes (reading_in image form) level next) has)
+      row_over (suc level) undefined_address row are.0 (all_left (IsNodeAt image form) row (nodes (reading_in image form) level next) has)
       (row_has level next are.1 (all_right (IsNodeAt image form) row (nodes (reading_in image form) level next) has) below)
 
 module _ (image : List ℕ) (form : TreeForm) (root : ℕ) (owned bottom : List ℕ) (t : IsTree image form root owned bottom) (inside : Inside (length image) (nodes_blocks image form owned bottom)) where

@@ -8,7 +8,7 @@ use Rattle.h5_bytes.specs.declared.Block.{Block}
 use Rattle.h5_bytes.proofs.BlockLaws.{all_append}
 use Rattle.h5_model.specs.Format.Rows.{Node, blank, next_row, leaves, nodes}
 use Rattle.h5_model.specs.Format.Nodes.{IsNode, node_block, node_bytes, node_length, entries_in, child_in, reading_of, tree_blocks}
-use Rattle.h5_model.specs.Format.Reached.{Role, named, Reached}
+use Rattle.h5_model.specs.Format.Reached.{Role, naming_of, Reached}
 use Rattle.h5_model.proofs.RowLaws.{Agree, only_here, AreRows-same, nodes-same, leaves-same}
 use Rattle.h5_btree.proofs.NodeLaws.{child_is}
 use Rattle.h5_btree.specs.Walk.Forms.{TreeForm, kind_of, node_role, leaf_length, leaf_block, IsFormed, child_role}
@@ -49,7 +49,7 @@ each_leaf image form P f (suc level) row read = each_leaf image form P f level (
 
 module _ (image : List ℕ) (form : TreeForm) (root heap depth : ℕ) where
   abbrev IsReachedAs : Role → ℕ → Type 0
-  IsReachedAs role at = (field : ℕ) × Reached image (named field role at depth)
+  IsReachedAs role at = (field : ℕ) × Reached image (naming_of field role at depth)
 
   children_reached : (level at : ℕ) → level ≤ 15 → IsStanding image form level at → IsReachedAs (node_role form root heap level) at
       → AllByRecursion (IsReachedAs (child_role form root heap level)) (reading_in image form at).children

@@ -7,7 +7,7 @@ use Rattle.h5_model.specs.Format.Superblock.{IsSuperblock, leaf_k}
 use Rattle.h5_model.specs.Format.Symbols.{IsEntry, entry_of, symbol_bytes, symbols_at, symbols_in}
 use Rattle.h5_model.specs.Format.Nodes.{node_at, node_bytes, node_length, key_in, entries_in}
 use Rattle.h5_model.specs.Format.Chunks.{IsChunkKey}
-use Rattle.h5_model.specs.Format.Reached.{Named, named, FromNode, Names, entry_in, length_of, shape_kind}
+use Rattle.h5_model.specs.Format.Reached.{Named, naming_of, FromNode, Names, entry_in, length_of, shape_kind}
 use Rattle.h5_model.specs.Faults.TreeFaults.{NodeBreach, SiblingBreach}
 use Rattle.h5_model.specs.Faults.Breaches.{is_header, ReachedBreach}
 use Rattle.h5_model.specs.declared.open_fault.Cause.TheVariants.{NodeForm, Sibling, ChunkKey}
@@ -17,7 +17,7 @@ use Rattle.h5_btree.specs.Walk.Forms.{TreeForm, OfGroup, OfChunks, kind_of, node
 use Rattle.h5_btree.proofs.WalkLaws.Prefix.{key_got}
 
 pub node_long : (image : List ℕ) (form : TreeForm) (field root heap level at depth : ℕ)
-    → length_of image (named field (node_role form root heap level) at depth) ≡ node_length (kind_of image form)
+    → length_of image (naming_of field (node_role form root heap level) at depth) ≡ node_length (kind_of image form)
 node_long image OfGroup field root heap level at depth = refl
 node_long image (OfChunks shape) field root heap level at depth = refl
 
@@ -27,7 +27,7 @@ kind_few image OfGroup superblock = superblock.internal_high
 kind_few image (OfChunks shape) superblock = superblock.chunk_high
 
 pub leaf_long : (image : List ℕ) (form : TreeForm) (field root heap at depth : ℕ)
-    → length_of image (named field (leaf_role form root heap) at depth) ≡ leaf_length image form
+    → length_of image (naming_of field (leaf_role form root heap) at depth) ≡ leaf_length image form
 leaf_long image OfGroup field root heap at depth = refl
 leaf_long image (OfChunks shape) field root heap at depth = refl
 
@@ -50,23 +50,23 @@ names_child image (OfChunks shape) root heap level node depth y high from = (hig
 -- ---- what breaks a rule, of a block that is there
 
 pub node_broken : (image : List ℕ) (form : TreeForm) (field root heap level at depth : ℕ) → at + node_length (kind_of image form) ≤ length image
-    → NodeBreach image (kind_of image form) root level at → ReachedBreach image (named field (node_role form root heap level) at depth) NodeForm
+    → NodeBreach image (kind_of image form) root level at → ReachedBreach image (naming_of field (node_role form root heap level) at depth) NodeForm
 node_broken image OfGroup field root heap level at depth there breach = (there, breach)
 node_broken image (OfChunks shape) field root heap level at depth there breach = (there, breach)
 
 pub siblings_broken : (image : List ℕ) (form : TreeForm) (field root heap level at depth : ℕ) → at + node_length (kind_of image form) ≤ length image
-    → SiblingBreach image (kind_of image form) root at → ReachedBreach image (named field (node_role form root heap level) at depth) Sibling
+    → SiblingBreach image (kind_of image form) root at → ReachedBreach image (naming_of field (node_role form root heap level) at depth) Sibling
 siblings_broken image OfGroup field root heap level at depth there breach = (there, breach)
 siblings_broken image (OfChunks shape) field root heap level at depth there breach = (there, breach)
 
 pub leaf_broken : (image : List ℕ) (form : TreeForm) (field root heap at depth : ℕ) → at + leaf_length image form ≤ length image
-    → LeafBreach image form at → ReachedBreach image (named field (leaf_role form root heap) at depth) NodeForm
+    → LeafBreach image form at → ReachedBreach image (naming_of field (leaf_role form root heap) at depth) NodeForm
 leaf_broken image OfGroup field root heap at depth there breach = (there, breach)
 leaf_broken image (OfChunks shape) field root heap at depth there breach = absurd breach
 
 pub key_broken : (image : List ℕ) (form : TreeForm) (field root heap at depth i : ℕ) → at + node_length (kind_of image form) ≤ length image
     → i < length (node_at image (kind_of image form) at).children → (IsKeyedAt form (node_at image (kind_of image form) at) i → ⊥)
-    → ReachedBreach image (named field (node_role form root heap 0) at depth) ChunkKey
+    → ReachedBreach image (naming_of field (node_role form root heap 0) at depth) ChunkKey
 key_broken image OfGroup field root heap at depth i there low wrong = absurd (wrong tt)
 key_broken image (OfChunks shape) field root heap at depth i there low wrong =
     let kind = shape_kind image shape in

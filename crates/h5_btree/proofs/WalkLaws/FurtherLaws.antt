@@ -7,7 +7,7 @@ use Rattle.h5_bytes.specs.declared.Block.{Block}
 use Rattle.h5_bytes.proofs.BlockLaws.{all_append, holds_in}
 use Rattle.h5_model.specs.Format.Rows.{Node}
 use Rattle.h5_model.specs.Format.Nodes.{node_block, node_bytes, node_length, child_in, tree_blocks}
-use Rattle.h5_model.specs.Format.Reached.{Named, named}
+use Rattle.h5_model.specs.Format.Reached.{Named, naming_of}
 use Rattle.h5_model.specs.Faults.TreeFaults.{NodeBreach}
 use Rattle.h5_model.specs.Faults.Breaches.{is_header}
 use Rattle.h5_model.specs.declared.open_fault.Cause.{Cause}
@@ -61,13 +61,13 @@ module _ (image : List ℕ) (form : TreeForm) where
   next_met : (level : ℕ) (node : Node) (row : List ℕ) (child : ℕ) (old mid : List Block) (followed : List Named) (root heap depth at : ℕ)
       → AreChildrenMet image form old followed root heap depth level at node → IsTakenBelow image form level row old mid → (f : IsFurther image mid followed (IsPlaceBelow image form level at row))
       → length row < length node.children → slice_get node.children (length row) ≡ Some child
-      → IsMet image mid (f.new ++ followed) (named (child_place image form at (length row)) (child_role form root heap level) child depth)
+      → IsMet image mid (f.new ++ followed) (naming_of (child_place image form at (length row)) (child_role form root heap level) child depth)
   next_met level node row child old mid followed root heap depth at met taken f low got =
       let j = length row in
       let here = met.met j low in
       let same : child_in (kind_of image form) (node_bytes image (kind_of image form) at) j ≡ child
       = same_some _ _ (sym (child_is (kind_of image form) (node_bytes image (kind_of image form) at) node (sym met.read) j low) ∙ got) in
-      subst (λ (c : ℕ). IsMet image mid (f.new ++ followed) (named (child_place image form at j) (child_role form root heap level) c depth)) same
+      subst (λ (c : ℕ). IsMet image mid (f.new ++ followed) (naming_of (child_place image form at j) (child_role form root heap level) c depth)) same
       (met_further old mid followed (IsPlaceBelow image form level at row) (child_field image form root heap depth level at j) f (λ p. omega (arith, taken.claimed p)) here
       (next_apart level at j row old mid taken (omega arith) here.stands))
 
@@ -81,7 +81,7 @@ module _ (image : List ℕ) (form : TreeForm) where
     pub walks_bottom : (now : List Block) → ((p : ℕ) → cover p now ≡ cover p mid + holds p child (leaf_length image form)) → WalksTo image form old now 0 at node (row ++ child ∷ [])
     walks_bottom now claimed = λ followed root heap depth met.
         let f = walks followed root heap depth met in
-        let y = named (child_place image form at (length row)) (leaf_role form root heap) child depth in
+        let y = naming_of (child_place image form at (length row)) (leaf_role form root heap) child depth in
         let here = next_met 0 node row child old mid followed root heap depth at met taken f low got in
         record {
           new = y ∷ f.new;
@@ -141,7 +141,7 @@ module _ (image : List ℕ) (form : TreeForm) where
 
     module _ (inner : IsInner image form level child) (here : List Block) (claimed : (p : ℕ) → cover p here ≡ cover p mid + holds p child (node_length (kind_of image form))) (apart : Separate here) where
       below_met : (followed : List Named) (root heap depth : ℕ) (met : AreChildrenMet image form old followed root heap depth (suc level) at node)
-          → AreChildrenMet image form here (named (child_place image form at (length row)) (node_role form root heap level) child depth ∷ (walks followed root heap depth met).new ++ followed)
+          → AreChildrenMet image form here (naming_of (child_place image form at (length row)) (node_role form root heap level) child depth ∷ (walks followed root heap depth met).new ++ followed)
           root heap depth level child (reading_in image form child)
       below_met followed root heap depth met =
           let f = walks followed root heap depth met in
@@ -156,7 +156,7 @@ module _ (image : List ℕ) (form : TreeForm) where
           → WalksTo image form old now (suc level) at node (row ++ child ∷ [])
       walks_inner now below = λ followed root heap depth met.
           let f = walks followed root heap depth met in
-          let y = named (child_place image form at (length row)) (node_role form root heap level) child depth in
+          let y = naming_of (child_place image form at (length row)) (node_role form root heap level) child depth in
           let g = below (y ∷ f.new ++ followed) root heap depth (below_met followed root heap depth met) in
           record {
             new = g.new ++ y ∷ f.new;

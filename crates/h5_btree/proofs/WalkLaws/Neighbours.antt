@@ -3,7 +3,7 @@ use Rattle.std.proofs.Common.{◌≡◌, ◌≢◌, ℕ, zero, suc, ◌+◌, ◌
 use Rattle.std.specs.List.{AllByRecursion}
 use Rattle.std.proofs.Math.Seq.{take-suc}
 use Rattle.std.proofs.lemmas.List.{take-append-drop, append-nil, drop_all}
-use Rattle.h5_bytes.specs.Bytes.{undefined}
+use Rattle.h5_bytes.specs.Bytes.{undefined_address}
 use Rattle.h5_model.specs.Format.Rows.{Reading, IsRow, next_row, first_or_undefined}
 use Rattle.h5_model.specs.Faults.TreeFaults.{last_or_undefined}
 use Rattle.h5_btree.specs.Walk.Rows.{IsMisnamed}
@@ -18,7 +18,7 @@ each_of P (x ∷ xs) (suc k) d all low = each_of P xs k d all.1 (omega (arith, l
 pub first_there : (xs : List ℕ) (n d : ℕ) → n < length xs → first_or_undefined (drop n xs) ≡ get_or xs n d
 first_there xs n d low = ap first_or_undefined (drop-cons xs n d low)
 
-pub first_none : (xs : List ℕ) (n : ℕ) → length xs ≤ n → first_or_undefined (drop n xs) ≡ undefined
+pub first_none : (xs : List ℕ) (n : ℕ) → length xs ≤ n → first_or_undefined (drop n xs) ≡ undefined_address
 first_none xs n past = ap first_or_undefined (drop_all n xs past)
 
 last_snoc : (xs : List ℕ) (x : ℕ) → last_or_undefined (xs ++ x ∷ []) ≡ x

@@ -6,7 +6,7 @@ use Rattle.h5_bytes.specs.declared.Block.{Block}
 use Rattle.h5_bytes.proofs.BlockLaws.{all_append, holds_in}
 use Rattle.h5_model.specs.Format.Rows.{leaves, nodes}
 use Rattle.h5_model.specs.Format.Nodes.{node_block, node_length, tree_blocks}
-use Rattle.h5_model.specs.Format.Reached.{Named, named}
+use Rattle.h5_model.specs.Format.Reached.{Named, naming_of}
 use Rattle.h5_model.specs.Faults.Breaches.{is_header}
 use Rattle.h5_model.specs.Faults.TreeFaults.{NodeBreach}
 use Rattle.h5_model.specs.declared.open_fault.Cause.{Cause}
@@ -43,7 +43,7 @@ module _ (image : List ℕ) (form : TreeForm) (root : ℕ) (old : List Block) wh
         omega (arith, claimed root, one)
 
     below_root : (followed : List Named) (field heap depth : ℕ) → IsTreeMet image form old followed field root heap depth
-        → AreChildrenMet image form here (named field (node_role form root heap level) root depth ∷ followed) root heap depth level root (reading_in image form root)
+        → AreChildrenMet image form here (naming_of field (node_role form root heap level) root depth ∷ followed) root heap depth level root (reading_in image form root)
     below_root followed field heap depth met =
         children_met image form old followed met.walked field root heap depth level root met.met stands low here claimed apart rooted
 
@@ -76,7 +76,7 @@ module _ (image : List ℕ) (form : TreeForm) (root : ℕ) (old : List Block) wh
           → (followed : List Named) (field heap depth : ℕ) → IsTreeMet image form old followed field root heap depth
           → IsFurther image now followed (IsPlaceIn image form field (nodes (reading_in image form) level (root ∷ [])))
       tree_walked walks = λ followed field heap depth met.
-          let y = named field (node_role form root heap level) root depth in
+          let y = naming_of field (node_role form root heap level) root depth in
           let all = nodes (reading_in image form) level (root ∷ []) in
           let f = walks (y ∷ followed) root heap depth (below_root followed field heap depth met) in
           record {

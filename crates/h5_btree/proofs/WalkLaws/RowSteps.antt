@@ -1,9 +1,10 @@
 -- From one row of a tree to the next.
-use Rattle.std.proofs.Common.{◌≡◌, ℕ, zero, suc, ◌-◌, ◌≤◌, List, [], ◌∷◌, ◌++◌, refl, ap, ◌∙◌, append_assoc, arith}
+use Rattle.std.proofs.Common.{◌≡◌, ℕ, suc, ◌-◌, ◌≤◌, List, [], ◌∷◌, ◌++◌, ap, ◌∙◌, append_assoc, arith}
 use Rattle.std.specs.List.{AllByRecursion}
-use Rattle.h5_bytes.specs.Bytes.{undefined}
-use Rattle.h5_model.specs.Format.Rows.{Reading, IsRow, AreRows, next_row, row_below, leaves, nodes}
+use Rattle.h5_bytes.specs.Bytes.{undefined_address}
+use Rattle.h5_model.specs.Format.Rows.{IsRow, AreRows, next_row, row_below, leaves, nodes}
 use Rattle.h5_model.specs.Faults.TreeFaults.{SiblingBreach}
+use Rattle.h5_laws.proofs.Rows.{row_after}
 use Rattle.h5_btree.specs.Walk.Forms.{TreeForm, kind_of}
 use Rattle.h5_btree.specs.Walk.Below.{reading_in, IsStanding, IsInner}
 use Rattle.h5_btree.specs.Walk.Rows.{IsLevel, IsMisnamed}
@@ -17,17 +18,13 @@ pub record AreListed (image : List ℕ) (form : TreeForm) (root level height : �
   pub rows : AreRows (reading_in image form) height row → AreRows (reading_in image form) level (root ∷ [])
   pub depth : row_below (reading_in image form) (level - height) (root ∷ []) ≡ row
 
-row_below-next : (V : Reading) (depth : ℕ) (row : List ℕ) → row_below V (suc depth) row ≡ next_row V (row_below V depth row)
-row_below-next V zero row = refl
-row_below-next V (suc depth) row = row_below-next V depth (next_row V row)
-
 pub stand_all : (image : List ℕ) (form : TreeForm) (level : ℕ) (row : List ℕ) → AllByRecursion (IsInner image form level) row → AllByRecursion (IsStanding image form level) row
 stand_all image form level [] all = tt
 stand_all image form level (x ∷ xs) all = (all.0.stands, stand_all image form level xs all.1)
 
 module _ (image : List ℕ) (form : TreeForm) (root level : ℕ) where
   -- a row that is listed, and the one below it
-  pub listed_next : (height : ℕ) (done row : List ℕ) → AreListed image form root level (suc height) done row → IsRow (reading_in image form) (suc height) undefined row
+  pub listed_next : (height : ℕ) (done row : List ℕ) → AreListed image form root level (suc height) done row → IsRow (reading_in image form) (suc height) undefined_address row
       → AreListed image form root level height (done ++ row) (next_row (reading_in image form) row)
   listed_next height done row listed is =
       let V = reading_in image form in
@@ -39,7 +36,7 @@ module _ (image : List ℕ) (form : TreeForm) (root level : ℕ) where
         owns = append_assoc done row (nodes V height (next_row V row)) ∙ listed.owns;
         leads = listed.leads;
         rows = λ are. listed.rows (is, are);
-        depth = ap (λ (d : ℕ). row_below V d (root ∷ [])) one ∙ row_below-next V (level - suc height) (root ∷ []) ∙ ap (next_row V) listed.depth;
+        depth = ap (λ (d : ℕ). row_below V d (root ∷ [])) one ∙ row_after V (level - suc height) (root ∷ []) ∙ ap (next_row V) listed.depth;
       }
 
   -- a node that does not name its neighbours

@@ -5,7 +5,7 @@ use Rattle.h5_bytes.specs.declared.Block.{Block}
 use Rattle.h5_bytes.proofs.BlockLaws.{all_left, all_right}
 use Rattle.h5_model.specs.Format.Rows.{Reading, next_row, row_below, leaves, nodes}
 use Rattle.h5_model.specs.Format.Nodes.{node_length}
-use Rattle.h5_model.specs.Format.Reached.{Named, named, Reached}
+use Rattle.h5_model.specs.Format.Reached.{Named, naming_of, Reached}
 use Rattle.h5_model.specs.Faults.TreeFaults.{SiblingBreach}
 use Rattle.h5_model.specs.declared.open_fault.Cause.{Cause}
 use Rattle.h5_model.specs.declared.open_fault.Cause.TheVariants.{NoMemory, Sibling}
@@ -28,8 +28,8 @@ row_all V P (suc level) row (suc depth) low all =
 
 module _ (image : List ℕ) (form : TreeForm) (root level : ℕ) (low : level ≤ 15) (read : IsLevel image form level (root ∷ [])) where
   module _ (held : List Block) (followed : List Named) (field heap depth : ℕ) (met : IsTreeMet image form held followed field root heap depth) where
-    root_reached : Reached image (named field (node_role form root heap level) root depth)
-    root_reached = subst (λ (l : ℕ). Reached image (named field (node_role form root heap l) root depth)) read.here.0.high met.met.reached
+    root_reached : Reached image (naming_of field (node_role form root heap level) root depth)
+    root_reached = subst (λ (l : ℕ). Reached image (naming_of field (node_role form root heap l) root depth)) read.here.0.high met.met.reached
 
     all_nodes : AllByRecursion (IsNodeReached image form root heap depth) (nodes (reading_in image form) level (root ∷ []))
     all_nodes = nodes_reached image form root heap depth level (root ∷ []) low read ((field, root_reached), tt)
@@ -62,7 +62,7 @@ module _ (image : List ℕ) (form : TreeForm) (root level : ℕ) (low : level �
         let reached = all_right (IsNodeReached image form root heap depth) before (address ∷ after)
         (subst (AllByRecursion (IsNodeReached image form root heap depth)) is
         (row_all (reading_in image form) (IsNodeReached image form root heap depth) level (root ∷ []) d within all_nodes)) in (
-          named reached.0.0 (node_role form root heap reached.0.1) address depth,
+          naming_of reached.0.0 (node_role form root heap reached.0.1) address depth,
           reached.0.2,
           refl,
           siblings_broken image form reached.0.0 root heap reached.0.1 address depth inside.0 (d, before, after, deep, is, wrong),

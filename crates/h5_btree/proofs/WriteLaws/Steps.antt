@@ -3,7 +3,7 @@ use Rattle.std.proofs.Common.{◌≡◌, ℕ, suc, ◌+◌, ◌-◌, ◌*◌, �
 use Rattle.std.proofs.lemmas.Bool.{cases_lt}
 use Rattle.std.proofs.lemmas.Bool.Decides.{nat_tests}
 use Rattle.std.proofs.lemmas.List.{take_all, drop_all, length-drop, take-append-drop}
-use Rattle.h5_bytes.specs.Bytes.{undefined}
+use Rattle.h5_bytes.specs.Bytes.{undefined_address}
 use Rattle.h5_bytes.proofs.BlockLaws.{all_left, all_right}
 use Rattle.h5_model.specs.Format.Nodes.{Kind, node_length}
 use Rattle.h5_model.specs.Format.PlainLength.{rows_of, nodes_over}
@@ -89,7 +89,7 @@ module _ {K : Type 0} (kind : Kind) (some : 1 ≤ kind.k) where
   raised_more place before cs one = ap (as_children kind place before) (rest_more (2 * kind.k) cs (omega arith) one)
 
   -- the address of the node to the right, where there is one
-  pub right_none : (place : ℕ) (cs : List (Child K)) → length cs ≡ 0 → right_of kind place (rest_of (2 * kind.k) cs) ≡ undefined
+  pub right_none : (place : ℕ) (cs : List (Child K)) → length cs ≡ 0 → right_of kind place (rest_of (2 * kind.k) cs) ≡ undefined_address
   right_none place cs none = ap (right_of kind place) (rest_none (2 * kind.k) cs none)
 
   pub right_some : (place : ℕ) (cs : List (Child K)) → 1 ≤ length cs → right_of kind place (rest_of (2 * kind.k) cs) ≡ place + node_length kind
@@ -150,12 +150,12 @@ level_is k n = refl
 
 -- one node is the root
 pub from_top : {K : Type 0} (kind : Kind) (bytes : K → List ℕ) (first : K) (level at : ℕ) (children : List (Child K)) → level ≤ 15 → length children ≤ 2 * kind.k
-    → rows_from kind bytes first level at children ≡ bytes_over kind bytes level undefined undefined first children
+    → rows_from kind bytes first level at children ≡ bytes_over kind bytes level undefined_address undefined_address first children
 unfolding rows_from
 from_top kind bytes first level at children low few =
     let next : 64 - level ≡ suc (63 - level) = omega arith in
     ap (λ levels. rows_bytes kind bytes first levels level at children) next ∙ rows_top kind bytes first (63 - level) level at children few
-    ∙ append-nil (bytes_over kind bytes level undefined undefined first children)
+    ∙ append-nil (bytes_over kind bytes level undefined_address undefined_address first children)
 
 -- a row of more than one node, and those above it
 module _ {K : Type 0} (kind : Kind) (bytes : K → List ℕ) (first : K) (level at : ℕ) (children : List (Child K)) (low : level ≤ 15) (some : 1 ≤ kind.k)
@@ -175,13 +175,13 @@ module _ {K : Type 0} (kind : Kind) (bytes : K → List ℕ) (first : K) (level 
   abbrev upper : List (Child K)
   upper = as_children kind place first cs
 
-  pub from_more : rows_from kind bytes first level at children ≡ rows_from kind bytes first (level + 1) at upper ++ row_bytes kind bytes level undefined first place cs
+  pub from_more : rows_from kind bytes first level at children ≡ rows_from kind bytes first (level + 1) at upper ++ row_bytes kind bytes level undefined_address first place cs
   unfolding rows_from
   from_more =
       let next : 64 - level ≡ suc (63 - level) = omega arith in
       let above : 63 - level ≡ 64 - (level + 1) = omega arith in
       ap (λ levels. rows_bytes kind bytes first levels level at children) next ∙ rows_more kind bytes first (63 - level) level at children many
-      ∙ ap (λ levels. rows_bytes kind bytes first levels (level + 1) at upper ++ row_bytes kind bytes level undefined first place cs) above
+      ∙ ap (λ levels. rows_bytes kind bytes first levels (level + 1) at upper ++ row_bytes kind bytes level undefined_address first place cs) above
 
   pub above_fit : AllFit kind bytes upper
   above_fit = raised_fit kind bytes first fits place children fit
@@ -196,12 +196,12 @@ module _ {K : Type 0} (kind : Kind) (bytes : K → List ℕ) (first : K) (level 
       length-rows_bytes kind bytes first some fits (64 - (level + 1)) (level + 1) at upper above_fit
       ∙ (λ i. nodes_over (above i) (2 * kind.k) (raised_wide i) * node_length kind)
 
-  row_long : length (row_bytes kind bytes level undefined first place cs) ≡ width * node_length kind
+  row_long : length (row_bytes kind bytes level undefined_address first place cs) ≡ width * node_length kind
   row_long = length-whole kind bytes first some fits level place children many fit
 
   all_long : length (rows_from kind bytes first level at children)
-      ≡ length (rows_from kind bytes first (level + 1) at upper) + length (row_bytes kind bytes level undefined first place cs)
-  all_long = ap length from_more ∙ length-append (rows_from kind bytes first (level + 1) at upper) (row_bytes kind bytes level undefined first place cs)
+      ≡ length (rows_from kind bytes first (level + 1) at upper) + length (row_bytes kind bytes level undefined_address first place cs)
+  all_long = ap length from_more ∙ length-append (rows_from kind bytes first (level + 1) at upper) (row_bytes kind bytes level undefined_address first place cs)
 
   sum_of : (whole a b : ℕ) → whole ≡ a + b → at + whole < 2 ^ 63 → (at + a < 2 ^ 63) × (at + a + b < 2 ^ 63)
   sum_of whole a b split room = (omega arith, omega arith)
@@ -227,12 +227,12 @@ module _ {K : Type 0} (kind : Kind) (bytes : K → List ℕ) (first : K) (level 
 
   -- the row is written behind those above it
   pub row_behind : (p : ℕ) (row : List (Child K)) (out above : List ℕ) → p ≡ place → row ≡ upper
-      → above ≡ out ++ rows_from kind bytes first (level + 1) at row → above ++ row_bytes kind bytes level undefined first p cs ≡ out ++ rows_from kind bytes first level at children
+      → above ≡ out ++ rows_from kind bytes first (level + 1) at row → above ++ row_bytes kind bytes level undefined_address first p cs ≡ out ++ rows_from kind bytes first level at children
   row_behind p row out above place_are row_is above_is =
-      let bottom : List ℕ = row_bytes kind bytes level undefined first place cs in
+      let bottom : List ℕ = row_bytes kind bytes level undefined_address first place cs in
       let whole : rows_from kind bytes first (level + 1) at row ++ bottom ≡ rows_from kind bytes first level at children
       = ap (λ (r : List (Child K)). rows_from kind bytes first (level + 1) at r ++ bottom) row_is ∙ sym from_more in
-      (λ i. above_is i ++ row_bytes kind bytes level undefined first (place_are i) cs)
+      (λ i. above_is i ++ row_bytes kind bytes level undefined_address first (place_are i) cs)
       ∙ append_assoc out (rows_from kind bytes first (level + 1) at row) bottom ∙ ap (λ (bs : List ℕ). out ++ bs) whole
 
 -- where the row begins, as it is computed

@@ -2,7 +2,7 @@
 use Rattle.std.proofs.Common.{◌≡◌, ℕ, zero, suc, ◌+◌, ◌-◌, ◌*◌, ◌^◌, ◌<◌, ◌≤◌, inl, inr, List, [], ◌∷◌, ◌++◌, length, refl, sym, ap, ◌∙◌, subst, arith, length-append}
 use Rattle.std.specs.List.{AllByRecursion, Contains}
 use Rattle.std.proofs.lemmas.Bool.{cases_lt}
-use Rattle.h5_bytes.specs.Bytes.{part, undefined}
+use Rattle.h5_bytes.specs.Bytes.{part, undefined_address}
 use Rattle.h5_bytes.proofs.BlockLaws.{all_left, all_right, all_so}
 use Rattle.h5_model.specs.Format.Nodes.{HasTree, Kind, node_at, node_length, reading_of, tree_blocks}
 use Rattle.h5_bytes.specs.Blocks.{Run}
@@ -58,7 +58,7 @@ module _ {K : Type 0} (image : List ℕ) (kind : Kind) (bytes : K → List ℕ) 
   one_grown : (levels level at : ℕ) (children : List (Child K)) → length children ≤ most → IsGrown (suc levels) level at children
       → Grown (suc levels) level at children
   one_grown levels level at children few is =
-      let bytes_are : rows_bytes kind bytes first (suc levels) level at children ≡ row_bytes kind bytes level undefined first at (children ∷ [])
+      let bytes_are : rows_bytes kind bytes first (suc levels) level at children ≡ row_bytes kind bytes level undefined_address first at (children ∷ [])
       = rows_top kind bytes first levels level at children few in
       let count : nodes_over (suc levels) most (length children) ≡ 1 = nodes_one (suc levels) most (length children) (omega arith) few in
       let flat : level_over (suc levels) most (length children) ≡ 0 = level_one (suc levels) most (length children) few in
@@ -89,7 +89,7 @@ module _ {K : Type 0} (image : List ℕ) (kind : Kind) (bytes : K → List ℕ) 
     above = rows_bytes kind bytes first levels (level + 1) at upper
 
     abbrev row : List ℕ
-    row = row_bytes kind bytes level undefined first place cs
+    row = row_bytes kind bytes level undefined_address first place cs
 
     wide : length cs ≡ width
     wide = length-chunks kind children some many
@@ -156,14 +156,14 @@ module _ {K : Type 0} (image : List ℕ) (kind : Kind) (bytes : K → List ℕ) 
     row_room : place + length cs * size < 2 ^ 64
     row_room = subst (λ n. place + n < 2 ^ 64) row_long rooms.1
 
-    row_there : IsRowThere kind bytes image level high undefined first place cs
+    row_there : IsRowThere kind bytes image level high undefined_address first place cs
     row_there = record {
       are = pieces kind bytes cs (chunks_short kind children some many) cs_fit
           (subst (λ (c : List (Child K)). AreWords (places_of c)) (sym (flat-chunks kind children)) is.small);
       left_low = omega arith;
       first = fits;
       room = row_room;
-      there = row_written kind bytes image level undefined first place cs fits (chunks_short kind children some many) cs_fit row_stands;
+      there = row_written kind bytes image level undefined_address first place cs fits (chunks_short kind children some many) cs_fit row_stands;
     }
 
     pub upper_grown : IsGrown levels (level + 1) at upper

@@ -2,7 +2,7 @@
 use Rattle.std.proofs.Common.{◌≡◌, ℕ, zero, suc, ◌+◌, ◌-◌, ◌*◌, ◌^◌, ◌<◌, ◌≤◌, inl, inr, List, [], ◌∷◌, ◌++◌, length, refl, sym, ap, ◌∙◌, subst, arith, append-nil, length-append}
 use Rattle.std.specs.List.{AllByRecursion, flat_map}
 use Rattle.std.proofs.lemmas.Bool.{cases_lt}
-use Rattle.h5_bytes.specs.Bytes.{part, undefined}
+use Rattle.h5_bytes.specs.Bytes.{part, undefined_address}
 use Rattle.h5_bytes.proofs.BlockLaws.{all_append}
 use Rattle.h5_model.specs.Format.Nodes.{IsNode, Kind, node_bytes, node_length, entries_in}
 use Rattle.h5_model.specs.Format.PlainLength.{rows_of, nodes_over}
@@ -42,13 +42,13 @@ module _ {K : Type 0} (kind : Kind) (bytes : K → List ℕ) (first : K) where
   -- ---- the bytes, level by level
 
   pub rows_top : (levels level at : ℕ) (children : List (Child K)) → length children ≤ 2 * kind.k
-      → rows_bytes kind bytes first (suc levels) level at children ≡ row_bytes kind bytes level undefined first at (children ∷ [])
+      → rows_bytes kind bytes first (suc levels) level at children ≡ row_bytes kind bytes level undefined_address first at (children ∷ [])
   rows_top levels level at children few = rw (is_within (length children) (2 * kind.k) few) refl
 
   pub rows_more : (levels level at : ℕ) (children : List (Child K)) → 2 * kind.k < length children
       → rows_bytes kind bytes first (suc levels) level at children
       ≡ rows_bytes kind bytes first levels (level + 1) at (as_children kind (row_place levels kind at (length children)) first (chunks (2 * kind.k) children))
-      ++ row_bytes kind bytes level undefined first (row_place levels kind at (length children)) (chunks (2 * kind.k) children)
+      ++ row_bytes kind bytes level undefined_address first (row_place levels kind at (length children)) (chunks (2 * kind.k) children)
   rows_more levels level at children many = rw (is_over (length children) (2 * kind.k) many) refl
 
   -- the keys behind the nodes of a row fit
@@ -59,13 +59,13 @@ module _ {K : Type 0} (kind : Kind) (bytes : K → List ℕ) (first : K) where
 
   module _ (some : 1 ≤ kind.k) (fits : FitsKind kind bytes first) where
     pub length-one : (level at : ℕ) (children : List (Child K)) → length children ≤ 2 * kind.k → AllFit kind bytes children
-        → length (row_bytes kind bytes level undefined first at (children ∷ [])) ≡ 1 * node_length kind
-    length-one level at children few fit = length-row kind bytes level undefined first at (children ∷ []) fits (few, tt) (fit, tt)
+        → length (row_bytes kind bytes level undefined_address first at (children ∷ [])) ≡ 1 * node_length kind
+    length-one level at children few fit = length-row kind bytes level undefined_address first at (children ∷ []) fits (few, tt) (fit, tt)
 
     pub length-whole : (level at : ℕ) (children : List (Child K)) → 2 * kind.k < length children → AllFit kind bytes children
-        → length (row_bytes kind bytes level undefined first at (chunks (2 * kind.k) children)) ≡ rows_of (2 * kind.k) (length children) * node_length kind
+        → length (row_bytes kind bytes level undefined_address first at (chunks (2 * kind.k) children)) ≡ rows_of (2 * kind.k) (length children) * node_length kind
     length-whole level at children many fit =
-        length-row kind bytes level undefined first at (chunks (2 * kind.k) children) fits (chunks_short kind children some many)
+        length-row kind bytes level undefined_address first at (chunks (2 * kind.k) children) fits (chunks_short kind children some many)
         (chunks_all kind children (λ (c : Child K). FitsKind kind bytes c.key) fit)
         ∙ ap (λ n. n * node_length kind) (length-chunks kind children some many)
 
@@ -91,7 +91,7 @@ module _ {K : Type 0} (kind : Kind) (bytes : K → List ℕ) (first : K) where
           let count : nodes_over (suc levels) (2 * kind.k) (length children) ≡ width + nodes_over levels (2 * kind.k) width
           = nodes_more (suc levels) (2 * kind.k) (length children) (omega arith) many ∙ ap (λ n. width + nodes_over n (2 * kind.k) width) one in
           ap length (rows_more levels level at children many)
-          ∙ length-append (rows_bytes kind bytes first levels (level + 1) at (as_children kind place first cs)) (row_bytes kind bytes level undefined first place cs)
+          ∙ length-append (rows_bytes kind bytes first levels (level + 1) at (as_children kind place first cs)) (row_bytes kind bytes level undefined_address first place cs)
           ∙ (λ i. above i + length-whole level place children many fit i)
           ∙ sum_times width (nodes_over levels (2 * kind.k) width) (node_length kind) ∙ ap (λ n. n * node_length kind) (sym count)
     ]
@@ -118,54 +118,54 @@ module _ {K : Type 0} (kind : Kind) (bytes : K → List ℕ) (first : K) where
     -- one node
     pub one_node : (level at : ℕ) (children : List (Child K)) → length children ≤ 2 * kind.k → AllFit kind bytes children → AreWords (places_of children)
         → at + node_length kind < 2 ^ 64
-        → part at (length (row_bytes kind bytes level undefined first at (children ∷ []))) image ≡ row_bytes kind bytes level undefined first at (children ∷ [])
+        → part at (length (row_bytes kind bytes level undefined_address first at (children ∷ []))) image ≡ row_bytes kind bytes level undefined_address first at (children ∷ [])
         → ReadsAt image kind V (at ∷ []) → Lasts children → IsTree image V Q level 0 at children (at ∷ [])
     one_node level at children few fit small room there reads lasts =
         let cs : List (List (Child K)) = children ∷ [] in
-        let row : IsRowThere kind bytes image level high undefined first at cs = record {
+        let row : IsRowThere kind bytes image level high undefined_address first at cs = record {
           are = (record { short = few; fit = fit; small = small }, tt);
           left_low = omega arith;
           first = fits;
           room = omega (arith, room);
-          there = row_written kind bytes image level undefined first at cs fits (few, tt) (fit, tt) there;
+          there = row_written kind bytes image level undefined_address first at cs fits (few, tt) (fit, tt) there;
         } in
-        let read = row_reads kind bytes image level high V undefined first at cs row reads in
+        let read = row_reads kind bytes image level high V undefined_address first at cs row reads in
         let flat : flat_map (λ (c : List (Child K)). c) cs ≡ children = append-nil children in
         record {
-          down = row_is kind bytes V level undefined first at cs read;
+          down = row_is kind bytes V level undefined_address first at cs read;
           owns = refl;
-          all = sym (next_row_is kind bytes V level undefined first at cs read ∙ ap places_of flat);
-          formed = row_formed kind bytes image level high undefined first at cs row;
-          filled = λ one. row_filled kind bytes image level high undefined first at cs row (one, tt);
-          keyed = row_keys kind bytes Q V level undefined first at cs read holds (lasts, tt);
-          ordered = λ sides orderly beside bottom is h. row_ordered kind bytes V sides orderly beside bottom is level undefined first at cs read
+          all = sym (next_row_is kind bytes V level undefined_address first at cs read ∙ ap places_of flat);
+          formed = row_formed kind bytes image level high undefined_address first at cs row;
+          filled = λ one. row_filled kind bytes image level high undefined_address first at cs row (one, tt);
+          keyed = row_keys kind bytes Q V level undefined_address first at cs read holds (lasts, tt);
+          ordered = λ sides orderly beside bottom is h. row_ordered kind bytes V sides orderly beside bottom is level undefined_address first at cs read
               (subst (AreOrderedUnder kind bytes V sides orderly beside bottom is level first) (sym flat) h);
         }
 
     -- one row more
     pub row_more : (level depth at place : ℕ) (cs : List (List (Child K))) (owned : List ℕ) → 1 ≤ length cs
-        → AllByRecursion (λ (c : List (Child K)). 1 ≤ length c) cs → IsRowThere kind bytes image level high undefined first place cs
+        → AllByRecursion (λ (c : List (Child K)). 1 ≤ length c) cs → IsRowThere kind bytes image level high undefined_address first place cs
         → ReadsAt image kind V (addresses (node_length kind) place (length cs)) → AllByRecursion Lasts cs
         → IsTree image V Q (level + 1) depth at (as_children kind place first cs) owned
         → IsTree image V Q level (suc depth) at (flat_map (λ (c : List (Child K)). c) cs) (owned ++ addresses (node_length kind) place (length cs))
     row_more level depth at place cs owned one full there reads lasts above =
         let row : List ℕ = addresses (node_length kind) place (length cs) in
-        let read = row_reads kind bytes image level high V undefined first place cs there reads in
+        let read = row_reads kind bytes image level high V undefined_address first place cs there reads in
         let bottom_row : row ≡ leaves V depth (at ∷ []) = sym (places-raised kind place first cs) ∙ above.all in
         let next : level + 1 ≡ suc level = omega arith in
         let long : length (as_children kind place first cs) ≡ length cs = length-raised kind place first cs in
         record {
-          down = down_more V level depth (at ∷ []) above.down (subst (IsRow V level undefined) bottom_row (row_is kind bytes V level undefined first place cs read));
+          down = down_more V level depth (at ∷ []) above.down (subst (IsRow V level undefined_address) bottom_row (row_is kind bytes V level undefined_address first place cs read));
           owns = (λ i. above.owns i ++ bottom_row i) ∙ sym (nodes-more V depth (at ∷ []));
-          all = sym (leaves-more V depth (at ∷ []) ∙ ap (next_row V) (sym bottom_row) ∙ next_row_is kind bytes V level undefined first place cs read);
+          all = sym (leaves-more V depth (at ∷ []) ∙ ap (next_row V) (sym bottom_row) ∙ next_row_is kind bytes V level undefined_address first place cs read);
           formed = all_append (λ a. IsNode kind (node_bytes image kind a)) owned row above.formed
-              (row_formed kind bytes image level high undefined first place cs there);
+              (row_formed kind bytes image level high undefined_address first place cs there);
           filled = λ _. all_append (λ a. 1 ≤ entries_in (node_bytes image kind a)) owned row (above.filled (omega (arith, long, one)))
-              (row_filled kind bytes image level high undefined first place cs there full);
-          keyed = all_append (λ n. IsKeyedBy kind bytes Q (V n)) owned row above.keyed (row_keys kind bytes Q V level undefined first place cs read holds lasts);
+              (row_filled kind bytes image level high undefined_address first place cs there full);
+          keyed = all_append (λ n. IsKeyedBy kind bytes Q (V n)) owned row above.keyed (row_keys kind bytes Q V level undefined_address first place cs read holds lasts);
           ordered = λ sides orderly beside bottom is h. all_append (λ n. IsOrderedBy sides V bottom (V n)) owned row
               (above.ordered sides orderly beside bottom is
               (subst (λ l. AreOrderedUnder kind bytes V sides orderly beside bottom is l first (as_children kind place first cs)) (sym next)
-              (raised_ordered kind bytes V sides orderly beside bottom is level undefined first place cs read h)))
-              (row_ordered kind bytes V sides orderly beside bottom is level undefined first place cs read h);
+              (raised_ordered kind bytes V sides orderly beside bottom is level undefined_address first place cs read h)))
+              (row_ordered kind bytes V sides orderly beside bottom is level undefined_address first place cs read h);
         }

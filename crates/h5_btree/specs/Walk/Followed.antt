@@ -5,7 +5,7 @@ use Rattle.std.specs.List.{AllByRecursion}
 use Rattle.h5_bytes.specs.Blocks.{cover}
 use Rattle.h5_bytes.specs.declared.Block.{Block}
 use Rattle.h5_model.specs.Format.Nodes.{tree_blocks}
-use Rattle.h5_model.specs.Format.Reached.{Named, named, level_at, Reached}
+use Rattle.h5_model.specs.Format.Reached.{Named, naming_of, level_at, Reached}
 use Rattle.h5_model.specs.Faults.Breaches.{is_header}
 use Rattle.h5_model.specs.declared.open_fault.Cause.{Cause}
 use Rattle.h5_model.specs.declared.open_fault.Cause.TheVariants.{NoMemory}
@@ -21,14 +21,14 @@ IsFault image cause address = Breaches image cause address
 -- the walk has met the field that names the root of the tree
 pub record IsTreeMet (image : List ℕ) (form : TreeForm) (held : List Block) (followed : List Named) (field root heap depth : ℕ) : Type 0 where
   pub walked : IsWalked image held followed
-  pub met : IsMet image held followed (named field (node_role form root heap (level_at image (kind_of image form) root)) root depth)
+  pub met : IsMet image held followed (naming_of field (node_role form root heap (level_at image (kind_of image form) root)) root depth)
 
 -- a field that is reached names this node, or this leaf, of the tree
 abbrev pub IsNodeReached : List ℕ → TreeForm → ℕ → ℕ → ℕ → ℕ → Type 0
-IsNodeReached image form root heap depth at = (field : ℕ) × (level : ℕ) × Reached image (named field (node_role form root heap level) at depth)
+IsNodeReached image form root heap depth at = (field : ℕ) × (level : ℕ) × Reached image (naming_of field (node_role form root heap level) at depth)
 
 abbrev pub AreLeavesReached : List ℕ → TreeForm → ℕ → ℕ → ℕ → ℕ → Type 0
-AreLeavesReached image form root heap depth at = (field : ℕ) × Reached image (named field (leaf_role form root heap) at depth)
+AreLeavesReached image form root heap depth at = (field : ℕ) × Reached image (naming_of field (leaf_role form root heap) at depth)
 
 -- More fields were followed, none of which names a header: the one that names the root, and others that stand in nodes of the tree.
 -- All of its nodes and leaves are reached.

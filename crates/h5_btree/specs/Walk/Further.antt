@@ -5,7 +5,7 @@ use Rattle.h5_bytes.specs.Blocks.{cover}
 use Rattle.h5_bytes.specs.declared.Block.{Block}
 use Rattle.h5_model.specs.Format.Rows.{Node, nodes}
 use Rattle.h5_model.specs.Format.Nodes.{node_bytes, key_place, child_in, tree_blocks, node_length}
-use Rattle.h5_model.specs.Format.Reached.{Named, named, Reached}
+use Rattle.h5_model.specs.Format.Reached.{Named, naming_of, Reached}
 use Rattle.h5_model.specs.Faults.Breaches.{is_header}
 use Rattle.h5_model.specs.declared.open_fault.Cause.{Cause}
 use Rattle.h5_space.specs.Walk.Walked.{IsWalked}
@@ -20,13 +20,13 @@ child_place image form at j = at + key_place (kind_of image form) j + (kind_of i
 
 abbrev pub child_field : List ℕ → TreeForm → ℕ → ℕ → ℕ → ℕ → ℕ → ℕ → Named
 child_field image form root heap depth level at j =
-    named (child_place image form at j) (child_role form root heap level) (child_in (kind_of image form) (node_bytes image (kind_of image form) at) j) depth
+    naming_of (child_place image form at j) (child_role form root heap level) (child_in (kind_of image form) (node_bytes image (kind_of image form) at) j) depth
 
 -- the node, of this level, is reached, and the walk has met the fields that name its children; the root's first byte is claimed, and no
 -- node is of a level above 15
 pub record AreChildrenMet (image : List ℕ) (form : TreeForm) (held : List Block) (followed : List Named) (root heap depth level at : ℕ) (node : Node) : Type 0 where
   pub read : node ≡ reading_in image form at
-  pub reached : (field : ℕ) × Reached image (named field (node_role form root heap level) at depth)
+  pub reached : (field : ℕ) × Reached image (naming_of field (node_role form root heap level) at depth)
   pub there : at + node_length (kind_of image form) ≤ length image
   pub walked : IsWalked image held followed
   pub met : (j : ℕ) → j < length node.children → IsMet image held followed (child_field image form root heap depth level at j)

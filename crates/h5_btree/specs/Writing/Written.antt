@@ -2,7 +2,7 @@
 -- Format Specification 3.0, section III.A.1). Parameters are the kind of the tree, the bytes of its keys, and its first key.
 use Rattle.std.specs.Prelude.{◌≡◌, ℕ, zero, suc, ◌+◌, ◌*◌, nat_le, if◌then◌else◌, List, [], ◌∷◌, ◌++◌, map, length, take, drop}
 use Rattle.std.specs.List.{AllByRecursion}
-use Rattle.h5_bytes.specs.Bytes.{undefined}
+use Rattle.h5_bytes.specs.Bytes.{undefined_address}
 use Rattle.h5_model.specs.Format.Nodes.{Kind, node_length}
 use Rattle.h5_model.specs.Format.Plain.{node_bytes_of}
 use Rattle.h5_model.specs.Format.PlainLength.{rows_of, nodes_over}
@@ -58,7 +58,7 @@ module _ {K : Type 0} where
 module _ {K : Type 0} (kind : Kind) where
   -- the address of a node to the right
   abbrev pub right_of : ℕ → List (List (Child K)) → ℕ
-  right_of at [] = undefined
+  right_of at [] = undefined_address
   right_of at (c ∷ cs) = at + node_length kind
 
   -- these nodes, the first of them at this place, as the children of the next row
@@ -80,9 +80,9 @@ module _ {K : Type 0} (kind : Kind) (bytes : K → List ℕ) where
     rows_bytes zero level at children = []
     rows_bytes (suc levels) level at children =
         if nat_le (length children) (2 * kind.k)
-        then row_bytes level undefined first at (children ∷ [])
+        then row_bytes level undefined_address first at (children ∷ [])
         else rows_bytes levels (level + 1) at (as_children kind (row_place levels kind at (length children)) first (chunks (2 * kind.k) children))
-        ++ row_bytes level undefined first (row_place levels kind at (length children)) (chunks (2 * kind.k) children)
+        ++ row_bytes level undefined_address first (row_place levels kind at (length children)) (chunks (2 * kind.k) children)
 
     -- the whole tree, with its root at this place
     unfoldable pub tree_bytes : ℕ → List (Child K) → List ℕ

@@ -2,7 +2,7 @@
 
 ghost use Rattle.std.specs.Prelude.{◌≡◌, ◌++◌, ◌∷◌, [], ℕ, ◌⊎◌, List, ◌+◌, ◌<◌, ◌≤◌, length, drop, IfOk, IfErr, OnOk};
 ghost use Rattle.std.specs.List.{AllByRecursion};
-ghost use Rattle.h5_bytes.specs.Bytes.{undefined};
+ghost use Rattle.h5_bytes.specs.Bytes.{undefined_address};
 ghost use Rattle.h5_model.specs.Format.Superblock.{IsSuperblock};
 ghost use Rattle.h5_model.specs.Format.Rows.{IsRow, first_or_undefined, next_row};
 ghost use Rattle.h5_model.specs.Faults.TreeFaults.{SiblingBreach};
@@ -72,7 +72,7 @@ fn check_siblings<T: Trees>(image: &Image, over: &T, row: &[u64]) -> Result<(), 
         × AllByRecursion (IsStanding image.now.bytes (T.form over.now) level) row.now }
     ensures named { OnOk result ((level : ℕ)
         → AllByRecursion (IsStanding image.now.bytes (T.form over.now) level) row.now
-        → IsRow (reading_in image.now.bytes (T.form over.now)) level undefined row.now) }
+        → IsRow (reading_in image.now.bytes (T.form over.now)) level undefined_address row.now) }
     ensures refused { IfErr result (λ fault. (fault.cause ≡ Cause.Sibling)
         × IsMisnamed (reading_in image.now.bytes (T.form over.now)) row.now fault.address) }
 {

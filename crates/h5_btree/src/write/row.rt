@@ -1,6 +1,6 @@
 //! One row of a tree, cut into nodes from the left (File Format Specification 3.0, section III.A.1).
 ghost use Rattle.std.specs.Prelude.{◌≡◌, ◌+◌, ◌*◌, ◌^◌, ◌<◌, ◌≤◌, ◌++◌, IfOk, OnOk, length};
-ghost use Rattle.h5_bytes.specs.Bytes.{undefined};
+ghost use Rattle.h5_bytes.specs.Bytes.{undefined_address};
 ghost use Rattle.h5_model.specs.Format.Nodes.{node_length};
 ghost use Rattle.h5_model.specs.Format.PlainLength.{rows_of};
 ghost use Rattle.h5_btree.specs.Writing.Written.{FitsKind, AllFit, chunks, as_children, row_bytes};
@@ -60,7 +60,8 @@ pub(crate) fn push_row<K: TreeKey>(
     requires room { at + rows_of (2 * kind.now.k) (length children.now) * node_length kind.now < 2 ^ 63 }
     ensures { OnOk result
         (out.new.items ≡ out.old.items
-        ++ row_bytes kind.now K.bytes level undefined first at (chunks (2 * kind.now.k) children.now)) }
+        ++ row_bytes kind.now K.bytes level undefined_address first at
+        (chunks (2 * kind.now.k) children.now)) }
 {
     let mut rest = children;
     let mut left = UNDEF;

@@ -6,18 +6,18 @@ use Rattle.std.proofs.lemmas.List.FromFn.{length-map-range_with_len}
 use Rattle.std.proofs.lemmas.Option.{option_and_then_some}
 use Rattle.h5_bytes.specs.declared.Block.{Block}
 use Rattle.h5_layout.specs.HeldChunks.{HeldCells, held_cells, held_chunks}
+use Rattle.h5_model.specs.Format.MessageTypes.{datatype_kind}
 use Rattle.h5_model.specs.Edits.Refusal.{is_chunked}
 use Rattle.h5_model.specs.Format.Fixed.{Fixed, IsFixed}
 use Rattle.h5_model.specs.Format.Layout.{Layout, InMessage, InBlock, InChunks}
 use Rattle.h5_model.specs.Format.Messages.{Message, first_body}
 use Rattle.h5_model.specs.Format.Plain.{cells_bytes}
-use Rattle.h5_model.specs.Format.Reads.{storage_of}
+use Rattle.h5_model.specs.Format.Described.{storage_of, Described, HasArray, described_dataset}
 use Rattle.h5_model.specs.Scripts.Answers.{stored_values}
 use Rattle.h5_model.specs.Tree.Objects.{Dataset, Contiguous, Chunked}
 use Rattle.h5_model.specs.Tree.Places.{cells}
 use Rattle.h5_model.proofs.StoredValues.{stored-cells_bytes}
 use Rattle.h5_query.specs.Data.{AreDataRead, data_blocks, stored_chunks}
-use Rattle.h5_query.specs.Described.{Described, HasArray, described_dataset}
 use Rattle.h5_query.specs.Kept.{array_dataset}
 use Rattle.h5_query.specs.Opened.Judged.{IsArrayList}
 use Rattle.h5_query.specs.Stored.{AreFilled, AreStored}
@@ -37,7 +37,7 @@ use Rattle.h5_edit.specs.Changed.Cells.{AreCellsKept, IsUnchunkedLayout}
 use Rattle.h5_edit.specs.Fits.Laws.{AreBytes}
 
 type_read : (ms : List Message) (a : Described) → HasArray ms a → IsFixed a.fixed
-type_read ms a has = option_and_then_some _ (first_body 3 ms) a.fixed has.type (λ body there is. type_sound body a.fixed is)
+type_read ms a has = option_and_then_some _ (first_body datatype_kind ms) a.fixed has.type (λ body there is. type_sound body a.fixed is)
 
 -- bytes of so many cells are those of the values that they store
 pub bytes_of_stored : (t : Fixed) (count : ℕ) (bytes : List ℕ) → IsFixed t → AreBytes bytes → length bytes ≡ count * t.size → bytes ≡ cells_bytes t (stored_values t bytes)

@@ -10,12 +10,12 @@ use Rattle.std.proofs.lemmas.Option.{same_Some}
 use Rattle.h5_header.specs.Listed.{messages_in}
 use Rattle.h5_layout.specs.HeldChunks.{held_chunks}
 use Rattle.h5_layout.specs.StoredAt.{HasStoredChunks}
-use Rattle.h5_layout.proofs.ArrayLaws.{has_dataset}
 use Rattle.h5_layout.proofs.KnownLaws.{known_in}
 use Rattle.h5_model.specs.Format.Addresses.{SymbolTable}
 use Rattle.h5_model.specs.Format.Messages.{Message}
 use Rattle.h5_model.specs.Format.Reads.{HasDataset}
 use Rattle.h5_model.specs.Tree.Objects.{Tree, Object, Content, Links, Group, Array, Dataset, dataset_in}
+use Rattle.h5_model.proofs.DescribedLaws.{has_dataset}
 use Rattle.h5_query.specs.Data.{data_blocks, stored_chunks}
 use Rattle.h5_query.specs.Kept.{array_dataset}
 use Rattle.h5_query.specs.Opened.Kept.{IsContentKept}
@@ -99,7 +99,7 @@ module _ (f : FileState) where
           data_blocks = data_blocks f.image a.fixed a.layout;
           array = has;
           chunks_are = told_chunks f.image a.fixed has.layout has.chunks (data_blocks f.image a.fixed a.layout) has.stored
-              ∙ ap (stored_chunks f.image a.fixed) (same_Some has.layout a.layout (sym has.laid_out ∙ read.0.array.laid_out));
+              ∙ ap (stored_chunks f.image a.fixed) (same_Some has.layout a.layout (sym has.array.laid_out ∙ read.0.array.laid_out));
         } in (
           stored_chunks f.image a.fixed a.layout,
           chunks,

@@ -6,7 +6,7 @@ use Rattle.std.specs.Option.{IfSome}
 use Rattle.std.specs.List.{AllByRecursion, AllZip, range_with_len}
 use Rattle.std.proofs.lemmas.Bool.Decides.{nat_tests}
 use Rattle.std.proofs.lemmas.Option.{cond_some}
-use Rattle.h5_bytes.specs.Bytes.{number_at, undefined}
+use Rattle.h5_bytes.specs.Bytes.{number_at, undefined_address}
 use Rattle.h5_model.specs.Format.Extent.{Extent, extent_of, extent_in, is_dataspace, rank_in, size_in, maximum_in, maximum_from, maximum_fits, has_maxima}
 use Rattle.h5_model.specs.Scripts.Tests.{each_below}
 use Rattle.h5_model.specs.Tree.Places.{extent_cells}
@@ -23,11 +23,11 @@ module _ (body : List ℕ) (low : AreBytes body) (form : is_dataspace body ≡ t
   unfolding maximum_fits
   maximum_bounded k below few =
       let n = number_at body (8 + 8 * rank_in body + 8 * k) 8 in
-      elim (has_maxima body) as (λ b. has_maxima body ≡ b → IfSome (cond b (maximum_from n) (Some (size_in body k))) (λ m. (size_in body k ≤ m) × (m < undefined))) [
+      elim (has_maxima body) as (λ b. has_maxima body ≡ b → IfSome (cond b (maximum_from n) (Some (size_in body k))) (λ m. (size_in body k ≤ m) × (m < undefined_address))) [
         | true ↦ λ flag.
             let all : each_below (rank_in body) (maximum_fits body) ≡ true = grind (arith, nat_tests, form, flag) in
             let above : nat_le (size_in body k) n ≡ true = each_below_at (rank_in body) (maximum_fits body) k all below in
-            elim (n == undefined) as (λ c. (n == undefined) ≡ c → IfSome (cond c None (Some n)) (λ m. (size_in body k ≤ m) × (m < undefined))) [
+            elim (n == undefined_address) as (λ c. (n == undefined_address) ≡ c → IfSome (cond c None (Some n)) (λ m. (size_in body k ≤ m) × (m < undefined_address))) [
               | true ↦ λ _. tt
               | false ↦ λ other. (grind (arith, nat_tests, above), let low_n : n < 2 ^ 64 = long_low body (8 + 8 * rank_in body + 8 * k) low in grind (arith, nat_tests, other, low_n))
             ] refl

@@ -5,6 +5,7 @@ use Rattle.std.specs.List.{AllZip, list_any}
 use Rattle.std.proofs.lemmas.Bool.Decides.{nat_tests}
 use Rattle.std.proofs.lemmas.List.{length-replicate}
 use Rattle.std.proofs.lemmas.Slice.Zip.{AllZip-long}
+use Rattle.std.proofs.lemmas.Bool.{and_parts, or_parts, not-false}
 use Rattle.h5_model.specs.Format.Fixed.{Fixed, IsFixed, fits}
 use Rattle.h5_model.specs.Tree.Places.{cells, extent_cells}
 use Rattle.h5_model.specs.Tree.Sound.{AreOf}
@@ -15,8 +16,7 @@ use Rattle.h5_model.specs.declared.dataset.Spec.{Spec}
 use Rattle.h5_model.specs.declared.dataset.Store.{Store}
 use Rattle.h5_model.specs.declared.dataset.Store.TheVariants as store
 use Rattle.h5_model.specs.declared.edits.Edit.TheVariants.{CreateDataset}
-use Rattle.h5_model.proofs.RefusalLaws.{none_holds, true_of}
-use Rattle.h5_model.proofs.WithinLaws.{both, neither}
+use Rattle.h5_model.proofs.RefusalLaws.{none_holds}
 use Rattle.h5_repack.specs.Bodies.Bodies.{others_of}
 use Rattle.h5_repack.specs.Image.Plain.{IsPlain}
 use Rattle.h5_repack.specs.Bodies.Sound.{IsBound, IsPlainArray, IsPlainStorage}
@@ -39,24 +39,24 @@ pub maxima_long : (sizes : List ℕ) (maxima : List (Option ℕ)) → are_maxima
 maxima_long [] [] h = refl
 maxima_long [] (m ∷ ms) h = absurd (cc)
 maxima_long (d ∷ ds) [] h = absurd (cc)
-maxima_long (d ∷ ds) (m ∷ ms) h = ap suc (maxima_long ds ms (both _ (are_maxima ds ms) h).1)
+maxima_long (d ∷ ds) (m ∷ ms) h = ap suc (maxima_long ds ms (and_parts _ (are_maxima ds ms) h).1)
 
 chunk_long : (chunk : List ℕ) (maxima : List (Option ℕ)) → are_chunk_sizes chunk maxima ≡ true → length chunk ≡ length maxima
 chunk_long [] [] h = refl
 chunk_long [] (m ∷ ms) h = absurd (cc)
 chunk_long (c ∷ cs) [] h = absurd (cc)
-chunk_long (c ∷ cs) (m ∷ ms) h = ap suc (chunk_long cs ms (both (is_chunk_size c m) (are_chunk_sizes cs ms) h).1)
+chunk_long (c ∷ cs) (m ∷ ms) h = ap suc (chunk_long cs ms (and_parts (is_chunk_size c m) (are_chunk_sizes cs ms) h).1)
 
 size_some : (c : ℕ) (m : Option ℕ) → is_chunk_size c m ≡ true → (c == 0) ≡ false
 size_some c None h = grind (arith, nat_tests, h)
-size_some c (Some m) h = let some = (both (nat_lt 0 c) (m == 0 || nat_le c m) h).0 in grind (arith, nat_tests, some)
+size_some c (Some m) h = let some = (and_parts (nat_lt 0 c) (m == 0 || nat_le c m) h).0 in grind (arith, nat_tests, some)
 
 chunk_some : (chunk : List ℕ) (maxima : List (Option ℕ)) → are_chunk_sizes chunk maxima ≡ true → list_any (λ n. n == 0) chunk ≡ false
 chunk_some [] [] h = refl
 chunk_some [] (m ∷ ms) h = absurd (cc)
 chunk_some (c ∷ cs) [] h = absurd (cc)
 chunk_some (c ∷ cs) (m ∷ ms) h =
-    let parts = both (is_chunk_size c m) (are_chunk_sizes cs ms) h in
+    let parts = and_parts (is_chunk_size c m) (are_chunk_sizes cs ms) h in
     rw (size_some c m parts.0, chunk_some cs ms parts.1) refl
 
 pub record AreChunkSizesOf (sizes chunk : List ℕ) : Type 0 where
@@ -66,7 +66,7 @@ pub record AreChunkSizesOf (sizes chunk : List ℕ) : Type 0 where
 
 pub chunk_sizes_of : (sizes : List ℕ) (maxima : List (Option ℕ)) (chunk : List ℕ) → are_maxima sizes maxima ≡ true → is_store (store.Chunked chunk) sizes maxima ≡ true → AreChunkSizesOf sizes chunk
 chunk_sizes_of sizes maxima chunk bounded shaped =
-    let parts = both (nat_lt 0 (length sizes)) (are_chunk_sizes chunk maxima) shaped in
+    let parts = and_parts (nat_lt 0 (length sizes)) (are_chunk_sizes chunk maxima) shaped in
     let some = parts.0 in
     let one : 1 ≤ length sizes = grind (arith, nat_tests, some) in
     let long = chunk_long chunk maxima parts.1 in
@@ -74,7 +74,7 @@ chunk_sizes_of sizes maxima chunk bounded shaped =
     record { ranked = omega (arith, one, long, longer); same = omega (arith, long, longer); some = chunk_some chunk maxima parts.1 }
 
 -- so they can be named
-pub store_sizes : (sizes : List ℕ) (maxima : List (Option ℕ)) (s : Store) → length sizes ≤ 32 → are_maxima sizes maxima ≡ true → is_store s sizes maxima ≡ true → HasChunkSizes s
+pub store_sizes : (sizes : List ℕ) (maxima : List (Option ℕ)) (s : Store (List ℕ)) → length sizes ≤ 32 → are_maxima sizes maxima ≡ true → is_store s sizes maxima ≡ true → HasChunkSizes s
 store_sizes sizes maxima store.Compact ranked bounded shaped = tt
 store_sizes sizes maxima store.Contiguous ranked bounded shaped = tt
 store_sizes sizes maxima (store.Chunked chunk) ranked bounded shaped =
@@ -89,7 +89,7 @@ same_values t v fit zero = tt
 same_values t v fit (suc n) = (fit, same_values t v fit n)
 
 module _ (spec : Spec) (is : IsSoundSpec spec) where
-  plain_storage : (s : Store) → is_store s spec.dims spec.maxima ≡ true → chunk_is_large s (spec.fixed).size ≡ false → compact_is_large s (cells spec.dims * (spec.fixed).size) ≡ false
+  plain_storage : (s : Store (List ℕ)) → is_store s spec.dims spec.maxima ≡ true → chunk_is_large s (spec.fixed).size ≡ false → compact_is_large s (cells spec.dims * (spec.fixed).size) ≡ false
       → IsPlainStorage (new_dataset spec) (new_storage spec.dims s)
   plain_storage store.Compact shaped small short = grind (arith, nat_tests, short)
   plain_storage store.Contiguous shaped small short = go (nat_lt 0 (cells spec.dims)) refl where
@@ -100,7 +100,7 @@ module _ (spec : Spec) (is : IsSoundSpec spec) where
       let of = chunk_sizes_of spec.dims spec.maxima chunk is.maxima shaped in
       record { ranked = of.ranked; some = of.some; small = grind (arith, nat_tests, small) }
 
-  boxed : (s : Store) → is_store s spec.dims spec.maxima ≡ true → (chunk : List ℕ) → new_storage spec.dims s ≡ Chunked chunk → length chunk ≡ length spec.dims
+  boxed : (s : Store (List ℕ)) → is_store s spec.dims spec.maxima ≡ true → (chunk : List ℕ) → new_storage spec.dims s ≡ Chunked chunk → length chunk ≡ length spec.dims
   boxed store.Compact shaped chunk e = absurd (cc)
   boxed store.Contiguous shaped chunk e = absurd (cc)
   boxed (store.Chunked sizes) shaped chunk e =
@@ -134,8 +134,8 @@ module _ (tree : Tree) (next : ℕ) (path : List ℕ) (spec : Spec) (accepted : 
   accepted_spec =
       let rules = none_holds (rules_of tree next (CreateDataset path spec)) accepted in
       let shaped = rules.1.1.1.1.1.1.1.1.1.1 in
-      let parts = neither (nat_lt 32 (length spec.dims)) _ shaped.0 in
-      let formed = both (are_maxima spec.dims spec.maxima) (is_store spec.store spec.dims spec.maxima) (true_of _ parts.1) in
+      let parts = or_parts (nat_lt 32 (length spec.dims)) _ shaped.0 in
+      let formed = and_parts (are_maxima spec.dims spec.maxima) (is_store spec.store spec.dims spec.maxima) (not-false _ parts.1) in
       let limits = shaped.1.1.1.1.1.1.1 in
       let low = parts.0 in
       let few = limits.1.1.0 in
@@ -146,7 +146,7 @@ module _ (tree : Tree) (next : ℕ) (path : List ℕ) (spec : Spec) (accepted : 
         chunk_small = limits.0;
         data_small = limits.1.0;
         few = grind (arith, nat_tests, few);
-        of_type = true_of _ limits.1.1.1.1.0;
+        of_type = not-false _ limits.1.1.1.1.0;
       }
 
 -- and the object with it

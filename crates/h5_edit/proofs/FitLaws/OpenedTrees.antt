@@ -27,9 +27,9 @@ module _ (image : List ℕ) (low : AreBytes image) (table : FinMap nat_cmp ℕ) 
             let once = group.once in
             subst (IsPlainContent n) (sym e) (omega (arith, room, few, once))
         | inr (d, e, array) ↦
-            let one_space = array.one_space in
-            let one_type = array.one_type in
-            let one_layout = array.one_layout in
+            let one_space = array.array.one_space in
+            let one_type = array.array.one_type in
+            let one_layout = array.array.one_layout in
             subst (IsPlainContent n) (sym e) (
               plain_array image low has.messages (read_bodies image low table header o blocks has) d has.content_blocks array n (omega (arith, room, few)),
               omega (arith, room, few, one_space, one_type, one_layout),

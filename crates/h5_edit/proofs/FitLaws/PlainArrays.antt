@@ -9,8 +9,10 @@ use Rattle.std.proofs.lemmas.Nat.{pow_pos}
 use Rattle.std.proofs.lemmas.Option.{same_Some, option_and_then_some}
 use Rattle.std.proofs.lemmas.List.FromFn.{length-map-range_with_len}
 use Rattle.std.proofs.lemmas.Slice.Zip.{AllZip-long}
-use Rattle.h5_bytes.specs.Bytes.{byte_at, number_at, part, undefined}
+use Rattle.std.proofs.lemmas.Bool.{not-true, and_parts}
+use Rattle.h5_bytes.specs.Bytes.{byte_at, number_at, part, undefined_address}
 use Rattle.h5_bytes.specs.declared.Block.{Block}
+use Rattle.h5_model.specs.Format.MessageTypes.{data_layout_kind, dataspace_kind, datatype_kind, fill_value_kind, old_fill_value_kind}
 use Rattle.h5_model.specs.Format.Messages.{Message, count_of, first_body}
 use Rattle.h5_model.specs.Format.Fixed.{Fixed, IsFixed, fits}
 use Rattle.h5_model.specs.Tree.Grid.{corner_of, inner_of}
@@ -20,11 +22,11 @@ use Rattle.h5_model.specs.Format.Fill.{fill_value, old_fill_value, chosen_fill}
 use Rattle.h5_model.specs.Format.Chunks.{Chunks}
 use Rattle.h5_model.specs.Format.Layout.{Layout, InMessage, InBlock, InChunks, address_from, chunked_layout, compact_layout, contiguous_layout, layout_of, short_numbers_at}
 use Rattle.h5_model.specs.Format.Cells.{cell_of, cells_of, value_in_chunk}
-use Rattle.h5_model.specs.Format.Reads.{HasDataset, IsChunkSmall, IsFill, storage_of}
+use Rattle.h5_model.specs.Format.Reads.{HasDataset}
+use Rattle.h5_model.specs.Format.Described.{IsChunkSmall, IsFill, storage_of}
 use Rattle.h5_model.specs.Tree.Sound.{AreOf, IsDataset}
 use Rattle.h5_model.specs.Tree.Objects.{Dataset, Chunked, Contiguous}
 use Rattle.h5_model.proofs.StoredValues.{fits_value_at}
-use Rattle.h5_model.proofs.WithinLaws.{both}
 use Rattle.h5_query.proofs.FillLaws.{type_sound, fill_fits, old_fill_fits}
 use Rattle.h5_repack.specs.Bodies.Sound.{IsBound, IsPlainArray, IsPlainStorage}
 use Rattle.h5_edit.specs.Fits.Laws.{AreBytes}
@@ -145,7 +147,7 @@ module _ (sizes : List ℕ) (size : ℕ) (body : List ℕ) where
   contiguous_told : (l : Layout) → contiguous_layout (cells sizes * size) body ≡ Some l → IsTold l
   contiguous_told l =
       by_test (nat_le 18 (length body)) _ None l (IsTold l)
-      (λ _. by_test (number_at body 2 8 == undefined) (Some (InBlock None)) _ l (IsTold l) (λ _. block_told None l)
+      (λ _. by_test (number_at body 2 8 == undefined_address) (Some (InBlock None)) _ l (IsTold l) (λ _. block_told None l)
       (by_test (nat_le (cells sizes * size) (number_at body 10 8)) _ None l (IsTold l) (λ _. block_told _ l) (λ none. absurd (cc))))
       (λ none. absurd (cc))
 
@@ -160,14 +162,11 @@ module _ (sizes : List ℕ) (size : ℕ) (body : List ℕ) where
             && not (list_any (λ n. n == 0) (short_numbers_at body 11 (length sizes))) && number_at body (11 + 4 * length sizes) 4 == size) ≡ true
             → length (short_numbers_at body 11 (length sizes)) ≡ length sizes → IsTold (InChunks (short_numbers_at body 11 (length sizes)) (address_from (number_at body 3 8)))
         chunk_sizes is long =
-            let last = both _ (number_at body (11 + 4 * length sizes) 4 == size) is in
-            let some = both _ (not (list_any (λ n. n == 0) (short_numbers_at body 11 (length sizes)))) last.0 in
-            let ranked = (both _ (nat_le 1 (length sizes)) some.0).1 in
+            let last = and_parts _ (number_at body (11 + 4 * length sizes) 4 == size) is in
+            let some = and_parts _ (not (list_any (λ n. n == 0) (short_numbers_at body 11 (length sizes)))) last.0 in
+            let ranked = (and_parts _ (nat_le 1 (length sizes)) some.0).1 in
             let one : 1 ≤ length sizes = grind (arith, nat_tests, ranked) in
-            (omega (arith, one, long), long, not_true _ some.1) where
-              not_true : (b : Bool) → not b ≡ true → b ≡ false
-              not_true false h = refl
-              not_true true h = absurd (cc)
+            (omega (arith, one, long), long, not-true _ some.1)
 
   told : (l : Layout) → layout_of sizes size body ≡ Some l → IsTold l
   unfolding layout_of
@@ -183,29 +182,29 @@ module _ (sizes : List ℕ) (size : ℕ) (body : List ℕ) where
 module _ (image : List ℕ) (low : AreBytes image) (ms : List Message) (bodies : AllByRecursion IsPlainBody ms) (d : Dataset) (blocks : List Block)
     (has : HasDataset image ms d blocks) where
   sound : IsFixed d.fixed
-  sound = option_and_then_some _ (first_body 3 ms) d.fixed has.type (λ body there is. type_sound body d.fixed is)
+  sound = option_and_then_some _ (first_body datatype_kind ms) d.fixed has.array.type (λ body there is. type_sound body d.fixed is)
 
   fill_is : fits d.fixed d.fill ≡ true
   fill_is =
-      subst (λ (v : ℤ). fits d.fixed v ≡ true) (sym has.filled) (chosen_fits d.fixed has.new_fill has.old_fill
-      (filled_fits (fill_value d.fixed) d.fixed (first_body 5 ms) has.new_fill (λ b v there is. fill_fits d.fixed b v sound (first_low ms bodies 5 b there) is) has.new_filled)
-      (filled_fits (old_fill_value d.fixed) d.fixed (first_body 4 ms) has.old_fill (λ b v there is. old_fill_fits d.fixed b v sound (first_low ms bodies 4 b there) is) has.old_filled))
+      subst (λ (v : ℤ). fits d.fixed v ≡ true) (sym (has.array.filled).filled) (chosen_fits d.fixed (has.array.filled).new_fill (has.array.filled).old_fill
+      (filled_fits (fill_value d.fixed) d.fixed (first_body fill_value_kind ms) (has.array.filled).new_fill (λ b v there is. fill_fits d.fixed b v sound (first_low ms bodies 5 b there) is) (has.array.filled).new_filled)
+      (filled_fits (old_fill_value d.fixed) d.fixed (first_body old_fill_value_kind ms) (has.array.filled).old_fill (λ b v there is. old_fill_fits d.fixed b v sound (first_low ms bodies 4 b there) is) (has.array.filled).old_filled))
 
   -- without a fill message the fill is 0
-  zero_fill : count_of 4 ms ≡ 0 → count_of 5 ms ≡ 0 → d.fill ≡ pos 0
+  zero_fill : count_of old_fill_value_kind ms ≡ 0 → count_of fill_value_kind ms ≡ 0 → d.fill ≡ pos 0
   zero_fill none_old none_new =
-      let old : has.old_fill ≡ None = no_fill (old_fill_value d.fixed) 4 ms has.old_fill none_old has.old_filled in
-      let new : has.new_fill ≡ None = no_fill (fill_value d.fixed) 5 ms has.new_fill none_new has.new_filled in
-      has.filled ∙ λ i. chosen_fill (new i) (old i)
+      let old : (has.array.filled).old_fill ≡ None = no_fill (old_fill_value d.fixed) 4 ms (has.array.filled).old_fill none_old (has.array.filled).old_filled in
+      let new : (has.array.filled).new_fill ≡ None = no_fill (fill_value d.fixed) 5 ms (has.array.filled).new_fill none_new (has.array.filled).new_filled in
+      (has.array.filled).filled ∙ λ i. chosen_fill (new i) (old i)
 
   bounds : AllZip IsBound d.sizes d.maxima
   bounds =
-      option_and_then_some extent_of (first_body 1 ms) (record { sizes = d.sizes; maxima = d.maxima }) has.space
-      (λ body there is. read_bounded body (record { sizes = d.sizes; maxima = d.maxima }) (first_low ms bodies 1 body there) is has.small)
+      option_and_then_some extent_of (first_body dataspace_kind ms) (record { sizes = d.sizes; maxima = d.maxima }) has.array.space
+      (λ body there is. read_bounded body (record { sizes = d.sizes; maxima = d.maxima }) (first_low ms bodies 1 body there) is has.array.small)
 
   rank : length d.sizes ≤ 32
   rank =
-      option_and_then_some extent_of (first_body 1 ms) (record { sizes = d.sizes; maxima = d.maxima }) has.space
+      option_and_then_some extent_of (first_body dataspace_kind ms) (record { sizes = d.sizes; maxima = d.maxima }) has.array.space
       (λ body there is. (extent_long body (record { sizes = d.sizes; maxima = d.maxima }) is).1)
 
   abbrev IsLaid : Layout → Type 0
@@ -224,7 +223,7 @@ module _ (image : List ℕ) (low : AreBytes image) (ms : List Message) (bodies :
 
   -- the layout is that of a body
   laid : IsLaid has.layout
-  laid = option_and_then_some _ (first_body 8 ms) has.layout has.laid_out
+  laid = option_and_then_some _ (first_body data_layout_kind ms) has.layout has.array.laid_out
       (λ body there is. laid_so body (first_plain ms bodies 8 body there) has.layout (told d.sizes (d.fixed).size body has.layout is))
 
   data_low : (l : Layout) → IsLaid l → AreDataLow l
@@ -245,7 +244,7 @@ module _ (image : List ℕ) (low : AreBytes image) (ms : List Message) (bodies :
   stored_by (InMessage bytes) is small are = is.0
   stored_by (InBlock b) is small are = go (is_some b && nat_lt 0 (cells d.sizes)) refl where
     go : (stored : Bool) → (is_some b && nat_lt 0 (cells d.sizes)) ≡ stored → IsPlainStorage d (Contiguous stored)
-    go true h = let some : nat_lt 0 (cells d.sizes) ≡ true = (both (is_some b) (nat_lt 0 (cells d.sizes)) h).1 in grind (arith, nat_tests, some)
+    go true h = let some : nat_lt 0 (cells d.sizes) ≡ true = (and_parts (is_some b) (nat_lt 0 (cells d.sizes)) h).1 in grind (arith, nat_tests, some)
     go false h = are ∙ unset_cells image d.fixed d.fill d.sizes b has.chunks h
   stored_by (InChunks chunk root) is small are = record { ranked = is.0; some = is.2; small = small }
 
@@ -265,13 +264,13 @@ module _ (image : List ℕ) (low : AreBytes image) (ms : List Message) (bodies :
   plain_array n room = record {
     ranked = rank;
     bounded = bounds;
-    few = has.small;
+    few = has.array.small;
     fixed = sound;
     sound = dataset_sound;
-    stored = subst (IsPlainStorage d) (sym has.storage) (stored_by has.layout laid has.chunk_small has.cells);
+    stored = subst (IsPlainStorage d) (sym has.storage) (stored_by has.layout laid has.array.chunk_small has.cells);
     unwritten = λ many.
-        let one_space = has.one_space in
-        let one_type = has.one_type in
-        let one_layout = has.one_layout in
+        let one_space = has.array.one_space in
+        let one_type = has.array.one_type in
+        let one_layout = has.array.one_layout in
         zero_fill (omega (arith, many, room, one_space, one_type, one_layout)) (omega (arith, many, room, one_space, one_type, one_layout));
   }

@@ -8,6 +8,7 @@ use Rattle.std.specs.FinMap.{FinMap, entries}
 use Rattle.std.proofs.Math.ListN.{length-map}
 use Rattle.std.proofs.lemmas.Bool.Decides.{nat_tests}
 use Rattle.h5_bytes.specs.declared.Block.{Block}
+use Rattle.h5_model.specs.Format.MessageTypes.{data_layout_kind, dataspace_kind, datatype_kind, fill_value_kind, old_fill_value_kind, symbol_table_kind}
 use Rattle.h5_model.specs.Format.Messages.{Message, count_of}
 use Rattle.h5_model.specs.Tree.Places.{extent_cells}
 use Rattle.h5_model.specs.Format.AttributeBody.{attribute_of}
@@ -58,7 +59,7 @@ length-listed (m ∷ ms) (a ∷ listed) each = omega (arith, length-listed ms li
 
 -- how many messages are of the types that a content has
 abbrev pub content_count : List Message → ℕ
-content_count ms = count_of 1 ms + (count_of 3 ms + (count_of 4 ms + (count_of 5 ms + (count_of 8 ms + count_of 17 ms))))
+content_count ms = count_of dataspace_kind ms + (count_of datatype_kind ms + (count_of old_fill_value_kind ms + (count_of fill_value_kind ms + (count_of data_layout_kind ms + count_of symbol_table_kind ms))))
 
 -- a message has one type
 one_type : (k : ℕ) → cond ((k == 13 || k == 14) || k == 18) 1 0 + cond (k == 12) 1 0

@@ -4,7 +4,7 @@ use Rattle.std.specs.Prelude.{nat_lt, ◌==◌, is_none, if◌then◌else◌}
 use Rattle.std.specs.Option.{option_map_or, option_and_then}
 use Rattle.std.proofs.lemmas.Bool.Decides.{nat_tests}
 use Rattle.h5_model.specs.Tree.Objects.{Tree, Link, ToObject}
-use Rattle.h5_model.specs.Tree.Paths.{Located, Here, Missing, NoParent, NoGroup, NoPath, names_of, locate, located, parent_from, parent_at}
+use Rattle.h5_model.specs.Tree.Paths.{Located, Here, Missing, NoParent, NoGroup, NoPath, names_of, locate, location_of, parent_from, parent_at}
 use Rattle.h5_model.specs.Edits.Refusal.{first_holding, has_no_parent, has_no_group, is_deep, is_here, is_root, last_is_long}
 use Rattle.h5_model.specs.declared.edit_fault.EditFault.{EditFault}
 use Rattle.h5_model.specs.declared.edit_fault.EditFault.TheVariants as fault
@@ -55,7 +55,7 @@ module _ (tree : Tree) (path : List ℕ) where
   long = option_map_or last_is_long (names_of path) false
 
   -- the path of no name leads to the root
-  pub at_root : is_root path ≡ true → located tree path ≡ Here (ToObject 0)
+  pub at_root : is_root path ≡ true → location_of tree path ≡ Here (ToObject 0)
   at_root h = elim (names_of path) as (λ o. option_map_or (λ names. length names == 0) o false ≡ true
       → option_map_or (λ names. locate tree (ToObject 0) names) o NoPath ≡ Here (ToObject 0)) [
         | None ↦ λ no. absurd (cc)
@@ -66,14 +66,14 @@ module _ (tree : Tree) (path : List ℕ) where
         by_names (name ∷ names) none = absurd (let some : length (name ∷ names) ≡ 0 = grind (arith, nat_tests) in omega (arith, some))
 
   pub path_refused : (e : EditFault) → IsNoSpot tree path e → IsNotFree tree path e
-  path_refused e h = table_refused (is_none (names_of path)) (is_deep path) (is_root path) (located tree path) long e at_root h
+  path_refused e h = table_refused (is_none (names_of path)) (is_deep path) (is_root path) (location_of tree path) long e at_root h
 
   module _ (allowed : first_holding (group_rules tree path) ≡ None) where
-    left : path_fault (is_new_fault tree path) ≡ new_rest (is_root path) (located tree path) long
-    left = table_left (is_none (names_of path)) (is_deep path) (is_root path) (located tree path) long allowed
+    left : path_fault (is_new_fault tree path) ≡ new_rest (is_root path) (location_of tree path) long
+    left = table_left (is_none (names_of path)) (is_deep path) (is_root path) (location_of tree path) long allowed
 
     pub root_refused : names_of path ≡ Some [] → IsNotFree tree path fault.IsRoot
-    root_refused none = left ∙ ap (λ root. new_rest root (located tree path) long) (ap (λ o. option_map_or (λ names. length names == 0) o false) none)
+    root_refused none = left ∙ ap (λ root. new_rest root (location_of tree path) long) (ap (λ o. option_map_or (λ names. length names == 0) o false) none)
 
     module _ (parent : ℕ) (name : List ℕ) (there : parent_at tree path ≡ Some (parent, name)) where
       pub below_root : is_root path ≡ false
@@ -93,10 +93,10 @@ module _ (tree : Tree) (path : List ℕ) where
             | Some names ↦ λ is. ap (λ (last : List ℕ). nat_lt 1023 (length last)) (last-parent tree (ToObject 0) names parent name is)
           ] there
 
-      pub taken_refused : (link : Link) → located tree path ≡ Here link → IsNotFree tree path fault.AlreadyThere
+      pub taken_refused : (link : Link) → location_of tree path ≡ Here link → IsNotFree tree path fault.AlreadyThere
       taken_refused link here = left ∙ (λ i. new_rest (below_root i) (here i) long)
 
-      module _ (missing : located tree path ≡ Missing) where
+      module _ (missing : location_of tree path ≡ Missing) where
         by_length : (b : Bool) → nat_lt 1023 (length name) ≡ b → path_fault (is_new_fault tree path) ≡ new_rest false Missing b
         by_length b is = left ∙ (λ i. new_rest (below_root i) (missing i) ((long_is ∙ is) i))
 

@@ -3,7 +3,7 @@ use Rattle.std.proofs.Common.{◌≡◌, ℕ, List, [], ◌∷◌, length, refl,
 use Rattle.std.specs.Prelude.{◌||◌, ◌==◌, is_none}
 use Rattle.std.specs.Option.{option_map_or}
 use Rattle.h5_model.specs.Tree.Objects.{Tree, Link, ToObject, object_of}
-use Rattle.h5_model.specs.Tree.Paths.{Located, Here, Missing, NoParent, NoGroup, NoPath, names_of, located, parent_at}
+use Rattle.h5_model.specs.Tree.Paths.{Located, Here, Missing, NoParent, NoGroup, NoPath, names_of, location_of, parent_at}
 use Rattle.h5_model.specs.Edits.Refusal.{refusal_of, first_holding, is_deep, is_root, has_no_parent, has_no_group, is_missing}
 use Rattle.h5_model.specs.declared.edits.Edit.TheVariants.{Unlink}
 use Rattle.h5_model.specs.declared.edit_fault.EditFault.{EditFault}
@@ -61,7 +61,7 @@ twice false = refl
 
 module _ (tree : Tree) (next : ℕ) (path : List ℕ) where
   abbrev at : Located
-  at = located tree path
+  at = location_of tree path
 
   unlink_table : refusal_of tree next (Unlink path) ≡ verdict (is_none (names_of path)) (is_deep path) (is_root path) at
   unfolding refusal_of

@@ -5,9 +5,8 @@ use Rattle.std.proofs.lemmas.List.{drop_more}
 use Rattle.std.proofs.lemmas.Option.{get_or_from_slice_get, slice_get_within}
 use Rattle.std.specs.Prelude.{◌==◌, if◌then◌else◌}
 use Rattle.std.specs.Option.{option_map_or}
-use Rattle.h5_layout.specs.Described.{Described}
+use Rattle.std.proofs.lemmas.Bool.{not-false}
 use Rattle.h5_model.specs.Edits.Refusal.{refusal_of, rules_of, first_holding, is_chunked, some_above}
-use Rattle.h5_model.specs.Format.Reads.{storage_of}
 use Rattle.h5_model.specs.Scripts.Reading.{dataset_rules}
 use Rattle.h5_model.specs.Tree.Objects.{Tree, Dataset}
 use Rattle.h5_model.specs.Tree.Paths.{dataset_at}
@@ -15,7 +14,8 @@ use Rattle.h5_model.specs.Tree.Places.{extent_cells}
 use Rattle.h5_model.specs.declared.edits.Edit.TheVariants.{Resize}
 use Rattle.h5_model.specs.declared.edit_fault.EditFault.{EditFault}
 use Rattle.h5_model.specs.declared.edit_fault.EditFault.TheVariants as fault
-use Rattle.h5_model.proofs.RefusalLaws.{none_holds, true_of}
+use Rattle.h5_model.specs.Format.Described.{Described, storage_of}
+use Rattle.h5_model.proofs.RefusalLaws.{none_holds}
 use Rattle.h5_query.specs.Data.{dataset_told}
 use Rattle.h5_query.specs.Opened.State.{FileState}
 use Rattle.h5_query.proofs.RuleLaws.{first-behind, first-found}
@@ -107,9 +107,9 @@ can_have f path dims a accepted at =
     let sized = rules.1.1.1.1.1.1.1.1.1.1.1 in
     let stored = sized.1.1.1.1 in
     let rank : (length dims == length a.sizes) ≡ true
-    = true_of _ (sym (ap (λ o. option_map_or (λ (x : Dataset). not (length dims == length x.sizes)) o false) at) ∙ sized.0) in
+    = not-false _ (sym (ap (λ o. option_map_or (λ (x : Dataset). not (length dims == length x.sizes)) o false) at) ∙ sized.0) in
     let chunked : is_chunked (storage_of a.sizes a.layout) ≡ true
-    = true_of _ (sym (ap (λ o. option_map_or (λ (x : Dataset). not (is_chunked x.storage)) o false) at) ∙ stored.0) in
+    = not-false _ (sym (ap (λ o. option_map_or (λ (x : Dataset). not (is_chunked x.storage)) o false) at) ∙ stored.0) in
     let within : some_above dims a.maxima ≡ false
     = sym (ap (λ o. option_map_or (λ (x : Dataset). some_above dims x.maxima) o false) at) ∙ stored.1.0 in
     let many = stored.1.1.1.1.0 in

@@ -5,7 +5,7 @@ use Rattle.std.specs.FinMap.{get, contains_key}
 use Rattle.std.specs.List.{list_any}
 use Rattle.std.specs.Option.{option_map_or, option_and_then}
 use Rattle.h5_model.specs.Tree.Objects.{Tree, Object}
-use Rattle.h5_model.specs.Tree.Paths.{names_of, located, object_at, links_at}
+use Rattle.h5_model.specs.Tree.Paths.{names_of, location_of, object_at, links_at}
 use Rattle.h5_model.specs.Scripts.Reading as reading
 use Rattle.h5_model.specs.Edits.Refusal.{refusal_of, first_holding, some_path, bad_text, is_deep, is_root, unlinks_root, new_path, has_no_parent, has_no_group, not_found, is_missing, is_here, is_soft, is_long, has_many_links}
 use Rattle.h5_model.specs.declared.attribute.AttrSpec.{AttrSpec}
@@ -26,10 +26,10 @@ abbrev asked : Tree → Edit → EditFault → Bool
 asked tree edit fault.BadPath = some_path (λ p. is_none (names_of p)) edit || bad_text edit
 asked tree edit fault.PathTooDeep = some_path is_deep edit
 asked tree edit fault.IsRoot = list_any is_root (new_path edit) || unlinks_root edit
-asked tree edit fault.NoSuchParent = some_path (λ p. has_no_parent (located tree p)) edit
-asked tree edit fault.NotAGroup = some_path (λ p. has_no_group (located tree p)) edit
+asked tree edit fault.NoSuchParent = some_path (λ p. has_no_parent (location_of tree p)) edit
+asked tree edit fault.NotAGroup = some_path (λ p. has_no_group (location_of tree p)) edit
 asked tree edit fault.NotFound = not_found tree edit
-asked tree edit fault.AlreadyThere = list_any (λ p. is_here (located tree p)) (new_path edit)
+asked tree edit fault.AlreadyThere = list_any (λ p. is_here (location_of tree p)) (new_path edit)
 asked tree edit fault.NameTooLong = is_long edit
 asked tree edit _ = false
 
@@ -118,4 +118,4 @@ object_table false false false false false soft = refl
 -- the rules of a path to an object, as those who look at it ask them
 pub object_fault : (tree : Tree) (path : List ℕ) → first_holding (reading.object_rules tree path) ≡ path_fault (is_object_fault tree path)
 object_fault tree path =
-    object_table (is_none (names_of path)) (is_deep path) (has_no_parent (located tree path)) (has_no_group (located tree path)) (is_missing (located tree path)) (is_soft (located tree path))
+    object_table (is_none (names_of path)) (is_deep path) (has_no_parent (location_of tree path)) (has_no_group (location_of tree path)) (is_missing (location_of tree path)) (is_soft (location_of tree path))

@@ -3,7 +3,7 @@ use Rattle.std.proofs.Common.{◌≡◌, ℕ, List, [], ◌∷◌, ◌++◌, ref
 use Rattle.std.specs.Prelude.{MatchResult, nat_le, is_some, if◌then◌else◌}
 use Rattle.std.specs.FinMap.{get}
 use Rattle.h5_model.specs.Tree.Objects.{Tree, Object, Attribute, ToObject}
-use Rattle.h5_model.specs.Tree.Paths.{located, object_at}
+use Rattle.h5_model.specs.Tree.Paths.{location_of, object_at}
 use Rattle.h5_model.specs.Scripts.Reading as reading
 use Rattle.h5_model.specs.Edits.Refusal.{refusal_of, first_holding, is_soft}
 use Rattle.h5_model.specs.declared.attribute.AttrSpec.{AttrSpec}
@@ -110,7 +110,7 @@ module _ (tree : Tree) (next : ℕ) (path : List ℕ) where
     pub object_allowed : path_fault (is_object_fault tree path) ≡ None
     object_allowed =
         sym (object_fault tree path)
-        ∙ first-behind (reading.path_rules tree path) ((fault.NotFound, is_soft (located tree path)) ∷ []) leads.0
+        ∙ first-behind (reading.path_rules tree path) ((fault.NotFound, is_soft (location_of tree path)) ∷ []) leads.0
         ∙ rw leads.1 refl
 
     pub object_is : object_at tree path ≡ Some number

@@ -6,12 +6,12 @@ use Rattle.std.specs.List.{list_any}
 use Rattle.h5_layout.specs.HeldChunks.{held_cells, held_chunks}
 use Rattle.h5_model.specs.Format.Layout.{Layout, InMessage, InBlock, InChunks}
 use Rattle.h5_model.specs.Format.Messages.{Message}
+use Rattle.h5_model.specs.Format.Described.{Described, described_dataset}
 use Rattle.h5_model.specs.Tree.Objects.{Dataset, Chunked}
 use Rattle.h5_model.specs.Tree.Places.{cells}
 use Rattle.h5_model.specs.declared.dataset.Store.{Store}
 use Rattle.h5_model.specs.declared.dataset.Store.TheVariants as store
 use Rattle.h5_query.specs.Data.{stored_chunks}
-use Rattle.h5_query.specs.Described.{Described, described_dataset}
 use Rattle.h5_query.specs.Stored.{AreFilled, AreStored}
 use Rattle.h5_query.specs.Told.{array_told}
 use Rattle.h5_repack.specs.Objects.Objects.{content_chunks}
@@ -43,12 +43,12 @@ AreChunksKept image ms d content = (chunk : List ℕ) → d.storage ≡ Chunked 
 -- ---- of a new array
 
 -- chunk sizes that can be named
-abbrev pub HasChunkSizes : Store → Type 0
+abbrev pub HasChunkSizes : Store (List ℕ) → Type 0
 HasChunkSizes (store.Chunked chunk) = (length chunk ≤ 32) × (list_any (λ n. n == 0) chunk ≡ false)
 HasChunkSizes _ = Unit {0}
 
 -- a layout of cells none of which stands anywhere yet; a message with room for any compact cells
-abbrev pub IsNewLayout : Store → Layout → Type 0
+abbrev pub IsNewLayout : Store (List ℕ) → Layout → Type 0
 IsNewLayout store.Compact (InMessage bytes) = length bytes ≡ 65524
 IsNewLayout store.Contiguous (InBlock b) = b ≡ None
 IsNewLayout (store.Chunked chunk) (InChunks sizes root) = (sizes ≡ chunk) × (root ≡ None)

@@ -1,9 +1,9 @@
 -- Edits of an opened image that no rule of its tree refuses, and where they take place.
 use Rattle.std.specs.Prelude.{◌≡◌, ℕ, ℤ, true, Some, None, List, length}
 use Rattle.std.specs.List.{list_all}
-use Rattle.h5_layout.specs.Described.{Described}
 use Rattle.h5_layout.specs.Standing.{IsStandingAt}
 use Rattle.h5_model.specs.Format.Fixed.{fits}
+use Rattle.h5_model.specs.Format.Described.{Described}
 use Rattle.h5_model.specs.Tree.Paths.{dataset_at, object_at, parent_at}
 use Rattle.h5_model.specs.Edits.Refusal.{refusal_of}
 use Rattle.h5_model.specs.Tree.Objects.{Tree, Dataset}

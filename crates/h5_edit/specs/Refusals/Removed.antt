@@ -2,7 +2,7 @@
 use Rattle.std.specs.Prelude.{◌≡◌, ℕ, Some, None, List}
 use Rattle.h5_model.specs.Edits.Refusal.{refusal_of}
 use Rattle.h5_model.specs.Tree.Objects.{Tree, Link, object_of}
-use Rattle.h5_model.specs.Tree.Paths.{Here, located, parent_at}
+use Rattle.h5_model.specs.Tree.Paths.{Here, location_of, parent_at}
 use Rattle.h5_model.specs.declared.edits.Edit.TheVariants.{Unlink}
 use Rattle.h5_edit.specs.declared.rules.unlink.Removal.{Removal}
 
@@ -11,5 +11,5 @@ pub record IsRemoval (tree : Tree) (next : ℕ) (path : List ℕ) (r : Removal) 
   pub allowed : refusal_of tree next (Unlink path) ≡ None
   pub parent : parent_at tree path ≡ Some (r.parent, r.name.now)
   pub link : Link
-  pub stands : located tree path ≡ Here link
+  pub stands : location_of tree path ≡ Here link
   pub leads : r.object ≡ object_of link

@@ -7,7 +7,7 @@ use Rattle.h5_model.specs.Format.Fixed.{Fixed, fits}
 use Rattle.h5_model.specs.Tree.Places.{cells, extent_cells}
 use Rattle.h5_model.specs.Format.Sizes.{attribute_size}
 use Rattle.h5_model.specs.Tree.Objects.{Tree, ToObject, links_of, hard_links}
-use Rattle.h5_model.specs.Tree.Paths.{names_of, located, parent_at}
+use Rattle.h5_model.specs.Tree.Paths.{names_of, location_of, parent_at}
 use Rattle.h5_model.specs.Views.Selection.{axes_of, selected_cells}
 use Rattle.h5_model.specs.Edits.Refusal.{is_deep, is_root, has_no_parent, has_no_group, is_missing, is_here, is_soft, last_is_long, is_no_text, are_maxima, is_store, chunk_is_large, compact_is_large}
 use Rattle.h5_model.specs.declared.attribute.AttrSpec.{AttrSpec}
@@ -40,9 +40,9 @@ abbrev pub is_new_fault : Tree → List ℕ → EditFault → Bool
 is_new_fault tree path fault.BadPath = is_none (names_of path)
 is_new_fault tree path fault.PathTooDeep = is_deep path
 is_new_fault tree path fault.IsRoot = is_root path
-is_new_fault tree path fault.NoSuchParent = has_no_parent (located tree path)
-is_new_fault tree path fault.NotAGroup = has_no_group (located tree path)
-is_new_fault tree path fault.AlreadyThere = is_here (located tree path)
+is_new_fault tree path fault.NoSuchParent = has_no_parent (location_of tree path)
+is_new_fault tree path fault.NotAGroup = has_no_group (location_of tree path)
+is_new_fault tree path fault.AlreadyThere = is_here (location_of tree path)
 is_new_fault tree path fault.NameTooLong = option_map_or last_is_long (names_of path) false
 is_new_fault tree path _ = false
 
@@ -50,9 +50,9 @@ is_new_fault tree path _ = false
 abbrev pub is_object_fault : Tree → List ℕ → EditFault → Bool
 is_object_fault tree path fault.BadPath = is_none (names_of path)
 is_object_fault tree path fault.PathTooDeep = is_deep path
-is_object_fault tree path fault.NoSuchParent = has_no_parent (located tree path)
-is_object_fault tree path fault.NotAGroup = has_no_group (located tree path)
-is_object_fault tree path fault.NotFound = is_missing (located tree path) || is_soft (located tree path)
+is_object_fault tree path fault.NoSuchParent = has_no_parent (location_of tree path)
+is_object_fault tree path fault.NotAGroup = has_no_group (location_of tree path)
+is_object_fault tree path fault.NotFound = is_missing (location_of tree path) || is_soft (location_of tree path)
 is_object_fault tree path _ = false
 
 -- the rules of the text of a soft link

@@ -9,7 +9,7 @@ ghost use Rattle.h5_repack.specs.declared.blocks.cells.Cells.TheVariants.{Filled
 ghost use Rattle.h5_edit.specs.Changed.Cells.{HasChunkSizes, IsNewLayout, new_count};
 
 use h5_layout::ChunkSizes;
-use h5_model::{Spec, Store};
+use h5_model::{Items, Spec, Store};
 use h5_query::{ArrayRef, Dims, Layout};
 
 /// As many bytes as the cells of a compact array may have. The layout of one names bytes of its cells, and a new array has none that it
@@ -28,7 +28,7 @@ pub(crate) fn array_from<'a>(spec: &'a Spec) -> ArrayRef<'a>
 }
 
 /// A layout of cells that are to be stored so, none of which stands anywhere yet.
-fn layout_from(store: &Store) -> Layout<'_>
+fn layout_from(store: &Store<Items<u32>>) -> Layout<'_>
     requires { HasChunkSizes store.now }
     ensures { IsNewLayout store.now (layout_in result) }
 {

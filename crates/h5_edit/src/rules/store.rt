@@ -11,7 +11,7 @@ ghost use Rattle.h5_edit.specs.Changed.Cells.{HasChunkSizes};
 use crate::rules::limits::{MAX_CHUNK, MAX_COMPACT};
 use h5_bytes::UNDEF;
 use h5_layout::ChunkSizes;
-use h5_model::Store;
+use h5_model::{Items, Store};
 use h5_query::Dims;
 
 /// Whether there is a maximum for each size, none below it, and none the mark of an unlimited one.
@@ -40,7 +40,7 @@ fn is_maximum(size: u64, maximum: Option<u64>) -> bool
 }
 
 /// Whether the cells may be stored so: unless in chunks, each size is its own maximum.
-pub(crate) fn is_store(store: &Store, sizes: &[u64], maxima: &[Option<u64>]) -> bool
+pub(crate) fn is_store(store: &Store<Items<u32>>, sizes: &[u64], maxima: &[Option<u64>]) -> bool
     ensures { result ≡ rule.is_store store.now sizes.now maxima.now }
 {
     match store {
@@ -86,7 +86,7 @@ fn is_chunk_size(size: u32, maximum: Option<u64>) -> bool
 }
 
 /// Whether a chunk of cells of so many bytes would have more than 2^30 bytes.
-pub(crate) fn is_chunk_large(store: &Store, size: usize) -> bool
+pub(crate) fn is_chunk_large(store: &Store<Items<u32>>, size: usize) -> bool
     requires { HasChunkSizes store.now }
     ensures { result ≡ rule.chunk_is_large store.now size }
 {
@@ -100,7 +100,7 @@ pub(crate) fn is_chunk_large(store: &Store, size: usize) -> bool
 }
 
 /// Whether compact cells of so many bytes would have more than 65524 bytes.
-pub(crate) fn is_compact_large(store: &Store, dims: &Dims, size: usize) -> bool
+pub(crate) fn is_compact_large(store: &Store<Items<u32>>, dims: &Dims, size: usize) -> bool
     ensures { result ≡ rule.compact_is_large store.now (cells_of dims.now * size) }
 {
     match store {

@@ -9,9 +9,6 @@ use Rattle.std.proofs.lemmas.Bool.Decides.{nat_tests}
 use Rattle.h5_bytes.specs.Texts.{text_at, until_zero}
 use Rattle.h5_group.specs.Order.Common.{HaveCommon}
 
-order : List ℕ → List ℕ → Bool
-order xs ys = is_lt (slice_cmp nat_cmp xs ys)
-
 -- what is not behind another is before it or the same
 pub turned : (r : Ordering) → not (is_lt (ordering_reverse r)) ≡ is_le r
 turned Less = refl

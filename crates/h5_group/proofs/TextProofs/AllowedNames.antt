@@ -7,10 +7,6 @@ use Rattle.std.proofs.lemmas.List.{take_all}
 use Rattle.h5_bytes.specs.Texts.{text_at, until_zero}
 use Rattle.h5_model.specs.Tree.Paths.{is_name}
 
-pub not_true : (b : Bool) → not b ≡ false → b ≡ true
-not_true true e = refl
-not_true false e = cc
-
 abbrev separates : ℕ → Bool
 separates c = (c == 0) || (c == 47)
 

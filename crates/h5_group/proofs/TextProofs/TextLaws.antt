@@ -36,7 +36,7 @@ use Rattle.h5_group.specs.Texts.Refused.{AreTextsRefused, IsFirstTextFault}
 use Rattle.h5_group.specs.Nodes.Stands.{entries_at, keys_at}
 use Rattle.h5_group.specs.Texts.Linked.{linked_by, linked_at, text_of, IsNamed, IsEntrySound, AreEntriesSound, AreEntriesRefused}
 use Rattle.h5_group.specs.Texts.Taken.{IsSameHeap, TakesLinked, NamesKeys, AreKeysNamed, AreUnsound, AreKeysRefused}
-use Rattle.h5_group.proofs.TextProofs.LinkedLaws.{same_both, segment_same}
+use Rattle.h5_group.proofs.TextProofs.LinkedLaws.{segment_same}
 
 -- ---- the texts of all entries
 
@@ -79,9 +79,6 @@ module _ (image : List ℕ) (heap begun : HeapState) (is : begun ≡ record heap
   taken_begun = subst (λ (s : List ℕ). HasTaken s begun [] []) (sym (segment_same image heap begun same_begun)) empty
 
   module _ (now : HeapState) (offsets : List ℕ) (takes : TakesLinked image begun now offsets) where
-    pub same_now : IsSameHeap heap now
-    same_now = same_both heap begun now same_begun takes.same
-
     pub taken_now : HasTaken (segment_in image now) now offsets []
     taken_now = subst (λ (s : List ℕ). HasTaken s now offsets []) (sym (segment_same image begun now takes.same)) (takes.taken [] taken_begun)
 

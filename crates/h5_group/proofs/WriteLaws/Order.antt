@@ -11,7 +11,7 @@ use Rattle.h5_model.specs.Format.Symbols.{Entry}
 use Rattle.h5_model.specs.Format.Symbols as symbols
 use Rattle.h5_model.proofs.TextOrder.{not_after_itself, before_le, after_trans, not_after_trans}
 use Rattle.h5_heap.specs.Writing.Links.{Leads, ToGroup, ToArray, ToText, target_link}
-use Rattle.h5_heap.specs.Writing.Written.{written_entry, placed, texts_span}
+use Rattle.h5_heap.specs.Writing.Written.{written_entry, links_with_offsets, texts_span}
 use Rattle.h5_group.specs.Writing.Written.{last_name_offset, children_of}
 use Rattle.h5_group.proofs.WriteLaws.NameTrees.{AreOrdered}
 use Rattle.h5_group.proofs.WriteLaws.SymbolNodes.{Placed}
@@ -97,8 +97,8 @@ module _ (segment : List ℕ) where
   abbrev pub AreNamed : List Placed → Type 0
   AreNamed links = AllByRecursion (λ (l : Placed). name_at l.0 ≡ (l.1).0) links
 
-  pub are_named : (at : ℕ) (links : List (List ℕ × Leads)) → map (symbols.link_of segment) (map written_entry (placed at links)) ≡ map target_link links
-      → AreNamed (placed at links)
+  pub are_named : (at : ℕ) (links : List (List ℕ × Leads)) → map (symbols.link_of segment) (map written_entry (links_with_offsets at links)) ≡ map target_link links
+      → AreNamed (links_with_offsets at links)
   are_named at [] same = tt
   are_named at ((name, ToGroup header tree heap) ∷ links) same =
       let parts = cons_same _ _ _ _ same in
@@ -110,8 +110,8 @@ module _ (segment : List ℕ) where
       let parts = cons_same _ _ _ _ same in
       (ap (λ (l : List ℕ × symbols.Target). l.0) parts.0, are_named (at + texts_span (name, ToText text)) links parts.1)
 
-  rises_from : (before at : ℕ) (links : List (List ℕ × Leads)) → AreNamed (placed at links) → Ascend (map target_link links)
-      → ((l : List ℕ × Leads) (more : List (List ℕ × Leads)) → links ≡ l ∷ more → Before (name_at before) l.0) → Rises segment before (placed at links)
+  rises_from : (before at : ℕ) (links : List (List ℕ × Leads)) → AreNamed (links_with_offsets at links) → Ascend (map target_link links)
+      → ((l : List ℕ × Leads) (more : List (List ℕ × Leads)) → links ≡ l ∷ more → Before (name_at before) l.0) → Rises segment before (links_with_offsets at links)
   rises_from before at [] named ascend first = tt
   rises_from before at (l ∷ []) named ascend first = (subst (λ n. Before (name_at before) n) (sym named.0) (first l [] refl), tt)
   rises_from before at (l ∷ m ∷ links) named ascend first = (
@@ -121,8 +121,8 @@ module _ (segment : List ℕ) where
   )
 
   -- they rise from the empty name on
-  pub rises_all : (at : ℕ) (links : List (List ℕ × Leads)) → name_at 0 ≡ [] → AreNamed (placed at links) → Ascend (map target_link links)
-      → AllByRecursion (λ (l : List ℕ × Leads). is_name l.0 ≡ true) links → Rises segment 0 (placed at links)
+  pub rises_all : (at : ℕ) (links : List (List ℕ × Leads)) → name_at 0 ≡ [] → AreNamed (links_with_offsets at links) → Ascend (map target_link links)
+      → AllByRecursion (λ (l : List ℕ × Leads). is_name l.0 ≡ true) links → Rises segment 0 (links_with_offsets at links)
   rises_all at [] none named ascend names = tt
   rises_all at (l ∷ links) none named ascend names = rises_from 0 at (l ∷ links) named ascend
       (λ k more same. subst (λ n. Before n k.0) (sym none) (subst (λ (j : List ℕ × Leads). Before [] j.0) (cons_same l k links more same).0 (empty_before l.0 names.0)))

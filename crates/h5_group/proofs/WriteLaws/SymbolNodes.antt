@@ -3,7 +3,7 @@ use Rattle.std.proofs.Common.{◌≡◌, ℕ, ◌+◌, ◌-◌, ◌*◌, ◌/◌
 use Rattle.std.specs.Prelude.{map}
 use Rattle.std.specs.List.{AllByRecursion, flat_map}
 use Rattle.std.proofs.lemmas.List.{length-map, length-replicate}
-use Rattle.h5_bytes.specs.Bytes.{number_at, little_bytes, undefined}
+use Rattle.h5_bytes.specs.Bytes.{number_at, little_bytes, undefined_address}
 use Rattle.h5_bytes.specs.Numbers.{word, zeros}
 use Rattle.h5_model.specs.Format.Sizes.{symbol_node, text_span}
 use Rattle.h5_model.specs.Format.Symbols.{IsSymbolNode}
@@ -33,7 +33,7 @@ same_entry (at, (name, ToGroup header tree heap)) low =
     ap (λ n. record { name = at; header = header; cache = 1; text = n }) (reads_back 4 tree (little_bytes 4 (tree / 256 / 256 / 256 / 256) ++ word heap) low.3)
 same_entry (at, (name, ToArray header)) low = refl
 same_entry (at, (name, ToText text)) low =
-    ap (λ n. record { name = at; header = undefined; cache = 2; text = n }) (reads_back 4 (at + text_span name) (zeros 12) low.3)
+    ap (λ n. record { name = at; header = undefined_address; cache = 2; text = n }) (reads_back 4 (at + text_span name) (zeros 12) low.3)
 
 -- ---- the entries of a run
 

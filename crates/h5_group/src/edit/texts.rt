@@ -10,7 +10,7 @@ ghost use Rattle.h5_model.specs.Format.Superblock.{leaf_k};
 ghost use Rattle.h5_model.specs.Format.Symbols.{Target, symbols_at};
 ghost use Rattle.h5_space.specs.Moves.{Spends};
 ghost use Rattle.h5_heap.specs.Edited.{HasReleased};
-ghost use Rattle.h5_heap.specs.Inserted.{HasInserted, grown_length, needed, needed_calls};
+ghost use Rattle.h5_heap.specs.Inserted.{HasInserted, grown_length, needed_bytes, needed_calls};
 ghost use Rattle.h5_group.specs.Edited.{IsGroupIn, IsSomeGroup, IsNamedByNoKey, HasGroupMoved, heap_text};
 ghost use Rattle.h5_group.specs.KeptNodes.{AreNodesKept, keys_told};
 ghost use Rattle.h5_group.specs.Told.{symbol_nodes_told};
@@ -30,12 +30,13 @@ use h5_space::Image;
 pub(crate) fn add_text(image: &mut Image, table: SymbolTable, text: &[u8], room: u64) -> u64
     requires group { (spare : List ℕ) × IsSomeGroup image.old table spare }
     requires plain { has_zero text.now ≡ false }
-    requires low { needed image.old.bytes table.heap (span_of_text text.now) room ≤ 2 ^ 31 }
-    requires bytes { needed image.old.bytes table.heap (span_of_text text.now) room ≤ image.old.room_bytes }
+    requires low { needed_bytes image.old.bytes table.heap (span_of_text text.now) room ≤ 2 ^ 31 }
+    requires bytes { needed_bytes image.old.bytes table.heap (span_of_text text.now) room
+        ≤ image.old.room_bytes }
     requires blocks { needed_calls image.old.bytes table.heap (span_of_text text.now)
         ≤ image.old.room_blocks }
     requires short { length image.old.bytes
-        + needed image.old.bytes table.heap (span_of_text text.now) room < 2 ^ 63 }
+        + needed_bytes image.old.bytes table.heap (span_of_text text.now) room < 2 ^ 63 }
     ensures added { (links : List (List ℕ × Target)) (spare : List ℕ) (blocks : List Block)
         → IsGroupIn image.old table links spare blocks
         → HasGroupMoved image.old image.new table blocks links (result ∷ spare) }
@@ -52,14 +53,14 @@ pub(crate) fn add_text(image: &mut Image, table: SymbolTable, text: &[u8], room:
         → symbols_at image.new.bytes (leaf_k image.new.bytes) node
         ≡ symbols_at image.old.bytes (leaf_k image.old.bytes) node }
     ensures next { (len : ℕ) → len ≤ room
-        → (needed image.old.bytes table.heap (span_of_text text.now) room
-        + needed image.new.bytes table.heap len 0
+        → (needed_bytes image.old.bytes table.heap (span_of_text text.now) room
+        + needed_bytes image.new.bytes table.heap len 0
         ≤ grown_length (segment_block image.old.bytes table.heap).len (span_of_text text.now) room)
         × (needed_calls image.old.bytes table.heap (span_of_text text.now)
         + needed_calls image.new.bytes table.heap len ≤ 2) }
     ensures inserted { HasInserted image.old.bytes image.new.bytes table.heap text.now room result }
     ensures spends { Spends image.old image.new
-        (needed image.old.bytes table.heap (span_of_text text.now) room)
+        (needed_bytes image.old.bytes table.heap (span_of_text text.now) room)
         (needed_calls image.old.bytes table.heap (span_of_text text.now)) }
 {
     insert_in_room(image, table.heap(), text, room)

@@ -9,11 +9,11 @@ use crate::write::places::GroupPlaces;
 use crate::write::symbols::{push_symbol_nodes, symbol_children};
 use h5_btree::{NodeKind, push_tree};
 use h5_heap::{ObjectPlace, push_heap};
-use h5_model::Link;
+use h5_model::{KValues, Link};
 use std::alloc::{AllocError, Global};
 
-/// Appends the B-tree, the heap and the symbol nodes of these links. They begin at the address `at`, and `places`
-/// says how they lie.
+/// Appends the B-tree, the heap and the symbol nodes of these links, for an image with these K values. They begin at the address `at`,
+/// and `places` says how they lie.
 ///
 /// Takes memory for a child of the tree for each symbol node, besides what it appends.
 ///
@@ -23,23 +23,23 @@ use std::alloc::{AllocError, Global};
 pub fn push_links(
     alloc: Global,
     out: &mut Vec<u8>,
-    leaf: u16,
-    internal: u16,
+    k: &KValues,
     at: u64,
     places: &GroupPlaces,
     links: &[Link<'_, ObjectPlace>],
 ) -> Result<(), AllocError>
-    requires k { AreK leaf internal }
-    requires places { ArePlaces leaf internal (map name_and_leads links.now) places.now }
+    requires k { AreK k.now.leaf k.now.internal }
+    requires places { ArePlaces k.now.leaf k.now.internal (map name_and_leads links.now) places.now }
     requires low { at + places.now.length ≤ 2 ^ 31 }
     ensures { OnOk result
-        (out.new.items ≡ out.old.items ++ links_bytes leaf internal at (map name_and_leads links.now)) }
+        (out.new.items ≡ out.old.items
+        ++ links_bytes k.now.leaf k.now.internal at (map name_and_leads links.now)) }
 {
     let heap = at + places.tree;
     let symbols = heap + 32 + places.segment;
-    let children = symbol_children(alloc, leaf, symbols, links)?;
-    push_tree(alloc, out, &NodeKind::group(internal), 0, at, &children)?;
+    let children = symbol_children(alloc, k.leaf, symbols, links)?;
+    push_tree(alloc, out, &NodeKind::group(k.internal), 0, at, &children)?;
     push_heap(out, heap, places.segment, links)?;
-    push_symbol_nodes(out, leaf, links)?;
+    push_symbol_nodes(out, k.leaf, links)?;
     Ok(())
 }

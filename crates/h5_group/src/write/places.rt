@@ -6,7 +6,7 @@ ghost use Rattle.h5_group.specs.Writing.Places.{IsTooLarge, ArePlaces};
 
 use h5_btree::{NodeKind, nodes_over, root_level, rows_of};
 use h5_heap::{ObjectPlace, segment_length};
-use h5_model::Link;
+use h5_model::{KValues, Link};
 use h5_space::MAXIMUM_IMAGE;
 
 /// Why a group's links are not written.
@@ -41,28 +41,25 @@ fn bytes_of(count: u64, size: u64) -> u64
     count * size
 }
 
-/// How the B-tree, the heap and the symbol nodes of these links lie when they are written new. Takes no memory.
+/// How the B-tree, the heap and the symbol nodes of these links lie when they are written new, in an image with these K values. Takes no
+/// memory.
 ///
 /// # Errors
 ///
 /// - `TooLong`: they have more than 2147483648 bytes together.
 /// - `TooDeep`, only where they are not too long: the root of the B-tree would have a level above 15.
-pub fn group_places(
-    leaf: u16,
-    internal: u16,
-    links: &[Link<'_, ObjectPlace>],
-) -> Result<GroupPlaces, GroupFault>
-    requires { AreK leaf internal }
-    ensures { MatchResult result (ArePlaces leaf internal (map name_and_leads links.now))
-        (IsTooLarge leaf internal (map name_and_leads links.now)) }
+pub fn group_places(k: &KValues, links: &[Link<'_, ObjectPlace>]) -> Result<GroupPlaces, GroupFault>
+    requires { AreK k.now.leaf k.now.internal }
+    ensures { MatchResult result (ArePlaces k.now.leaf k.now.internal (map name_and_leads links.now))
+        (IsTooLarge k.now.leaf k.now.internal (map name_and_leads links.now)) }
 {
     let Some(segment) = segment_length(links) else {
         return Err(GroupFault::TooLong);
     };
-    let kind = NodeKind::group(internal);
-    let nodes = rows_of(2 * u64::from(leaf), links.len() as u64);
+    let kind = NodeKind::group(k.internal);
+    let nodes = rows_of(2 * u64::from(k.leaf), links.len() as u64);
     let tree = bytes_of(nodes_over(&kind, nodes), kind.node_length() as u64);
-    let length = tree + 32 + segment + bytes_of(nodes, 8 + 80 * u64::from(leaf));
+    let length = tree + 32 + segment + bytes_of(nodes, 8 + 80 * u64::from(k.leaf));
     if length > MAXIMUM_IMAGE {
         return Err(GroupFault::TooLong);
     }

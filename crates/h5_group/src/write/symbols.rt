@@ -4,7 +4,7 @@ ghost use Rattle.std.specs.List.{flat_map};
 ghost use Rattle.h5_bytes.specs.Numbers.{zeros};
 ghost use Rattle.h5_model.specs.Format.Sizes.{symbol_node};
 ghost use Rattle.h5_heap.specs.Writing.Links.{name_and_leads};
-ghost use Rattle.h5_heap.specs.Writing.Written.{placed, placed_links, texts_span as span};
+ghost use Rattle.h5_heap.specs.Writing.Written.{links_with_offsets, placed_links, texts_span as span};
 ghost use Rattle.h5_group.specs.Writing.Written.{children_of, entry_bytes, last_name_offset, runs_of, written_symbol_node, symbol_for, symbol_nodes};
 ghost use Rattle.h5_snod.specs.Written.{head_bytes};
 
@@ -67,7 +67,8 @@ fn push_entries(
 ) -> Result<u64, AllocError>
     requires { name + sum_by span (map name_and_leads links.now) < 2 ^ 32 }
     ensures entries { OnOk result
-        (out.new.items ≡ out.old.items ++ flat_map entry_bytes (placed name (map name_and_leads links.now))) }
+        (out.new.items ≡ out.old.items
+        ++ flat_map entry_bytes (links_with_offsets name (map name_and_leads links.now))) }
     ensures next { IfOk result (λ n. n ≡ name + sum_by span (map name_and_leads links.now)) }
 {
     let mut at = name;
@@ -91,7 +92,8 @@ fn push_symbol_node(
     requires names { name + sum_by span (map name_and_leads links.now) < 2 ^ 32 }
     ensures node { OnOk result
         (out.new.items
-        ≡ out.old.items ++ written_symbol_node leaf (placed name (map name_and_leads links.now))) }
+        ≡ out.old.items
+        ++ written_symbol_node leaf (links_with_offsets name (map name_and_leads links.now))) }
     ensures next { IfOk result (λ n. n ≡ name + sum_by span (map name_and_leads links.now)) }
 {
     push_head(out, links.len() as u16)?;
@@ -135,7 +137,7 @@ struct Offsets {
 /// The offsets of these links' last name, and behind their texts; the first name stands at this offset.
 fn name_offsets(name: u64, links: &[Link<'_, ObjectPlace>]) -> Offsets
     requires { name + sum_by span (map name_and_leads links.now) < 2 ^ 32 }
-    ensures last { result.last ≡ last_name_offset 0 (placed name (map name_and_leads links.now)) }
+    ensures last { result.last ≡ last_name_offset 0 (links_with_offsets name (map name_and_leads links.now)) }
     ensures next { result.next ≡ name + sum_by span (map name_and_leads links.now) }
 {
     let mut last = 0;

@@ -6,7 +6,7 @@ use Rattle.h5_bytes.specs.Blocks.{holds, cover}
 use Rattle.h5_bytes.specs.declared.Block.{Block}
 use Rattle.h5_bytes.proofs.BlockLaws.{holds-inner, all_append, cover-append}
 use Rattle.h5_model.specs.Format.Messages.{Message, HasMessages, prefix_at, first_size, first_block, continuation, continuations}
-use Rattle.h5_model.specs.Format.Reached.{Named, named, ObjectHeader, Continuation, Reached, block_of}
+use Rattle.h5_model.specs.Format.Reached.{Named, naming_of, ObjectHeader, Continuation, Reached, block_of}
 use Rattle.h5_header.proofs.MetLaws.{IsNamedBy, IsNaming, has_naming, continuation_cases, whole_filled}
 use Rattle.h5_header.proofs.CrossLaws.{heads, filled_heads, head_here}
 use Rattle.h5_space.specs.Walk.Walked.{IsFollowed, IsWalked}
@@ -33,22 +33,22 @@ module _ (image : List ℕ) (header : ℕ) (ms : List Message) (blocks : List Bl
       omega (arith, one, here, within, covered)
 
 module _ (image : List ℕ) (held' : List Block) (followed : List Named) (walked : IsWalked image held' followed)
-    (field header depth : ℕ) (reached : Reached image (named field ObjectHeader header depth))
-    (others : AllByRecursion (IsOther (named field ObjectHeader header depth)) followed)
+    (field header depth : ℕ) (reached : Reached image (naming_of field ObjectHeader header depth))
+    (others : AllByRecursion (IsOther (naming_of field ObjectHeader header depth)) followed)
     (behind : 8 ≤ field) (stands : 1 ≤ cover (field - 8) held')
     (ms : List Message) (blocks : List Block) (has : HasMessages image header ms blocks)
     (now : List Block) (claimed : (p : ℕ) → cover p now ≡ cover p held' + cover p blocks) where
   abbrev field_by : Message → Block → Named
-  field_by m b = named m.at (Continuation header) b.at depth
+  field_by m b = naming_of m.at (Continuation header) b.at depth
 
   -- the field of a message that names a block
   module _ (m : Message) (b : Block) (by : IsNamedBy image header m b) where
     names_block : block_of image (field_by m b) ≡ b
-    names_block = ap (λ (f : ℕ). block_of image (named f (Continuation header) b.at depth)) by.1
+    names_block = ap (λ (f : ℕ). block_of image (naming_of f (Continuation header) b.at depth)) by.1
         ∙ z_block image held' followed walked field header depth reached others behind stands by.0 b by.2
 
     is_reached : Reached image (field_by m b)
-    is_reached = subst (λ (f : ℕ). Reached image (named f (Continuation header) b.at depth)) (sym by.1)
+    is_reached = subst (λ (f : ℕ). Reached image (naming_of f (Continuation header) b.at depth)) (sym by.1)
         (z_reached image held' followed walked field header depth reached others behind stands by.0 b by.2)
 
     is_followed : 1 ≤ heads by.0 ms → IsFollowed image now (field_by m b)
@@ -93,7 +93,7 @@ module _ (image : List ℕ) (held' : List Block) (followed : List Named) (walked
       (one_followed m naming.0 (λ q e. let one : heads q (m ∷ sub) ≡ 1 + heads q sub = head_here q m sub e in omega (arith, one, under q)))
       (all_followed sub (λ q. omega (arith, under q)) naming.1)
 
-  pub header_walked : IsWalked image now ((named field ObjectHeader header depth ∷ continuation_fields header depth ms) ++ followed)
+  pub header_walked : IsWalked image now ((naming_of field ObjectHeader header depth ∷ continuation_fields header depth ms) ++ followed)
   header_walked =
       let naming = has_naming image header ms blocks has in
       record {

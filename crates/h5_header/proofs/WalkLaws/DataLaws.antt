@@ -4,17 +4,18 @@ use Rattle.std.specs.Prelude.{◌==◌, ◌&&◌, nat_le, if◌then◌else◌, o
 use Rattle.std.specs.List.{AllByRecursion, find}
 use Rattle.std.proofs.lemmas.Option.{same_Some}
 use Rattle.std.proofs.lemmas.Bool.Decides.{nat_tests}
-use Rattle.h5_bytes.specs.Bytes.{number_at, byte_at, undefined}
+use Rattle.h5_bytes.specs.Bytes.{number_at, byte_at, undefined_address}
 use Rattle.h5_bytes.specs.Blocks.{block, Inside}
 use Rattle.h5_bytes.specs.declared.Block.{Block}
 use Rattle.h5_bytes.proofs.FieldLaws.{number_at-part}
 use Rattle.h5_header.proofs.MetLaws.{length-part-le}
+use Rattle.h5_model.specs.Format.MessageTypes.{data_layout_kind}
 use Rattle.h5_model.specs.Format.Messages.{Message, HasMessages, first_body}
 use Rattle.h5_model.specs.Format.Fixed.{Fixed}
 use Rattle.h5_model.specs.Format.Extent.{Extent}
 use Rattle.h5_model.specs.Tree.Places.{cells}
 use Rattle.h5_model.specs.Format.Layout.{InMessage, InBlock, InChunks, layout_of, compact_layout, contiguous_layout, chunked_layout}
-use Rattle.h5_model.specs.Format.Reached.{named, ObjectHeader, Data, Reached, by_block, AllMessages, extent_among, type_among, layout_among, length_of, size_at}
+use Rattle.h5_model.specs.Format.Reached.{naming_of, ObjectHeader, Data, Reached, by_block, AllMessages, extent_among, type_among, layout_among, length_of, size_at}
 use Rattle.h5_header.proofs.WalkLaws.MessagePlaces.{IsPlacedMessage, messages_placed}
 use Rattle.h5_header.proofs.WalkLaws.ListLaws.{all_messages}
 
@@ -31,7 +32,7 @@ abbrev pub IsContiguous : List ℕ → Block → Type 0
 IsContiguous body b = (18 ≤ length body) × (b ≡ block (number_at body 2 8) (number_at body 10 8))
 
 contiguous_is : (need : ℕ) (body : List ℕ) (b : Block) → contiguous_layout need body ≡ Some (InBlock (Some b)) → IsContiguous body b
-contiguous_is need body b is = go (nat_le 18 (length body)) refl (number_at body 2 8 == undefined) (nat_le need (number_at body 10 8)) is where
+contiguous_is need body b is = go (nat_le 18 (length body)) refl (number_at body 2 8 == undefined_address) (nat_le need (number_at body 10 8)) is where
   go : (x : Bool) → nat_le 18 (length body) ≡ x → (y z : Bool)
       → (if x then (if y then Some (InBlock None) else (if z then Some (InBlock (Some (block (number_at body 2 8) (number_at body 10 8)))) else None)) else None) ≡ Some (InBlock (Some b)) → IsContiguous body b
   go true long true z e = absurd (let no : InBlock None ≡ InBlock (Some b) = same_Some (InBlock None) (InBlock (Some b)) e in cc)
@@ -69,7 +70,7 @@ module _ (image : List ℕ) (header : ℕ) (ms : List Message) (blocks : List Bl
     (extent : extent_among ms ≡ Some e) (type : type_among ms ≡ Some t) (layout : layout_among ms ≡ Some (InBlock (Some b))) where
   laid_out : layout_of e.sizes t.size m.body ≡ Some (InBlock (Some b))
   laid_out =
-      let all : option_and_then (λ (x : Extent). option_and_then (λ (y : Fixed). option_and_then (layout_of x.sizes y.size) (first_body 8 ms)) (type_among ms)) (extent_among ms) ≡ Some (InBlock (Some b)) = layout in
+      let all : option_and_then (λ (x : Extent). option_and_then (λ (y : Fixed). option_and_then (layout_of x.sizes y.size) (first_body data_layout_kind ms)) (type_among ms)) (extent_among ms) ≡ Some (InBlock (Some b)) = layout in
       rw (extent, type, first) at all
 
   pub numbers : IsContiguous m.body b
@@ -81,7 +82,7 @@ module _ (image : List ℕ) (header : ℕ) (ms : List Message) (blocks : List Bl
   long : length m.body ≤ size_at image placed.0
   long = subst (λ (bs : List ℕ). length bs ≤ size_at image placed.0) (sym (placed.1).body) (length-part-le (placed.0 + 8) (size_at image placed.0) image)
 
-  pub data_length : (depth : ℕ) → length_of image (named (m.at + 2) Data b.at depth) ≡ b.len
+  pub data_length : (depth : ℕ) → length_of image (naming_of (m.at + 2) Data b.at depth) ≡ b.len
   data_length depth =
       let at = placed.0 in
       let n = size_at image at in
@@ -90,10 +91,10 @@ module _ (image : List ℕ) (header : ℕ) (ms : List Message) (blocks : List Bl
       let said : number_at m.body 10 8 ≡ number_at image (at + 8 + 10) 8 = ap (λ (bs : List ℕ). number_at bs 10 8) (placed.1).body ∙ number_at-part 10 8 (at + 8) n image (omega (arith, numbers.0, long)) in
       ap (λ (p : ℕ). number_at image p 8) over ∙ sym said ∙ ap (λ (c : Block). c.len) (sym numbers.1)
 
-  pub data_reached : (field depth : ℕ) → Reached image (named field ObjectHeader header depth) → Reached image (named (m.at + 2) Data b.at depth)
+  pub data_reached : (field depth : ℕ) → Reached image (naming_of field ObjectHeader header depth) → Reached image (naming_of (m.at + 2) Data b.at depth)
   data_reached field depth reached =
       let all : AllMessages image header ms = all_messages image header ms blocks has inside in
-      by_block {y = named (m.at + 2) Data b.at depth} reached (inr (ms, all, (m, t, InBlock (Some b), first, type, layout, refl)))
+      by_block {y = naming_of (m.at + 2) Data b.at depth} reached (inr (ms, all, (m, t, InBlock (Some b), first, type, layout, refl)))
       (omega (arith, numbers.0, long, (placed.1).there, (placed.1).place))
 
   -- it stands inside the message

@@ -6,7 +6,7 @@ use Rattle.h5_bytes.specs.Bytes.{number_at}
 use Rattle.h5_bytes.specs.Blocks.{block, holds, cover}
 use Rattle.h5_bytes.specs.declared.Block.{Block}
 use Rattle.h5_model.specs.Format.Messages.{prefix_at, first_size}
-use Rattle.h5_model.specs.Format.Reached.{Named, named, ObjectHeader, Continuation, Reached, by_block, block_of, length_of}
+use Rattle.h5_model.specs.Format.Reached.{Named, naming_of, ObjectHeader, Continuation, Reached, by_block, block_of, length_of}
 use Rattle.h5_model.specs.Faults.Breaches.{is_header, IsOverlap}
 use Rattle.h5_model.specs.declared.open_fault.Cause.{Cause}
 use Rattle.h5_model.specs.declared.open_fault.Cause.TheVariants.{Truncated, Overlap, MissingMessage, LinkCount, GroupLinkedTwice, TooLarge, NoMemory}
@@ -16,17 +16,17 @@ use Rattle.h5_header.specs.Walk.Walked.{IsWalked, Breaches}
 use Rattle.h5_header.proofs.WalkLaws.WalkedLaws.{IsOther, overlap_of, not_followed, meet_of, some_length, both_of}
 
 module _ (image : List ℕ) (held' : List Block) (followed : List Named) (walked : IsWalked image held' followed)
-    (field header depth : ℕ) (reached : Reached image (named field ObjectHeader header depth))
-    (others : AllByRecursion (IsOther (named field ObjectHeader header depth)) followed)
+    (field header depth : ℕ) (reached : Reached image (naming_of field ObjectHeader header depth))
+    (others : AllByRecursion (IsOther (naming_of field ObjectHeader header depth)) followed)
     (behind : 8 ≤ field) (stands : 1 ≤ cover (field - 8) held') where
   abbrev pub x : Named
-  x = named field ObjectHeader header depth
+  x = naming_of field ObjectHeader header depth
 
   -- ---- the block that a message names
 
   module _ (at : ℕ) (b : Block) (names : NamesBlock image header at b) where
     abbrev pub z : Named
-    z = named (at + 8) (Continuation header) b.at depth
+    z = naming_of (at + 8) (Continuation header) b.at depth
 
     place : b.at ≡ number_at image (at + 8) 8
     place = ap (λ (c : Block). c.at) names.named
@@ -42,7 +42,7 @@ module _ (image : List ℕ) (held' : List Block) (followed : List Named) (walked
     pub z_reached : Reached image z
     z_reached =
         let there = names.there in
-        by_block {y = z} reached (inl (at, names.fits, names.long, inl (names.kind, ap (λ (n : ℕ). named (at + 8) (Continuation header) n depth) place))) (omega arith)
+        by_block {y = z} reached (inl (at, names.fits, names.long, inl (names.kind, ap (λ (n : ℕ). naming_of (at + 8) (Continuation header) n depth) place))) (omega arith)
 
     module _ (fresh : cover at held' ≡ 0) where
       none : cover (at + 8 - 8) held' ≡ 0

@@ -6,7 +6,7 @@ use Rattle.h5_bytes.specs.declared.Block.{Block}
 use Rattle.h5_bytes.proofs.BlockLaws.{all_append}
 use Rattle.h5_model.specs.Format.Messages.{Message, IsMessage, Fills, FillBlocks, HasMessages, continuations, first_block}
 use Rattle.h5_model.specs.Format.Reached.{Met, at_start, FittingAt, kind_at, size_at}
-use Rattle.h5_header.proofs.MetLaws.{IsMet, all_met, all_naming, fills_naming, next_met, part-there, kind, size, fits, body}
+use Rattle.h5_header.proofs.MetLaws.{IsMet, all_met, all_naming, fills_naming, next_met, part-there, kind, size, fits, body, start}
 
 -- the message's head stands at this place of the image, and the message fits its block
 pub record IsPlacedAt (image : List ℕ) (header : ℕ) (m : Message) (at : ℕ) : Type 0 where
@@ -44,17 +44,14 @@ module _ (image : List ℕ) (header : ℕ) where
     block_placed b (from + 8 + number_at (part b.at b.len image) (from + 2) 2) ms fills.1 (next_met image header b from m fills.0 met),
   )
 
-  start : (b : Block) → IsMet image header b → Met image header (b.at + 0) (b.at + b.len)
-  start b met = let none : b.at + 0 ≡ b.at = omega arith in rw none met
-
   blocks_placed : (waiting : List Block) (parts : List (List Message)) → FillBlocks image waiting parts → AllByRecursion (IsMet image header) waiting
       → AllByRecursion (IsPlacedMessage image header) (flat_map (λ (ms : List Message). ms) parts)
   blocks_placed [] [] fills met = tt
   blocks_placed [] (ms ∷ parts) fills met = absurd fills
   blocks_placed (b ∷ waiting) [] fills met = absurd fills
   blocks_placed (b ∷ waiting) (ms ∷ parts) fills met =
-      let naming = fills_naming image header b 0 ms fills.0 (start b met.0) in
-      all_append (IsPlacedMessage image header) ms (flat_map (λ (x : List Message). x) parts) (block_placed b 0 ms fills.0 (start b met.0))
+      let naming = fills_naming image header b 0 ms fills.0 (start image header b met.0) in
+      all_append (IsPlacedMessage image header) ms (flat_map (λ (x : List Message). x) parts) (block_placed b 0 ms fills.0 (start image header b met.0))
       (blocks_placed (waiting ++ continuations ms) parts fills.1
       (all_append (IsMet image header) waiting (continuations ms) met.1 (all_met image header (continuations ms) (all_naming image header ms naming))))
 

@@ -6,7 +6,7 @@ use Rattle.h5_bytes.specs.Blocks.{holds, cover, Separate}
 use Rattle.h5_bytes.specs.declared.Block.{Block}
 use Rattle.h5_bytes.proofs.BlockLaws.{holds_in, all_append}
 use Rattle.h5_model.specs.Format.Messages.{Message, HasMessages}
-use Rattle.h5_model.specs.Format.Reached.{Named, named, ObjectHeader, Reached}
+use Rattle.h5_model.specs.Format.Reached.{Named, naming_of, ObjectHeader, Reached}
 use Rattle.h5_model.specs.Faults.Breaches.{is_header}
 use Rattle.h5_header.specs.Walk.Walked.{IsWalked, continuation_fields}
 use Rattle.h5_header.specs.Walk.Met.{IsMet, IsHeaderMet, with_header}
@@ -17,12 +17,12 @@ use Rattle.h5_header.proofs.WalkLaws.SpanLaws.{span_of, header_spans, all_low, f
 use Rattle.h5_header.proofs.WalkLaws.DataLaws.{found_all}
 
 pub header_others : (field header depth : ℕ) (followed : List Named) → AllByRecursion (λ (y : Named). y.field ≢ field) followed
-    → AllByRecursion (λ (y : Named). y.at ≡ header → is_header y.role ≡ false) followed → AllByRecursion (IsOther (named field ObjectHeader header depth)) followed
+    → AllByRecursion (λ (y : Named). y.at ≡ header → is_header y.role ≡ false) followed → AllByRecursion (IsOther (naming_of field ObjectHeader header depth)) followed
 header_others field header depth [] fresh alone = tt
 header_others field header depth (y ∷ ys) fresh alone = ((fresh.0, λ e. rw (alone.0 e) refl), header_others field header depth ys fresh.1 alone.1)
 
 module _ (image : List ℕ) (held : List Block) (followed : List Named) (field header depth : ℕ) (is : IsHeaderMet image held followed field header depth) where
-  others : AllByRecursion (IsOther (named field ObjectHeader header depth)) followed
+  others : AllByRecursion (IsOther (naming_of field ObjectHeader header depth)) followed
   others = header_others field header depth followed (is.met).fresh is.alone
 
   module _ (ms : List Message) (blocks : List Block) (has : HasMessages image header ms blocks) (now : List Block)

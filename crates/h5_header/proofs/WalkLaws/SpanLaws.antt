@@ -11,7 +11,7 @@ use Rattle.h5_bytes.specs.declared.Block.{Block}
 use Rattle.h5_bytes.proofs.PartLaws.{length-part}
 use Rattle.h5_bytes.proofs.BlockLaws.{holds_in, holds_join, holds-inner, cover-append, all_append}
 use Rattle.h5_model.specs.Format.Messages.{Message, Fills, FillBlocks, HasMessages, continuation, continuations, first_block, prefix_at, first_size}
-use Rattle.h5_model.specs.Format.Reached.{Named, named, Continuation}
+use Rattle.h5_model.specs.Format.Reached.{Named, naming_of, Continuation}
 use Rattle.h5_header.proofs.MetLaws.{length-part-le}
 use Rattle.h5_header.specs.Walk.Walked.{continuation_fields}
 use Rattle.h5_header.proofs.WalkLaws.MessagePlaces.{IsPlacedMessage}
@@ -81,7 +81,7 @@ module _ (header depth f : ℕ) where
   IsApart y = y.field ≢ f
 
   -- the fields of one message
-  fields_apart : (m : Message) (bs : List Block) → m.at ≢ f → AllByRecursion IsApart (map (λ (b : Block). named m.at (Continuation header) b.at depth) bs)
+  fields_apart : (m : Message) (bs : List Block) → m.at ≢ f → AllByRecursion IsApart (map (λ (b : Block). naming_of m.at (Continuation header) b.at depth) bs)
   fields_apart m [] other = tt
   fields_apart m (b ∷ bs) other = (other, fields_apart m bs other)
 
@@ -89,7 +89,7 @@ module _ (header depth f : ℕ) where
   none_there [] low none = tt
   none_there (m ∷ ms) low none =
       let other : m.at ≢ f = λ e. let here : holds (f - 8) (m.at - 8) (8 + length m.body) ≡ 1 = subst (λ (g : ℕ). holds (g - 8) (m.at - 8) (8 + length m.body) ≡ 1) e (head_in m low.0) in omega (arith, here, none) in
-      all_append IsApart (map (λ (b : Block). named m.at (Continuation header) b.at depth) (continuation m)) (continuation_fields header depth ms)
+      all_append IsApart (map (λ (b : Block). naming_of m.at (Continuation header) b.at depth) (continuation m)) (continuation_fields header depth ms)
       (fields_apart m (continuation m) other) (none_there ms low.1 (omega (arith, none)))
 
   pub found_covers : (k q : ℕ) (ms : List Message) (m : Message) → find (λ (x : Message). x.kind == k) ms ≡ Some m → holds q (m.at - 8) (8 + length m.body) ≤ cover q (map span_of ms)
@@ -117,6 +117,6 @@ module _ (header depth f : ℕ) where
         | false ↦ λ same e.
             let rest = found_covers k q ms m e in
             let other_x : x.at ≢ f = λ at. let here : holds q (x.at - 8) (8 + length x.body) ≡ 1 = subst (λ (g : ℕ). holds (g - 8) (x.at - 8) (8 + length x.body) ≡ 1) at (head_in x low.0) in omega (arith, once q, here, hit, rest) in
-            all_append IsApart (map (λ (b : Block). named x.at (Continuation header) b.at depth) (continuation x)) (continuation_fields header depth ms)
+            all_append IsApart (map (λ (b : Block). naming_of x.at (Continuation header) b.at depth) (continuation x)) (continuation_fields header depth ms)
             (fields_apart x (continuation x) other_x) (inside_apart k ms m other low.1 (λ p. omega (arith, once p)) e from to least)
       ] refl is

@@ -12,8 +12,8 @@ use Rattle.h5_model.specs.Format.Heap.{IsHeap, heap_header, segment_size, segmen
 use Rattle.h5_model.specs.Format.Plain.{heap_header_bytes, texts_bytes, free_head_of}
 use Rattle.h5_model.specs.Format.Sizes.{text_span}
 use Rattle.h5_heap.specs.Writing.Laws.{IsSpelled, IsEntryLow, EntriesLow, IsPlainHeap, HeapReads}
-use Rattle.h5_heap.specs.Writing.Links.{Leads, ToGroup, ToArray, ToText, spelled}
-use Rattle.h5_heap.specs.Writing.Written.{written_entry, placed, texts_span, written_segment, heap_bytes}
+use Rattle.h5_heap.specs.Writing.Links.{Leads, ToGroup, ToArray, ToText, heap_texts}
+use Rattle.h5_heap.specs.Writing.Written.{written_entry, links_with_offsets, texts_span, written_segment, heap_bytes}
 use Rattle.h5_heap.proofs.WriteLaws.Lengths.{links_span, length-used, length-heap_bytes, used-le, segment_is}
 use Rattle.h5_heap.proofs.WriteLaws.Standing.{links_stand, named_from}
 use Rattle.h5_heap.proofs.WriteLaws.Spans.{free_blocks, spans_of}
@@ -22,7 +22,7 @@ use Rattle.h5_heap.proofs.WriteLaws.Form.{size_in_header, place_in_header, heap_
 -- ---- entries
 
 low_from : (links : List (List ℕ × Leads)) (at : ℕ) → AllByRecursion IsSpelled links → at + links_span links < 2 ^ 32
-    → AllByRecursion IsEntryLow (map written_entry (placed at links))
+    → AllByRecursion IsEntryLow (map written_entry (links_with_offsets at links))
 low_from [] at is low = tt
 low_from ((name, ToText text) ∷ links) at is low =
     let sum = sum_by-cons texts_span (name, ToText text) links in
@@ -59,7 +59,7 @@ empty_first links = ap (λ bytes. text_at bytes 0) (segment_is links)
 
 module _ (at : ℕ) (links : List (List ℕ × Leads)) where
   abbrev header : List ℕ
-  header = heap_header_bytes (length (written_segment links)) (free_head_of (spelled links)) (at + 32)
+  header = heap_header_bytes (length (written_segment links)) (free_head_of (heap_texts links)) (at + 32)
 
   header_in : part 0 32 (heap_bytes at links) ≡ header
   unfolding heap_bytes
@@ -83,20 +83,20 @@ module _ (at : ℕ) (links : List (List ℕ × Leads)) where
     size_low : length (written_segment links) < 2 ^ 64
     size_low = omega (arith, length-heap_bytes at links)
 
-    head_low : free_head_of (spelled links) < 2 ^ 64
-    head_low = omega (arith, head_few (length (texts_bytes (spelled links))))
+    head_low : free_head_of (heap_texts links) < 2 ^ 64
+    head_low = omega (arith, head_few (length (texts_bytes (heap_texts links))))
 
     size_is : segment_size (heap_header image at) ≡ length (written_segment links)
-    size_is = ap segment_size header_there ∙ size_in_header (length (written_segment links)) (free_head_of (spelled links)) (at + 32) size_low head_low (omega arith)
+    size_is = ap segment_size header_there ∙ size_in_header (length (written_segment links)) (free_head_of (heap_texts links)) (at + 32) size_low head_low (omega arith)
 
     place_is : segment_place (heap_header image at) ≡ at + 32
-    place_is = ap segment_place header_there ∙ place_in_header (length (written_segment links)) (free_head_of (spelled links)) (at + 32) size_low head_low (omega arith)
+    place_is = ap segment_place header_there ∙ place_in_header (length (written_segment links)) (free_head_of (heap_texts links)) (at + 32) size_low head_low (omega arith)
 
     form : IsHeap (heap_header image at) (written_segment links) (free_blocks links)
     form =
         let used = length-used links in
         subst (λ bytes. IsHeap bytes (written_segment links) (free_blocks links)) (sym header_there)
-        (heap_form_of (texts_bytes (spelled links)) (omega arith) (omega (arith, span_aligned links)) (at + 32)
+        (heap_form_of (texts_bytes (heap_texts links)) (omega arith) (omega (arith, span_aligned links)) (at + 32)
         (omega (arith, length-heap_bytes at links, used-le links)) (omega arith))
 
     plain_heap : AllByRecursion IsSpelled links → IsPlainHeap image at links

@@ -9,13 +9,13 @@ use Rattle.h5_model.specs.Format.Sizes.{text_span}
 use Rattle.h5_bytes.specs.Numbers.{word, zeros}
 use Rattle.h5_model.specs.Format.Plain.{padded_text, texts_bytes, segment_with, heap_header_bytes, free_head_of}
 use Rattle.h5_heap.specs.Writing.Parts.{free_rest}
-use Rattle.h5_heap.specs.Writing.Links.{Leads, ToGroup, ToArray, ToText, spelled}
+use Rattle.h5_heap.specs.Writing.Links.{Leads, ToGroup, ToArray, ToText, heap_texts}
 use Rattle.h5_heap.specs.Writing.Written.{texts_span, written_segment, heap_bytes}
 use Rattle.h5_heap.specs.Writing.Laws.{SegmentLength}
 
 -- the texts of links, padded, one behind another
 abbrev pub link_texts : List (List ℕ × Leads) → List ℕ
-link_texts links = flat_map padded_text (spelled links)
+link_texts links = flat_map padded_text (heap_texts links)
 
 -- the bytes that they occupy
 abbrev pub links_span : List (List ℕ × Leads) → ℕ
@@ -44,7 +44,7 @@ length-link_texts ((name, ToArray header) ∷ links) =
     omega (arith, length-append (padded_text name) (link_texts links), length-padded_text name)
 
 -- how many bytes of a segment are used
-pub length-used : (links : List (List ℕ × Leads)) → length (texts_bytes (spelled links)) ≡ 8 + links_span links
+pub length-used : (links : List (List ℕ × Leads)) → length (texts_bytes (heap_texts links)) ≡ 8 + links_span links
 length-used links = omega (arith, length-append (zeros 8) (link_texts links), length-link_texts links)
 
 -- a segment is its used bytes and what stands behind them
@@ -55,8 +55,8 @@ with_rest used = elim (nat_le (length used) 72) as (λ b. cond b (used ++ (word 
       | false ↦ sym (append-nil used)
     ]
 
-pub segment_is : (links : List (List ℕ × Leads)) → written_segment links ≡ texts_bytes (spelled links) ++ free_rest (8 + links_span links)
-segment_is links = with_rest (texts_bytes (spelled links)) ∙ ap (λ n. texts_bytes (spelled links) ++ free_rest n) (length-used links)
+pub segment_is : (links : List (List ℕ × Leads)) → written_segment links ≡ texts_bytes (heap_texts links) ++ free_rest (8 + links_span links)
+segment_is links = with_rest (texts_bytes (heap_texts links)) ∙ ap (λ n. texts_bytes (heap_texts links) ++ free_rest n) (length-used links)
 
 -- a segment has 88 bytes at least
 length-free_rest : (n : ℕ) → n + length (free_rest n) ≡ (if nat_le n 72 then 88 else n)
@@ -69,13 +69,13 @@ length-free_rest n = elim (leb_tells n 72) [
 
 pub segment_length_is : SegmentLength
 segment_length_is links =
-    ap length (segment_is links) ∙ length-append (texts_bytes (spelled links)) (free_rest (8 + links_span links))
+    ap length (segment_is links) ∙ length-append (texts_bytes (heap_texts links)) (free_rest (8 + links_span links))
     ∙ ap (λ n. n + length (free_rest (8 + links_span links))) (length-used links) ∙ length-free_rest (8 + links_span links)
 
 -- the used bytes are among those of the segment
 pub used-le : (links : List (List ℕ × Leads)) → 8 + links_span links ≤ length (written_segment links)
 used-le links =
-    let parts = ap length (segment_is links) ∙ length-append (texts_bytes (spelled links)) (free_rest (8 + links_span links)) in
+    let parts = ap length (segment_is links) ∙ length-append (texts_bytes (heap_texts links)) (free_rest (8 + links_span links)) in
     omega (arith, length-used links)
 
 pub short_length : (links : List (List ℕ × Leads)) (n : ℕ) → n ≡ 8 + links_span links → n ≤ 72 → 88 ≡ length (written_segment links)
@@ -89,10 +89,10 @@ long_length links n e high =
     e ∙ sym (segment_length_is links ∙ ap (λ b. if b then 88 else 8 + links_span links) test)
 
 -- the first free block stands behind the used bytes
-pub head_is : (links : List (List ℕ × Leads)) → free_head_of (spelled links) ≡ (if nat_le (8 + links_span links) 72 then 8 + links_span links else 1)
+pub head_is : (links : List (List ℕ × Leads)) → free_head_of (heap_texts links) ≡ (if nat_le (8 + links_span links) 72 then 8 + links_span links else 1)
 head_is links = ap (λ n. if nat_le n 72 then n else 1) (length-used links)
 
 -- a heap is its header and its segment
 pub length-heap_bytes : (at : ℕ) (links : List (List ℕ × Leads)) → length (heap_bytes at links) ≡ 32 + length (written_segment links)
 unfolding heap_bytes
-length-heap_bytes at links = length-append (heap_header_bytes (length (written_segment links)) (free_head_of (spelled links)) (at + 32)) (written_segment links)
+length-heap_bytes at links = length-append (heap_header_bytes (length (written_segment links)) (free_head_of (heap_texts links)) (at + 32)) (written_segment links)

@@ -5,7 +5,7 @@ use Rattle.std.specs.Prelude.{nat_le, if◌then◌else◌}
 use Rattle.h5_bytes.specs.Numbers.{zeros}
 use Rattle.h5_model.specs.Format.Plain.{heap_header_bytes, free_head_of}
 use Rattle.h5_heap.specs.Writing.Parts.{free_rest}
-use Rattle.h5_heap.specs.Writing.Links.{Leads, spelled}
+use Rattle.h5_heap.specs.Writing.Links.{Leads, heap_texts}
 use Rattle.h5_heap.specs.Writing.Written.{written_segment, heap_bytes}
 use Rattle.h5_heap.proofs.WriteLaws.Lengths.{link_texts, links_span, segment_is, head_is, used-le}
 
@@ -17,7 +17,7 @@ unfolding heap_bytes
 heap_is at size used links sized counted =
     let segment = segment_is links ∙ ap (λ n. (zeros 8 ++ link_texts links) ++ free_rest n) (sym counted) ∙ append_assoc (zeros 8) (link_texts links) (free_rest used) in
     let head = head_is links ∙ ap (λ n. if nat_le n 72 then n else 1) (sym counted) in
-    ap (λ n. heap_header_bytes n (free_head_of (spelled links)) (at + 32) ++ written_segment links) (sym sized)
+    ap (λ n. heap_header_bytes n (free_head_of (heap_texts links)) (at + 32) ++ written_segment links) (sym sized)
     ∙ ap (λ n. heap_header_bytes size n (at + 32) ++ written_segment links) head
     ∙ ap (λ bytes. heap_header_bytes size (if nat_le used 72 then used else 1) (at + 32) ++ bytes) segment
 

@@ -16,8 +16,8 @@ use Rattle.h5_model.specs.Format.Plain.{texts_bytes}
 use Rattle.h5_model.specs.Format.Sizes.{text_span}
 use Rattle.h5_model.specs.Format.Symbols as symbols
 use Rattle.h5_heap.specs.Writing.Laws.{IsSpelled}
-use Rattle.h5_heap.specs.Writing.Links.{Leads, ToGroup, ToArray, ToText, spelled}
-use Rattle.h5_heap.specs.Writing.Written.{written_entry, placed, texts_span, written_segment}
+use Rattle.h5_heap.specs.Writing.Links.{Leads, ToGroup, ToArray, ToText, heap_texts}
+use Rattle.h5_heap.specs.Writing.Written.{written_entry, links_with_offsets, texts_span, written_segment}
 use Rattle.h5_heap.proofs.WriteLaws.Lengths.{links_span, length-used, used-le, segment_is}
 use Rattle.h5_heap.proofs.WriteLaws.Standing.{StandFrom, stand_on, links_stand}
 
@@ -25,20 +25,20 @@ use Rattle.h5_heap.proofs.WriteLaws.Standing.{StandFrom, stand_on, links_stand}
 
 -- the offsets of their names, and those of the soft links' texts
 abbrev pub names_from : ℕ → List (List ℕ × Leads) → List ℕ
-names_from at links = map (λ (e : symbols.Entry). e.name) (map written_entry (placed at links))
+names_from at links = map (λ (e : symbols.Entry). e.name) (map written_entry (links_with_offsets at links))
 
 abbrev pub texts_from : ℕ → List (List ℕ × Leads) → List ℕ
-texts_from at links = symbols.texts_of (map written_entry (placed at links))
+texts_from at links = symbols.texts_of (map written_entry (links_with_offsets at links))
 
 -- their spans hold each byte from the first name to the end of the last text once
-cover_from : (links : List (List ℕ × Leads)) (segment : List ℕ) (at p : ℕ) → StandFrom segment at (spelled links)
+cover_from : (links : List (List ℕ × Leads)) (segment : List ℕ) (at p : ℕ) → StandFrom segment at (heap_texts links)
     → cover p (map (span_of segment) (names_from at links)) + cover p (map (span_of segment) (texts_from at links)) ≡ holds p at (links_span links)
 cover_from [] segment at p stand = sym (holds_none p at)
 cover_from ((name, ToText text) ∷ links) segment at p stand =
     let first : holds p at (pad8 (length (text_at segment at) + 1)) ≡ holds p at (text_span name) = ap (λ t. holds p at (pad8 (length t + 1))) stand.0 in
     let second : holds p (at + text_span name) (pad8 (length (text_at segment (at + text_span name)) + 1)) ≡ holds p (at + text_span name) (text_span text)
     = ap (λ t. holds p (at + text_span name) (pad8 (length t + 1))) stand.1.0 in
-    let more = cover_from links segment (at + (text_span name + text_span text)) p (stand_on segment at (text_span name) (text_span text) (spelled links) stand.1.1) in
+    let more = cover_from links segment (at + (text_span name + text_span text)) p (stand_on segment at (text_span name) (text_span text) (heap_texts links) stand.1.1) in
     let whole : holds p at (links_span ((name, ToText text) ∷ links)) ≡ holds p at (text_span name + text_span text + links_span links)
     = ap (λ n. holds p at n) (sum_by-cons texts_span (name, ToText text) links) in
     let join = holds_join p at (text_span name + text_span text) (links_span links) in
@@ -60,14 +60,14 @@ cover_from ((name, ToArray header) ∷ links) segment at p stand =
     omega arith
 
 -- where they end at a place or before it, each of their spans does
-inside_from : (links : List (List ℕ × Leads)) (segment : List ℕ) (at end : ℕ) → StandFrom segment at (spelled links) → at + links_span links ≤ end
+inside_from : (links : List (List ℕ × Leads)) (segment : List ℕ) (at end : ℕ) → StandFrom segment at (heap_texts links) → at + links_span links ≤ end
     → Inside end (map (span_of segment) (names_from at links)) × Inside end (map (span_of segment) (texts_from at links))
 inside_from [] segment at end stand low = (tt, tt)
 inside_from ((name, ToText text) ∷ links) segment at end stand low =
     let first : pad8 (length (text_at segment at) + 1) ≡ text_span name = ap (λ t. pad8 (length t + 1)) stand.0 in
     let second : pad8 (length (text_at segment (at + text_span name)) + 1) ≡ text_span text = ap (λ t. pad8 (length t + 1)) stand.1.0 in
     let sum = sum_by-cons texts_span (name, ToText text) links in
-    let more = inside_from links segment (at + (text_span name + text_span text)) end (stand_on segment at (text_span name) (text_span text) (spelled links) stand.1.1) (omega arith) in
+    let more = inside_from links segment (at + (text_span name + text_span text)) end (stand_on segment at (text_span name) (text_span text) (heap_texts links) stand.1.1) (omega arith) in
     ((omega arith, more.0), (omega arith, more.1))
 inside_from ((name, ToGroup header tree heap) ∷ links) segment at end stand low =
     let first : pad8 (length (text_at segment at) + 1) ≡ text_span name = ap (λ t. pad8 (length t + 1)) stand.0 in
@@ -125,7 +125,7 @@ cover_free p used = elim (leb_tells used 72) [
 -- ---- the whole
 
 abbrev pub free_blocks : List (List ℕ × Leads) → List Block
-free_blocks links = free_of (length (texts_bytes (spelled links)))
+free_blocks links = free_of (length (texts_bytes (heap_texts links)))
 
 apart_in : (links : List (List ℕ × Leads)) → AllByRecursion IsSpelled links
     → Separate (block 0 8 ∷ map (span_of (written_segment links)) (names_from 8 links ++ texts_from 8 links ++ []) ++ free_blocks links)
@@ -134,8 +134,8 @@ apart_in links is p =
     let spans = cover_from links (written_segment links) 8 p (links_stand links is) in
     let behind = cover-append p (map (span_of (written_segment links)) (names_from 8 links ++ texts_from 8 links ++ [])) (free_blocks links) in
     let join = holds_join p 0 8 (links_span links) in
-    let used : holds p 0 (length (texts_bytes (spelled links))) ≡ holds p 0 (8 + links_span links) = ap (λ n. holds p 0 n) (length-used links) in
-    let free = cover_free p (length (texts_bytes (spelled links))) in
+    let used : holds p 0 (length (texts_bytes (heap_texts links))) ≡ holds p 0 (8 + links_span links) = ap (λ n. holds p 0 n) (length-used links) in
+    let free = cover_free p (length (texts_bytes (heap_texts links))) in
     omega arith
 
 first_zero : (links : List (List ℕ × Leads)) → byte_at (written_segment links) 0 ≡ 0

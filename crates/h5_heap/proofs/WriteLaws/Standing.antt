@@ -2,17 +2,17 @@
 use Rattle.std.proofs.Common.{◌≡◌, ℕ, zero, suc, ◌+◌, ◌-◌, ◌≤◌, ◌==◌, List, [], ◌∷◌, ◌++◌, map, length, false, refl, sym, ap, ◌∙◌, subst, arith, append_assoc, length-append}
 use Rattle.std.proofs.Math.Seq.{drop-append_seam}
 use Rattle.std.specs.List.{AllByRecursion, flat_map}
+use Rattle.std.proofs.lemmas.Bool.{or_parts}
 use Rattle.h5_bytes.specs.Texts.{until_zero, text_at}
 use Rattle.h5_bytes.specs.Numbers.{zeros}
 use Rattle.h5_model.specs.Format.Plain.{padded_text}
 use Rattle.h5_model.specs.Edits.Refusal.{has_zero}
 use Rattle.h5_model.specs.Format.Sizes.{text_span}
 use Rattle.h5_model.specs.Format.Symbols as symbols
-use Rattle.h5_model.proofs.WithinLaws.{neither}
 use Rattle.h5_heap.specs.Writing.Parts.{free_rest}
 use Rattle.h5_heap.specs.Writing.Laws.{IsSpelled}
-use Rattle.h5_heap.specs.Writing.Links.{Leads, ToGroup, ToArray, ToText, spelled, target_link}
-use Rattle.h5_heap.specs.Writing.Written.{written_entry, placed, written_segment}
+use Rattle.h5_heap.specs.Writing.Links.{Leads, ToGroup, ToArray, ToText, heap_texts, target_link}
+use Rattle.h5_heap.specs.Writing.Written.{written_entry, links_with_offsets, written_segment}
 use Rattle.h5_heap.proofs.WriteLaws.Lengths.{link_texts, links_span, length-padded_text, segment_is}
 
 -- ---- texts
@@ -30,7 +30,7 @@ pub until_padding : (text : List ℕ) (k : ℕ) (rest : List ℕ) → HasNoZero 
 until_padding [] zero rest free some = absurd (omega arith)
 until_padding [] (suc k) rest free some = refl
 until_padding (c ∷ cs) k rest free some =
-    let parts = neither (c == 0) (has_zero cs) free in
+    let parts = or_parts (c == 0) (has_zero cs) free in
     let first : (c == 0) ≡ false = parts.0 in
     rw first (ap (λ t. c ∷ t) (until_padding cs k rest parts.1 some))
 
@@ -56,18 +56,18 @@ texts_stand (text ∷ texts) segment front tail at begins bytes free =
 
 -- ---- links
 
-spelled_free : (links : List (List ℕ × Leads)) → AllByRecursion IsSpelled links → AllByRecursion HasNoZero (spelled links)
+spelled_free : (links : List (List ℕ × Leads)) → AllByRecursion IsSpelled links → AllByRecursion HasNoZero (heap_texts links)
 spelled_free [] is = tt
 spelled_free ((name, ToText text) ∷ links) is = (is.0.0, (is.0.1, spelled_free links is.1))
 spelled_free ((name, ToGroup header tree heap) ∷ links) is = (is.0.0, spelled_free links is.1)
 spelled_free ((name, ToArray header) ∷ links) is = (is.0.0, spelled_free links is.1)
 
 -- the texts of links stand behind the empty name
-pub links_stand : (links : List (List ℕ × Leads)) → AllByRecursion IsSpelled links → StandFrom (written_segment links) 8 (spelled links)
+pub links_stand : (links : List (List ℕ × Leads)) → AllByRecursion IsSpelled links → StandFrom (written_segment links) 8 (heap_texts links)
 links_stand links is =
     let bytes : written_segment links ≡ zeros 8 ++ (link_texts links ++ free_rest (8 + links_span links))
     = segment_is links ∙ append_assoc (zeros 8) (link_texts links) (free_rest (8 + links_span links)) in
-    texts_stand (spelled links) (written_segment links) (zeros 8) (free_rest (8 + links_span links)) 8 refl bytes (spelled_free links is)
+    texts_stand (heap_texts links) (written_segment links) (zeros 8) (free_rest (8 + links_span links)) 8 refl bytes (spelled_free links is)
 
 -- behind two texts
 pub stand_on : (segment : List ℕ) (at a b : ℕ) (texts : List (List ℕ)) → StandFrom segment (at + a + b) texts → StandFrom segment (at + (a + b)) texts
@@ -76,13 +76,13 @@ stand_on segment at a b texts stand =
     subst (λ place. StandFrom segment place texts) same stand
 
 -- each entry names its link
-pub named_from : (links : List (List ℕ × Leads)) (segment : List ℕ) (at : ℕ) → StandFrom segment at (spelled links)
-    → map (symbols.link_of segment) (map written_entry (placed at links)) ≡ map target_link links
+pub named_from : (links : List (List ℕ × Leads)) (segment : List ℕ) (at : ℕ) → StandFrom segment at (heap_texts links)
+    → map (symbols.link_of segment) (map written_entry (links_with_offsets at links)) ≡ map target_link links
 named_from [] segment at stand = refl
 named_from ((name, ToText text) ∷ links) segment at stand =
     let first : text_at segment at ≡ name = stand.0 in
     let second : text_at segment (at + text_span name) ≡ text = stand.1.0 in
-    let more = named_from links segment (at + (text_span name + text_span text)) (stand_on segment at (text_span name) (text_span text) (spelled links) stand.1.1) in
+    let more = named_from links segment (at + (text_span name + text_span text)) (stand_on segment at (text_span name) (text_span text) (heap_texts links) stand.1.1) in
     λ i. (first i, symbols.Text (second i)) ∷ more i
 named_from ((name, ToGroup header tree heap) ∷ links) segment at stand =
     let first : text_at segment at ≡ name = stand.0 in

@@ -35,8 +35,8 @@ abbrev pub target_link : List ℕ × Leads → List ℕ × Target
 target_link l = (l.0, target_of_leads l.1)
 
 -- the texts that stand in the heap: each name, and behind it the text of a soft link
-abbrev pub spelled : List (List ℕ × Leads) → List (List ℕ)
-spelled [] = []
-spelled ((name, ToText text) ∷ links) = name ∷ text ∷ spelled links
-spelled ((name, ToGroup header tree heap) ∷ links) = name ∷ spelled links
-spelled ((name, ToArray header) ∷ links) = name ∷ spelled links
+abbrev pub heap_texts : List (List ℕ × Leads) → List (List ℕ)
+heap_texts [] = []
+heap_texts ((name, ToText text) ∷ links) = name ∷ text ∷ heap_texts links
+heap_texts ((name, ToGroup header tree heap) ∷ links) = name ∷ heap_texts links
+heap_texts ((name, ToArray header) ∷ links) = name ∷ heap_texts links

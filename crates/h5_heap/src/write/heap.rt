@@ -3,7 +3,7 @@ ghost use Rattle.std.specs.Prelude.{◌≡◌, ◌+◌, ◌^◌, ◌<◌, ◌≤
 ghost use Rattle.std.specs.List.{flat_map};
 ghost use Rattle.h5_model.specs.Format.Plain.{padded_text};
 ghost use Rattle.h5_model.specs.Format.Sizes.{text_span as text_size};
-ghost use Rattle.h5_heap.specs.Writing.Links.{name_and_leads, spelled};
+ghost use Rattle.h5_heap.specs.Writing.Links.{name_and_leads, heap_texts};
 ghost use Rattle.h5_heap.specs.Writing.Written.{heap_bytes, written_segment, texts_span as span};
 
 use crate::write::link::ObjectPlace;
@@ -81,7 +81,7 @@ fn free_head(used: u64) -> u64
 /// A link's name, and the text of a soft link.
 fn push_link_texts(out: &mut Vec<u8>, link: &Link<'_, ObjectPlace>) -> Result<(), AllocError>
     ensures { OnOk result
-        (out.new.items ≡ out.old.items ++ flat_map padded_text (spelled (name_and_leads link.now ∷ []))) }
+        (out.new.items ≡ out.old.items ++ flat_map padded_text (heap_texts (name_and_leads link.now ∷ []))) }
 {
     push_text(out, link.name)?;
     match link.to {
@@ -93,7 +93,7 @@ fn push_link_texts(out: &mut Vec<u8>, link: &Link<'_, ObjectPlace>) -> Result<()
 /// The names of these links and the texts of soft links, one behind another.
 fn push_texts(out: &mut Vec<u8>, links: &[Link<'_, ObjectPlace>]) -> Result<(), AllocError>
     ensures { OnOk result
-        (out.new.items ≡ out.old.items ++ flat_map padded_text (spelled (map name_and_leads links.now))) }
+        (out.new.items ≡ out.old.items ++ flat_map padded_text (heap_texts (map name_and_leads links.now))) }
 {
     for link in links {
         push_link_texts(out, link)?;

@@ -1,12 +1,11 @@
 -- An image with a table places its objects in one way: the blocks of a reading are determined too.
 use Rattle.std.proofs.Common.{◌≡◌, ℕ, ◌+◌, ◌*◌, List, [], ◌∷◌, ◌++◌, map, refl, sym, ◌∙◌, ap, ap₂, subst, arith, drop, length, Some, None}
-use Rattle.std.specs.Prelude.{option_and_then}
 use Rattle.std.specs.List.{AllByRecursion}
 use Rattle.std.specs.Ordering.{nat_cmp}
 use Rattle.std.specs.FinMap.{FinMap, get, values}
 use Rattle.h5_bytes.specs.Blocks.{block}
 use Rattle.h5_bytes.specs.declared.Block.{Block}
-use Rattle.h5_model.specs.Format.Messages.{Message, continuations, prefix_at, first_size, first_body}
+use Rattle.h5_model.specs.Format.Messages.{Message, continuations, prefix_at, first_size}
 use Rattle.h5_model.specs.Format.Addresses.{SymbolTable}
 use Rattle.h5_model.specs.Format.Heap.{heap_blocks}
 use Rattle.h5_model.specs.Format.Nodes.{group_kind, chunk_kind, tree_blocks}
@@ -14,12 +13,13 @@ use Rattle.h5_model.specs.Format.Symbols.{Target, symbol_block}
 use Rattle.h5_model.specs.Format.Links.{HasLinks}
 use Rattle.h5_model.specs.Format.Fixed.{Fixed}
 use Rattle.h5_model.specs.Tree.Places.{cells}
-use Rattle.h5_model.specs.Format.Extent.{Extent}
-use Rattle.h5_model.specs.Format.Layout.{Layout, InMessage, InBlock, InChunks, layout_of}
+use Rattle.h5_model.specs.Format.Layout.{Layout, InMessage, InBlock, InChunks}
 use Rattle.h5_model.specs.Format.Chunks.{Chunks, HasChunks}
 use Rattle.h5_model.specs.Tree.Objects.{Tree, Object, Content, Group, Array, Dataset}
 use Rattle.h5_model.specs.Format.Superblock.{leaf_k, internal_k, chunk_k}
 use Rattle.h5_model.specs.Format.Reads.{HasData, HasGroup, HasDataset, HasContent, HasObject, Placed, IsPlaced, ReadsAs}
+use Rattle.h5_model.specs.Format.Described.{Described}
+use Rattle.h5_model.proofs.DescribedLaws.{one_array, in_header}
 use Rattle.h5_model.proofs.OneTree.{one_owned, one_children}
 use Rattle.h5_model.proofs.OneReading.{no_table, some_same, one_messages, one_chunks, one_object, where_of, first_or}
 
@@ -54,14 +54,9 @@ one_group_blocks image messages l m bs cs has has' =
 
 one_dataset_blocks : (image : List ℕ) (messages : List Message) (d e : Dataset) (bs cs : List Block) → HasDataset image messages d bs → HasDataset image messages e cs → bs ≡ cs
 one_dataset_blocks image messages d e bs cs h g =
-    let space = some_same _ _ _ h.space g.space in
-    let sizes : d.sizes ≡ e.sizes = ap (λ (x : Extent). x.sizes) space in
-    let fixed : d.fixed ≡ e.fixed = some_same _ _ _ h.type g.type in
-    let read : option_and_then (layout_of d.sizes (d.fixed).size) (first_body 8 messages) ≡ option_and_then (layout_of e.sizes (e.fixed).size) (first_body 8 messages)
-    = λ i. option_and_then (layout_of (sizes i) ((fixed i).size)) (first_body 8 messages) in
-    let layout : h.layout ≡ g.layout = some_same _ _ _ (sym read ∙ h.laid_out) g.laid_out in
-    let data_there : HasData image e.fixed g.layout h.chunks bs = subst (λ l. HasData image e.fixed l h.chunks bs) layout (subst (λ t. HasData image t h.layout h.chunks bs) fixed h.stored) in
-    one_data_blocks image e.fixed g.layout h.chunks g.chunks bs cs data_there g.stored
+    let same = one_array messages (in_header image messages d bs h) (in_header image messages e cs g) h.array g.array in
+    let stored : HasData image e.fixed g.layout h.chunks bs = subst (λ (a : Described). HasData image a.fixed a.layout h.chunks bs) same h.stored in
+    one_data_blocks image e.fixed g.layout h.chunks g.chunks bs cs stored g.stored
 
 one_content_blocks : (image : List ℕ) (table : FinMap nat_cmp ℕ) (messages : List Message) (a b : Content) (bs cs : List Block)
     → HasContent image table messages a bs → HasContent image table messages b cs → bs ≡ cs

@@ -4,7 +4,8 @@ use Rattle.std.proofs.lemmas.Bool.Decides.{nat_tests}
 use Rattle.std.specs.Prelude.{IsSome, is_some, ◌==◌}
 use Rattle.std.specs.Option.{option_and_then, option_map_or}
 use Rattle.std.specs.FinMap.{get, insert, remove, empty, get-empty}
-use Rattle.h5_model.specs.Edits.Applied.{applied, linked, linked_to, with_links, with_attributes, new_object, new_dataset, attribute_from, written, resized}
+use Rattle.std.proofs.lemmas.Bool.{or_parts}
+use Rattle.h5_model.specs.Edits.Applied.{with_edit, with_link_at, with_hard_link, with_links, with_attributes, new_object, new_dataset, attribute_from, with_selection, with_sizes}
 use Rattle.h5_model.specs.Tree.Paths.{names_of, locate, object_at, object_there, links_at, Located, Here, Missing, NoParent, NoGroup, NoPath}
 use Rattle.h5_model.specs.Edits.Refusal.{refusal_of, rules_of, has_zero, is_no_text}
 use Rattle.h5_model.specs.Views.Selection.{axes_of}
@@ -12,7 +13,6 @@ use Rattle.h5_model.specs.Tree.Objects.{Tree, Object, Group, Array, Dataset, Lin
 use Rattle.h5_model.specs.declared.edits.Edit.TheVariants.{CreateGroup, CreateDataset, HardLink, SoftLink, Unlink, SetAttr, RemoveAttr, Write, Resize}
 use Rattle.h5_model.proofs.PathLaws.{found-locate, found}
 use Rattle.h5_model.proofs.RefusalLaws.{none_holds}
-use Rattle.h5_model.proofs.WithinLaws.{neither}
 use Rattle.h5_laws.specs.Trees.Laws.{SoundApplied}
 use Rattle.h5_laws.specs.Trees.Sound.{IsSoundTree}
 use Rattle.h5_laws.proofs.SoundLaws.Alike.{sound_changed}
@@ -25,7 +25,7 @@ use Rattle.h5_laws.proofs.SoundLaws.NewPaths.{IsFree, new_is_free}
 use Rattle.h5_laws.proofs.SoundLaws.Unlinked.{sound_unlinked}
 
 -- a link at a free path is a link more of the group there
-pub linked_is : (tree : Tree) (path : List ℕ) (link : Link) (f : IsFree tree path) → linked tree path link ≡ one_more tree f.parent f.name link f.group f.free
+pub linked_is : (tree : Tree) (path : List ℕ) (link : Link) (f : IsFree tree path) → with_link_at tree path link ≡ one_more tree f.parent f.name link f.group f.free
 linked_is tree path link f =
     ap (λ (o : Option (ℕ × List ℕ)). option_map_or (λ p. option_map_or (λ x. insert tree p.0 (with_links (λ links. insert links p.1 link) x)) (get tree p.0) tree) o tree) f.found
     ∙ ap (λ (o : Option Object). option_map_or (λ x. insert tree f.parent (with_links (λ links. insert links f.name link) x)) o tree) (f.group).stands
@@ -40,7 +40,7 @@ module _ (tree : Tree) (path : List ℕ) (number : ℕ) (o : Object) (sound : Is
       = none_named tree n (λ a x is. none_some (get tree n) (ap (get tree) (sym same) ∙ fresh) (sound.linked a n x is)) in
       omega (arith, none)
 
-  pub sound_made : IsSoundTree (insert (linked tree path (ToObject number)) number o)
+  pub sound_made : IsSoundTree (insert (with_link_at tree path (ToObject number)) number o)
   sound_made =
       let is = linked_one_more tree f.parent f.name (ToObject number) f.group f.free in
       let more = one_more tree f.parent f.name (ToObject number) f.group f.free in
@@ -68,7 +68,7 @@ bare_array d = record { links = λ name. refl; none = λ n. refl }
 -- ---- a link more, and no object
 
 module _ (tree : Tree) (path : List ℕ) (sound : IsSoundTree tree) (f : IsFree tree path) where
-  pub sound_soft : (text : List ℕ) → has_zero text ≡ false → IsSoundTree (linked tree path (Soft text))
+  pub sound_soft : (text : List ℕ) → has_zero text ≡ false → IsSoundTree (with_link_at tree path (Soft text))
   sound_soft text no_zero =
       let more = one_more tree f.parent f.name (Soft text) f.group f.free in
       let grows = grown_linked tree more f.parent f.name (Soft text) (linked_one_more tree f.parent f.name (Soft text) f.group f.free) in
@@ -84,7 +84,7 @@ module _ (tree : Tree) (path : List ℕ) (sound : IsSoundTree tree) (f : IsFree 
       } in
       subst IsSoundTree (sym (linked_is tree path (Soft text) f)) (sound_grown tree more f.parent f.name (Soft text) sound grows fit)
 
-  pub sound_hard : (n : ℕ) → IsSome (get tree n) → (IsSome (links_of tree n) → ⊥) → hard_links tree n ≤ 65534 → IsSoundTree (linked tree path (ToObject n))
+  pub sound_hard : (n : ℕ) → IsSome (get tree n) → (IsSome (links_of tree n) → ⊥) → hard_links tree n ≤ 65534 → IsSoundTree (with_link_at tree path (ToObject n))
   sound_hard n stands no_group room =
       let more = one_more tree f.parent f.name (ToObject n) f.group f.free in
       let grows = grown_linked tree more f.parent f.name (ToObject n) (linked_one_more tree f.parent f.name (ToObject n) f.group f.free) in
@@ -134,10 +134,10 @@ object_stands tree path m sound is = go (names_of path) is where
 -- ---- a hard link
 
 sound_linked_to : (tree : Tree) (target path : List ℕ) → IsSoundTree tree → IsFree tree path → is_some (links_at tree target) ≡ false
-    → option_map_or (λ number. nat_le 65535 (hard_links tree number)) (object_at tree target) false ≡ false → IsSoundTree (linked_to tree target path)
+    → option_map_or (λ number. nat_le 65535 (hard_links tree number)) (object_at tree target) false ≡ false → IsSoundTree (with_hard_link tree target path)
 sound_linked_to tree target path sound f group many = go (object_at tree target) refl group many where
   go : (o : Option ℕ) → object_at tree target ≡ o → is_some (option_and_then (links_of tree) o) ≡ false
-      → option_map_or (λ number. nat_le 65535 (hard_links tree number)) o false ≡ false → IsSoundTree (option_map_or (λ number. linked tree path (ToObject number)) o tree)
+      → option_map_or (λ number. nat_le 65535 (hard_links tree number)) o false ≡ false → IsSoundTree (option_map_or (λ number. with_link_at tree path (ToObject number)) o tree)
   go None is no_group few = sound
   go (Some n) is no_group few =
       let room : hard_links tree n ≤ 65534 = grind (arith, nat_tests, few) in
@@ -147,7 +147,7 @@ text_rule : (tree : Tree) (next : ℕ) (text path : List ℕ) → refusal_of tre
 unfolding refusal_of
 text_rule tree next text path accepted =
     let rules = none_holds (rules_of tree next (SoftLink text path)) accepted in
-    (neither (length text == 0) (has_zero text) (neither _ (is_no_text text) rules.0).1).1
+    (or_parts (length text == 0) (has_zero text) (or_parts _ (is_no_text text) rules.0).1).1
 
 group_rule : (tree : Tree) (next : ℕ) (target path : List ℕ) → refusal_of tree next (HardLink target path) ≡ None → is_some (links_at tree target) ≡ false
 unfolding refusal_of
@@ -164,7 +164,7 @@ many_rule tree next target path accepted =
 -- ---- every edit
 
 pub sound_applied : SoundApplied
-unfolding applied
+unfolding with_edit
 sound_applied tree number next (CreateGroup path) sound fresh accepted =
     sound_made tree path number (new_object (Group empty)) sound (new_is_free tree next (CreateGroup path) path (inl refl) accepted) fresh bare_group
 sound_applied tree number next (CreateDataset path spec) sound fresh accepted =
@@ -178,5 +178,5 @@ sound_applied tree number next (Unlink path) sound fresh accepted = sound_unlink
 sound_applied tree number next (SetAttr path attr) sound fresh accepted =
     sound_changed tree path (with_attributes (λ m. insert m attr.name (attribute_from attr))) (λ o. refl) sound
 sound_applied tree number next (RemoveAttr path name) sound fresh accepted = sound_changed tree path (with_attributes (λ m. remove m name)) (λ o. refl) sound
-sound_applied tree number next (Write path hyper values) sound fresh accepted = sound_dataset tree path (written (axes_of hyper) values) sound
-sound_applied tree number next (Resize path dims) sound fresh accepted = sound_dataset tree path (resized dims) sound
+sound_applied tree number next (Write path hyper values) sound fresh accepted = sound_dataset tree path (with_selection (axes_of hyper) values) sound
+sound_applied tree number next (Resize path dims) sound fresh accepted = sound_dataset tree path (with_sizes dims) sound

@@ -1,7 +1,7 @@
 -- What is left of a sound tree without a link: an object goes where it loses all its hard links, as each group does to which a path leads
 -- from the link.
 use Rattle.std.proofs.Common.{◌≡◌, ℕ, zero, suc, ◌+◌, ◌≤◌, ◌<◌, Bool, true, false, cond, List, [], ◌∷◌, ◌++◌, length, length-append, refl, sym, ap, ◌∙◌, subst, Option, Some, None, inl, inr, arith}
-use Rattle.std.proofs.lemmas.Bool.{cases_lt}
+use Rattle.std.proofs.lemmas.Bool.{cases_lt, or_cases}
 use Rattle.std.specs.Prelude.{IsSome, is_some, ◌==◌, ◌↔◌}
 use Rattle.std.specs.Option.{option_and_then}
 use Rattle.std.specs.Ordering.{nat_cmp, eq_by_cmp}
@@ -9,7 +9,7 @@ use Rattle.std.specs.List.{Contains, IsDistinct, list_any}
 use Rattle.std.specs.FinMap.{get}
 use Rattle.h5_model.specs.Tree.Objects.{Tree, Object, Content, Group, Array, Links, Link, ToObject, Soft, links_of, link_in, links_to, hard_links, follow, is_reached, only_reached, within_names}
 use Rattle.h5_model.proofs.RowLaws.{equal_number}
-use Rattle.h5_model.proofs.ReachLaws.{either, path-from_is_reached, same_object, within_names-follow}
+use Rattle.h5_model.proofs.ReachLaws.{path-from_is_reached, same_object, within_names-follow}
 use Rattle.h5_laws.proofs.AllReached.{first_link, soft_leads}
 use Rattle.h5_laws.proofs.Lists.{In, in_contains, contains_in}
 use Rattle.h5_laws.proofs.Objects.{follow-more}
@@ -41,7 +41,7 @@ link_held tree n a x is =
 
 passes_in : (n : ℕ) (xs : List ℕ) → list_any (λ x. x == n) xs ≡ true → In n xs
 passes_in n [] is = absurd (let never : false ≡ true = is in cc)
-passes_in n (x ∷ xs) is = elim (either (x == n) (list_any (λ y. y == n) xs) is) [
+passes_in n (x ∷ xs) is = elim (or_cases (x == n) (list_any (λ y. y == n) xs) is) [
   | inl here ↦ inl (equal_number x n here)
   | inr later ↦ inr (passes_in n xs later)
 ]

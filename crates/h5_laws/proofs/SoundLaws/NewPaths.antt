@@ -5,13 +5,13 @@ use Rattle.std.specs.Prelude.{is_some, is_none, ◌==◌, slice_index, drop}
 use Rattle.std.specs.List.{list_any, list_all, slice_split}
 use Rattle.std.specs.Option.{option_and_then, option_map_or}
 use Rattle.std.specs.FinMap.{get}
+use Rattle.std.proofs.lemmas.Bool.{and_parts, or_parts}
 use Rattle.h5_model.specs.declared.edits.Edit.{Edit}
-use Rattle.h5_model.specs.Tree.Paths.{is_name, checked_names, names_of, Located, Here, Missing, NoParent, NoGroup, NoPath, locate, located, parent_from, parent_at}
+use Rattle.h5_model.specs.Tree.Paths.{is_name, checked_names, names_of, Located, Here, Missing, NoParent, NoGroup, NoPath, locate, location_of, parent_from, parent_at}
 use Rattle.h5_model.specs.Edits.Refusal.{new_path, is_deep, is_root, has_no_parent, has_no_group, is_here, refusal_of, rules_of}
 use Rattle.h5_model.specs.Tree.Objects.{Tree, Links, Link, ToObject, Soft, links_of, link_in}
 use Rattle.h5_model.proofs.PathLaws.{is_place, locate-is_place, beside, locate-beside, has_parent, parent_of-has_parent}
 use Rattle.h5_model.proofs.RefusalLaws.{none_holds}
-use Rattle.h5_model.proofs.WithinLaws.{both, neither}
 use Rattle.h5_laws.proofs.Lists.{In}
 use Rattle.h5_laws.proofs.SoundLaws.Depths.{Depth, at_root, deeper}
 use Rattle.h5_laws.proofs.SoundLaws.LinksThere.{GroupAt, group_of}
@@ -60,7 +60,7 @@ last_name tree k n name p deep is =
     let same : (n, name) ≡ p = cc in
     let number : n ≡ p.0 = ap (λ (q : ℕ × List ℕ). q.0) same in
     let named : name ≡ p.1 = ap (λ (q : ℕ × List ℕ). q.1) same in
-    (k, subst (Depth tree k) number deep, refl, λ all. subst (λ (x : List ℕ). is_name x ≡ true) named (both (is_name name) true all).0)
+    (k, subst (Depth tree k) number deep, refl, λ all. subst (λ (x : List ℕ). is_name x ≡ true) named (and_parts (is_name name) true all).0)
 
 parent_above : (tree : Tree) (names : List (List ℕ)) (link : Link) (k : ℕ) (p : ℕ × List ℕ) → ((n : ℕ) → link ≡ ToObject n → Depth tree k n)
     → parent_from tree link names ≡ Some p → Above tree k names p
@@ -72,7 +72,7 @@ parent_above tree (name ∷ next ∷ names) (ToObject n) k p deep is = elim (lin
       | None ↦ λ there no. absurd (let never : None ≡ Some p = no in cc)
       | Some l ↦ λ there rest.
           let below = parent_above tree (next ∷ names) l (suc k) p (λ m e. deeper tree k n m name (deep n refl) (there ∙ ap (λ (x : Link). Some x) e)) rest in
-          (below.0, below.1, omega (arith, below.2), λ all. below.3 (both (is_name name) (list_all is_name (next ∷ names)) all).1)
+          (below.0, below.1, omega (arith, below.2), λ all. below.3 (and_parts (is_name name) (list_all is_name (next ∷ names)) all).1)
     ] refl is
 
 -- ---- a path that leads nowhere yet
@@ -132,16 +132,16 @@ module _ (tree : Tree) (path : List ℕ) where
       let short : length (name ∷ names) ≤ 64 = grind (arith, nat_tests, deep) in
       by_parent (name ∷ names) (parent_from tree (ToObject 0) (name ∷ names)) (parent_of-has_parent tree (ToObject 0) name names (ap has_parent yet)) form short refl yet
 
-  pub free_path : is_none (names_of path) ≡ false → is_deep path ≡ false → is_root path ≡ false → has_no_parent (located tree path) ≡ false
-      → has_no_group (located tree path) ≡ false → is_here (located tree path) ≡ false → IsFree tree path
-  free_path some deep root parent group here = by_names (names_of path) refl some deep root (located tree path) refl parent group here
+  pub free_path : is_none (names_of path) ≡ false → is_deep path ≡ false → is_root path ≡ false → has_no_parent (location_of tree path) ≡ false
+      → has_no_group (location_of tree path) ≡ false → is_here (location_of tree path) ≡ false → IsFree tree path
+  free_path some deep root parent group here = by_names (names_of path) refl some deep root (location_of tree path) refl parent group here
 
 -- ---- the rules
 
 pub none_any : {X : Type 0} (test : X → Bool) (xs : List X) (x : X) → list_any test xs ≡ false → In x xs → test x ≡ false
 none_any test [] x none at = absurd at
-none_any test (y ∷ xs) x none (inl e) = ap test (sym e) ∙ (neither (test y) (list_any test xs) none).0
-none_any test (y ∷ xs) x none (inr at) = none_any test xs x (neither (test y) (list_any test xs) none).1 at
+none_any test (y ∷ xs) x none (inl e) = ap test (sym e) ∙ (or_parts (test y) (list_any test xs) none).0
+none_any test (y ∷ xs) x none (inr at) = none_any test xs x (or_parts (test y) (list_any test xs) none).1 at
 
 -- the new path of an accepted edit is free
 pub new_is_free : (tree : Tree) (next : ℕ) (edit : Edit) (path : List ℕ) → In path (new_path edit) → refusal_of tree next edit ≡ None → IsFree tree path
@@ -150,9 +150,9 @@ new_is_free tree next edit path at accepted =
     let rules = none_holds (rules_of tree next edit) accepted in
     let later = rules.1.1.1 in
     free_path tree path
-    (none_any (λ p. is_none (names_of p)) (new_path edit) path (neither _ _ (neither _ _ rules.0).0).1 at)
-    (none_any is_deep (new_path edit) path (neither _ _ rules.1.0).1 at)
-    (none_any is_root (new_path edit) path (neither _ _ rules.1.1.0).0 at)
-    (none_any (λ p. has_no_parent (located tree p)) (new_path edit) path (neither _ _ later.0).1 at)
-    (none_any (λ p. has_no_group (located tree p)) (new_path edit) path (neither _ _ later.1.0).1 at)
-    (none_any (λ p. is_here (located tree p)) (new_path edit) path later.1.1.1.0 at)
+    (none_any (λ p. is_none (names_of p)) (new_path edit) path (or_parts _ _ (or_parts _ _ rules.0).0).1 at)
+    (none_any is_deep (new_path edit) path (or_parts _ _ rules.1.0).1 at)
+    (none_any is_root (new_path edit) path (or_parts _ _ rules.1.1.0).0 at)
+    (none_any (λ p. has_no_parent (location_of tree p)) (new_path edit) path (or_parts _ _ later.0).1 at)
+    (none_any (λ p. has_no_group (location_of tree p)) (new_path edit) path (or_parts _ _ later.1.0).1 at)
+    (none_any (λ p. is_here (location_of tree p)) (new_path edit) path later.1.1.1.0 at)

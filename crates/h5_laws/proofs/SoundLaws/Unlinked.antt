@@ -3,7 +3,7 @@ use Rattle.std.proofs.Common.{◌≡◌, ℕ, ◌≤◌, List, refl, ap, Option,
 use Rattle.std.specs.Prelude.{is_some}
 use Rattle.std.specs.Option.{option_and_then, option_map_or}
 use Rattle.std.specs.FinMap.{get, insert, remove}
-use Rattle.h5_model.specs.Edits.Applied.{with_links, unlinked}
+use Rattle.h5_model.specs.Edits.Applied.{with_links, without_link_at}
 use Rattle.h5_model.specs.Tree.Paths.{parent_at}
 use Rattle.h5_model.specs.Tree.Objects.{Tree, Object, Content, Group, Array, Links, Link, links_in, links_to, only_reached}
 use Rattle.h5_laws.specs.Trees.Sound.{IsSoundTree}
@@ -69,12 +69,12 @@ fewer_without tree parent name = go (get tree parent) refl where
   go None is = fewer_itself tree
   go (Some o) is = fewer_put tree parent o (without name o) is (still_group name o) (old_links name o) (no_more_links name o)
 
-fewer_unlinked : (tree : Tree) (path : List ℕ) → IsFewer tree (unlinked tree path)
+fewer_unlinked : (tree : Tree) (path : List ℕ) → IsFewer tree (without_link_at tree path)
 fewer_unlinked tree path = go (parent_at tree path) where
   go : (found : Option (ℕ × List ℕ)) → IsFewer tree (option_map_or (λ p. without_link tree p.0 p.1) found tree)
   go None = fewer_itself tree
   go (Some p) = fewer_without tree p.0 p.1
 
 -- whichever link it is
-pub sound_unlinked : (tree : Tree) (path : List ℕ) → IsSoundTree tree → IsSoundTree (only_reached (unlinked tree path))
-sound_unlinked tree path sound = sound_fewer tree (unlinked tree path) (fewer_unlinked tree path) sound
+pub sound_unlinked : (tree : Tree) (path : List ℕ) → IsSoundTree tree → IsSoundTree (only_reached (without_link_at tree path))
+sound_unlinked tree path sound = sound_fewer tree (without_link_at tree path) (fewer_unlinked tree path) sound

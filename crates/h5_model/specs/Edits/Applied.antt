@@ -31,11 +31,11 @@ abbrev pub with_attributes : (Attributes → Attributes) → Object → Object
 with_attributes change o = record o { attributes = change o.attributes }
 
 -- the tree with a link added, or taken away, at a path
-abbrev pub linked : Tree → List ℕ → Link → Tree
-linked tree path link = option_map_or (λ p. with_object tree p.0 (with_links (λ links. insert links p.1 link))) (parent_at tree path) tree
+abbrev pub with_link_at : Tree → List ℕ → Link → Tree
+with_link_at tree path link = option_map_or (λ p. with_object tree p.0 (with_links (λ links. insert links p.1 link))) (parent_at tree path) tree
 
-abbrev pub unlinked : Tree → List ℕ → Tree
-unlinked tree path = option_map_or (λ p. with_object tree p.0 (with_links (λ links. remove links p.1))) (parent_at tree path) tree
+abbrev pub without_link_at : Tree → List ℕ → Tree
+without_link_at tree path = option_map_or (λ p. with_object tree p.0 (with_links (λ links. remove links p.1))) (parent_at tree path) tree
 
 -- the tree with the object at a path changed
 abbrev pub with_object_at : Tree → List ℕ → (Object → Object) → Tree
@@ -46,7 +46,7 @@ abbrev pub new_object : Content → Object
 new_object content = record { content = content; attributes = empty; kept = [] }
 
 -- how the cells of a new array of these sizes are stored: contiguous cells at once
-abbrev pub new_storage : List ℕ → Store → Storage
+abbrev pub new_storage : List ℕ → Store (List ℕ) → Storage
 new_storage sizes store.Compact = Compact
 new_storage sizes store.Contiguous = Contiguous (nat_lt 0 (cells sizes))
 new_storage sizes (store.Chunked chunk) = Chunked chunk
@@ -74,8 +74,8 @@ written_storage places Compact = Compact
 written_storage places (Contiguous stored) = Contiguous (stored || nat_lt 0 (length places))
 written_storage places (Chunked sizes) = Chunked sizes
 
-abbrev pub written : Slab → List ℤ → Dataset → Dataset
-written slab values d = record d {
+abbrev pub with_selection : Slab → List ℤ → Dataset → Dataset
+with_selection slab values d = record d {
   storage = written_storage (selection_of d.sizes slab) d.storage;
   cells = with_cells d.cells (selection_of d.sizes slab) values;
 }
@@ -85,8 +85,8 @@ abbrev pub cell_or_fill : Dataset → List ℕ → ℤ
 cell_or_fill d index = if is_inside d.sizes index then slice_index_or d.cells (place_of d.sizes index) d.fill else d.fill
 
 -- the array with these sizes: its cells stay by their index, the others are the fill
-abbrev pub resized : List ℕ → Dataset → Dataset
-resized sizes d = record d {
+abbrev pub with_sizes : List ℕ → Dataset → Dataset
+with_sizes sizes d = record d {
   sizes = sizes;
   cells = map (λ place. cell_or_fill d (index_of sizes place)) (range_with_len 0 (cells sizes));
 }
@@ -95,20 +95,20 @@ abbrev pub attribute_from : AttrSpec → Attribute
 attribute_from a = record { fixed = a.fixed; sizes = a.dims; values = a.values; body = None }
 
 -- the link that a hard link to a path adds
-abbrev pub linked_to : Tree → List ℕ → List ℕ → Tree
-linked_to tree target path = option_map_or (λ number. linked tree path (ToObject number)) (object_at tree target) tree
+abbrev pub with_hard_link : Tree → List ℕ → List ℕ → Tree
+with_hard_link tree target path = option_map_or (λ number. with_link_at tree path (ToObject number)) (object_at tree target) tree
 
 -- What an accepted edit gives; a new object takes this number.
-unfoldable pub applied : Tree → Edit → ℕ → Tree
-applied tree (CreateGroup path) number = insert (linked tree path (ToObject number)) number (new_object (Group empty))
-applied tree (CreateDataset path spec) number = insert (linked tree path (ToObject number)) number (new_object (Array (new_dataset spec)))
-applied tree (HardLink target path) number = linked_to tree target path
-applied tree (SoftLink text path) number = linked tree path (Soft text)
-applied tree (Unlink path) number = only_reached (unlinked tree path)
-applied tree (SetAttr path attr) number = with_object_at tree path (with_attributes (λ m. insert m attr.name (attribute_from attr)))
-applied tree (RemoveAttr path name) number = with_object_at tree path (with_attributes (λ m. remove m name))
-applied tree (Write path hyper values) number = with_object_at tree path (with_dataset (written (axes_of hyper) values))
-applied tree (Resize path dims) number = with_object_at tree path (with_dataset (resized dims))
+unfoldable pub with_edit : Tree → Edit → ℕ → Tree
+with_edit tree (CreateGroup path) number = insert (with_link_at tree path (ToObject number)) number (new_object (Group empty))
+with_edit tree (CreateDataset path spec) number = insert (with_link_at tree path (ToObject number)) number (new_object (Array (new_dataset spec)))
+with_edit tree (HardLink target path) number = with_hard_link tree target path
+with_edit tree (SoftLink text path) number = with_link_at tree path (Soft text)
+with_edit tree (Unlink path) number = only_reached (without_link_at tree path)
+with_edit tree (SetAttr path attr) number = with_object_at tree path (with_attributes (λ m. insert m attr.name (attribute_from attr)))
+with_edit tree (RemoveAttr path name) number = with_object_at tree path (with_attributes (λ m. remove m name))
+with_edit tree (Write path hyper values) number = with_object_at tree path (with_dataset (with_selection (axes_of hyper) values))
+with_edit tree (Resize path dims) number = with_object_at tree path (with_dataset (with_sizes dims))
 
 -- an edit that makes an object uses up a number
 abbrev pub makes_object : Edit → Bool
@@ -122,7 +122,7 @@ pub record State : Type 0 where
   pub next : ℕ
 
 abbrev pub state_after : State → Edit → State
-state_after s edit = record { tree = applied s.tree edit s.next; next = if makes_object edit then s.next + 1 else s.next }
+state_after s edit = record { tree = with_edit s.tree edit s.next; next = if makes_object edit then s.next + 1 else s.next }
 
 -- the object that the answer to an accepted edit names; a new one has this number
 abbrev pub named_object : Tree → Edit → ℕ → Option ℕ

@@ -41,7 +41,7 @@ new_header s = 16 + array_messages_size 0 s.dims s.maxima (new_storage s.dims s.
 
 abbrev pub contiguous_data : Spec → ℕ
 contiguous_data s = of_store s.store where
-  of_store : Store → ℕ
+  of_store : Store (List ℕ) → ℕ
   of_store store.Contiguous = cells s.dims * (s.fixed).size
   of_store _ = 0
 

@@ -21,9 +21,9 @@ adds_entry (Write path hyper values) = true
 adds_entry _ = false
 
 -- what is given, want of memory too, comes behind the rules of the tree
-abbrev pub chosen : Option EditFault → Option EditFault → Option EditFault
-chosen (Some f) given = Some f
-chosen None given = given
+abbrev pub refusal_or : Option EditFault → Option EditFault → Option EditFault
+refusal_or (Some f) given = Some f
+refusal_or None given = given
 
 -- What an image says of an edit: its length, how many messages the named object's header has, and what the bounds need. Of the tree
 -- that takes the edit's links or chunks, whether its root is at level 15 and has to split for the next one, when so many are added.
@@ -77,4 +77,4 @@ IsGiven f tree edit _ = ⊥
 abbrev pub after_edits : State → List (Edit × Option EditFault) → State
 after_edits s [] = s
 after_edits s (step ∷ steps) =
-    after_edits (if is_none (chosen (refusal_of s.tree s.next step.0) step.1) then state_after s step.0 else s) steps
+    after_edits (if is_none (refusal_or (refusal_of s.tree s.next step.0) step.1) then state_after s step.0 else s) steps

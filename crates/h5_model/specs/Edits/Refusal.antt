@@ -3,13 +3,13 @@ use Rattle.std.specs.Prelude.{ℕ, ◌*◌, ◌^◌, ◌==◌, ◌&&◌, ◌||�
 use Rattle.std.specs.FinMap.{get, contains_key}
 use Rattle.std.specs.List.{list_any, list_all}
 use Rattle.std.specs.Option.{option_map_or, option_and_then}
-use Rattle.h5_bytes.specs.Bytes.{undefined}
+use Rattle.h5_bytes.specs.Bytes.{undefined_address}
 use Rattle.h5_model.specs.Format.Fixed.{fits}
 use Rattle.h5_model.specs.Tree.Places.{cells, extent_cells}
 use Rattle.h5_model.specs.Views.Selection.{Slab, axes_of, has_rank, has_no_stride, overlaps, is_within, selected_cells}
 use Rattle.h5_model.specs.Tree.Objects.{Tree, Soft, Dataset, Storage, Chunked, Object, hard_links, are_sizes}
 use Rattle.h5_model.specs.Format.Sizes.{attribute_size}
-use Rattle.h5_model.specs.Tree.Paths.{names_of, last_of, Located, Here, Missing, NoParent, NoGroup, located, object_at, dataset_at, links_at}
+use Rattle.h5_model.specs.Tree.Paths.{names_of, last_of, Located, Here, Missing, NoParent, NoGroup, location_of, object_at, dataset_at, links_at}
 use Rattle.h5_model.specs.declared.dataset.Store.{Store}
 use Rattle.h5_model.specs.declared.dataset.Store.TheVariants as store
 use Rattle.h5_model.specs.declared.edits.Edit.{Edit}
@@ -89,7 +89,7 @@ needs_object (RemoveAttr path name) = true
 needs_object _ = false
 
 abbrev pub not_found : Tree → Edit → Bool
-not_found tree edit = list_any (λ p. is_missing (located tree p) || (needs_object edit && is_soft (located tree p))) (old_path edit)
+not_found tree edit = list_any (λ p. is_missing (location_of tree p) || (needs_object edit && is_soft (location_of tree p))) (old_path edit)
 
 abbrev pub last_is_long : List (List ℕ) → Bool
 last_is_long names = nat_lt 1023 (length (last_of names))
@@ -109,7 +109,7 @@ dataset_path (Resize path dims) = path ∷ []
 dataset_path _ = []
 
 abbrev pub not_a_dataset : Tree → Edit → Bool
-not_a_dataset tree edit = list_any (λ p. is_here (located tree p) && is_none (dataset_at tree p)) (dataset_path edit)
+not_a_dataset tree edit = list_any (λ p. is_here (location_of tree p) && is_none (dataset_at tree p)) (dataset_path edit)
 
 abbrev pub links_group : Tree → Edit → Bool
 links_group tree (HardLink target path) = is_some (links_at tree target)
@@ -120,7 +120,7 @@ links_group tree _ = false
 -- one maximum for each size: none below it, and none that is the mark of an unlimited one
 abbrev pub is_maximum : ℕ → Option ℕ → Bool
 is_maximum d None = true
-is_maximum d (Some m) = nat_le d m && not (m == undefined)
+is_maximum d (Some m) = nat_le d m && not (m == undefined_address)
 
 abbrev pub are_maxima : List ℕ → List (Option ℕ) → Bool
 are_maxima [] [] = true
@@ -139,7 +139,7 @@ are_chunk_sizes [] (m ∷ ms) = false
 are_chunk_sizes (c ∷ cs) [] = false
 are_chunk_sizes (c ∷ cs) (m ∷ ms) = is_chunk_size c m && are_chunk_sizes cs ms
 
-abbrev pub is_store : Store → List ℕ → List (Option ℕ) → Bool
+abbrev pub is_store : Store (List ℕ) → List ℕ → List (Option ℕ) → Bool
 is_store store.Compact sizes maxima = are_sizes sizes maxima
 is_store store.Contiguous sizes maxima = are_sizes sizes maxima
 is_store (store.Chunked chunk) sizes maxima = nat_lt 0 (length sizes) && are_chunk_sizes chunk maxima
@@ -184,7 +184,7 @@ is_above tree _ = false
 
 -- ---- limits
 
-abbrev pub chunk_is_large : Store → ℕ → Bool
+abbrev pub chunk_is_large : Store (List ℕ) → ℕ → Bool
 chunk_is_large (store.Chunked chunk) size = nat_lt (2 ^ 30) (cells chunk * size)
 chunk_is_large _ size = false
 
@@ -193,7 +193,7 @@ has_large_chunk (CreateDataset path s) = chunk_is_large s.store (s.fixed).size
 has_large_chunk _ = false
 
 -- a layout message's body with the data has at most 65528 bytes
-abbrev pub compact_is_large : Store → ℕ → Bool
+abbrev pub compact_is_large : Store (List ℕ) → ℕ → Bool
 compact_is_large store.Compact bytes = nat_lt 65524 bytes
 compact_is_large _ bytes = false
 
@@ -247,10 +247,10 @@ rules_of tree next edit =
     (fault.BadPath, some_path (λ p. is_none (names_of p)) edit || bad_text edit)
     ∷ (fault.PathTooDeep, some_path is_deep edit)
     ∷ (fault.IsRoot, list_any is_root (new_path edit) || unlinks_root edit)
-    ∷ (fault.NoSuchParent, some_path (λ p. has_no_parent (located tree p)) edit)
-    ∷ (fault.NotAGroup, some_path (λ p. has_no_group (located tree p)) edit)
+    ∷ (fault.NoSuchParent, some_path (λ p. has_no_parent (location_of tree p)) edit)
+    ∷ (fault.NotAGroup, some_path (λ p. has_no_group (location_of tree p)) edit)
     ∷ (fault.NotFound, not_found tree edit)
-    ∷ (fault.AlreadyThere, list_any (λ p. is_here (located tree p)) (new_path edit))
+    ∷ (fault.AlreadyThere, list_any (λ p. is_here (location_of tree p)) (new_path edit))
     ∷ (fault.NameTooLong, is_long edit)
     ∷ (fault.NotADataset, not_a_dataset tree edit)
     ∷ (fault.GroupLink, links_group tree edit)

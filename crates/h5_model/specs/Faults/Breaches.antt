@@ -4,7 +4,7 @@ use Rattle.std.specs.Prelude.{◌≡◌, ◌≢◌, ℕ, ◌+◌, ◌^◌, ◌<�
 use Rattle.std.specs.Ordering.{nat_cmp, eq_by_cmp}
 use Rattle.std.specs.List.{list_any, Contains, IsDistinct}
 use Rattle.std.specs.FinMap.{FinMap}
-use Rattle.h5_bytes.specs.Bytes.{number_at, byte_at, part, undefined}
+use Rattle.h5_bytes.specs.Bytes.{number_at, byte_at, part, undefined_address}
 use Rattle.h5_bytes.specs.Blocks.{cover}
 use Rattle.h5_bytes.specs.declared.Block.{Block}
 use Rattle.h5_model.specs.Format.Superblock.{signature, has_chunk_k, superblock_length, base_place, end_field, driver_place, end_of_file, leaf_k, internal_k}
@@ -33,7 +33,7 @@ FieldBreach bytes Truncated at = (at ≡ (end_field bytes).at) × ((end_of_file 
 FieldBreach bytes SuperblockVersion at = IsTrue (list_any (λ p. p == at) (8 ∷ 9 ∷ 10 ∷ 12 ∷ [])) × ((if at == 8 then 1 else 0) < byte_at bytes at)
 FieldBreach bytes FieldSizes at = IsTrue (list_any (λ p. p == at) (13 ∷ 14 ∷ [])) × (byte_at bytes at ≢ 8)
 FieldBreach bytes BaseAddress at = (at ≡ base_place bytes) × (number_at bytes at 8 ≢ 0)
-FieldBreach bytes Driver at = (at ≡ driver_place bytes) × (number_at bytes at 8 ≢ undefined)
+FieldBreach bytes Driver at = (at ≡ driver_place bytes) × (number_at bytes at 8 ≢ undefined_address)
 FieldBreach bytes KRange at = IsTrue (list_any (λ p. p == at) (k_places bytes)) × ((number_at bytes at 2 ≡ 0) ⊎ (32767 < number_at bytes at 2))
 FieldBreach bytes TooLarge at = (at ≡ (end_field bytes).at) × (2 ^ 31 < end_of_file bytes)
 FieldBreach bytes _ at = ⊥
@@ -124,16 +124,16 @@ ReachedBreach image x Overlap = IsOverlap image x
 ReachedBreach image x cause = IsThere image x x.role × FormBreach image x cause
 
 -- the bytes up to the end of file address
-abbrev pub cut : List ℕ → List ℕ
-cut bytes = take (end_of_file bytes) bytes
+abbrev pub up_to_end : List ℕ → List ℕ
+up_to_end bytes = take (end_of_file bytes) bytes
 
 -- A cause holds at an address: of the superblock, or of a block that is reached in the bytes up to the end of file address. Want of
 -- memory, and what is not read yet, are no breaches.
 abbrev pub Breach : List ℕ → Cause → ℕ → Type 0
 Breach bytes cause at = SuperblockBreach bytes cause at
-    ⊎ ((x : Named) × Reached (cut bytes) x × (x.at ≡ at) × ReachedBreach (cut bytes) x cause)
+    ⊎ ((x : Named) × Reached (up_to_end bytes) x × (x.at ≡ at) × ReachedBreach (up_to_end bytes) x cause)
 
 -- where a cause holds at an address, the bytes read as no tree
 abbrev pub BreachExcludesReads : Type 0
 BreachExcludesReads = (bytes : List ℕ) (cause : Cause) (at : ℕ) → Breach bytes cause at
-    → (table : FinMap nat_cmp ℕ) (tree : Tree) → Reads (cut bytes) table tree → ⊥
+    → (table : FinMap nat_cmp ℕ) (tree : Tree) → Reads (up_to_end bytes) table tree → ⊥

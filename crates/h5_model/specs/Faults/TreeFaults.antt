@@ -3,7 +3,7 @@ use Rattle.std.specs.Prelude.{◌≡◌, ◌≢◌, ℕ, ◌*◌, ◌<◌, ◌�
 use Rattle.std.specs.Ordering.{nat_cmp, is_lt}
 use Rattle.std.specs.Cmp.Lexicographic.{slice_cmp}
 use Rattle.std.specs.List.{flat_map, Contains}
-use Rattle.h5_bytes.specs.Bytes.{byte_at, part, undefined}
+use Rattle.h5_bytes.specs.Bytes.{byte_at, part, undefined_address}
 use Rattle.h5_bytes.specs.Texts.{text_at}
 use Rattle.h5_bytes.specs.declared.Block.{Block}
 use Rattle.h5_model.specs.Format.Superblock.{leaf_k, internal_k}
@@ -32,7 +32,7 @@ SymbolBreach image at =
 
 -- the nearest of these, or the undefined address
 abbrev pub last_or_undefined : List ℕ → ℕ
-last_or_undefined [] = undefined
+last_or_undefined [] = undefined_address
 last_or_undefined (n ∷ []) = n
 last_or_undefined (n ∷ m ∷ more) = last_or_undefined (m ∷ more)
 

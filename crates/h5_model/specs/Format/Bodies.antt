@@ -1,15 +1,15 @@
 -- Bodies of messages as they are written (File Format Specification 3.0, section IV.A.2).
 use Rattle.std.specs.Prelude.{ℕ, ℤ, ◌+◌, ◌-◌, ◌*◌, if◌then◌else◌, Option, Some, None, List, [], ◌∷◌, ◌++◌, length, map, replicate}
 use Rattle.std.specs.List.{flat_map}
-use Rattle.h5_bytes.specs.Bytes.{little_bytes, undefined}
+use Rattle.h5_bytes.specs.Bytes.{little_bytes, undefined_address}
 use Rattle.h5_bytes.specs.Texts.{pad8}
 use Rattle.h5_model.specs.Format.Sizes.{attribute_size, dataspace_length as dataspace_size}
 use Rattle.h5_model.specs.Format.Fixed.{Fixed, bytes_of}
-use Rattle.h5_model.specs.Format.Plain.{padded, padded_text, cells_bytes}
+use Rattle.h5_model.specs.Format.Plain.{with_zeros, padded_text, cells_bytes}
 
 -- a body as a message has it, with zeros up to a multiple of 8 (section IV.A.1.a)
-abbrev pub raised : List ℕ → List ℕ
-raised body = padded body (pad8 (length body))
+abbrev pub padded_body : List ℕ → List ℕ
+padded_body body = with_zeros body (pad8 (length body))
 
 -- two numbers of 8 bytes: a Symbol Table's tree and heap, a Continuation's address and length
 abbrev pub pair_bytes : ℕ → ℕ → List ℕ
@@ -37,7 +37,7 @@ words numbers = flat_map (little_bytes 8) numbers
 
 -- a number, or all ones where there is none: an unlimited maximum, the undefined address
 abbrev pub or_undefined : Option ℕ → ℕ
-or_undefined None = undefined
+or_undefined None = undefined_address
 or_undefined (Some n) = n
 
 -- version 1, rank, no flag, and the sizes
@@ -71,7 +71,7 @@ attribute_head name rank = 1 ∷ 0 ∷ (little_bytes 2 (name + 1) ++ (12 ∷ 0 �
 -- the same, then name, datatype and dataspace, each padded to a multiple of 8
 abbrev pub attribute_front : List ℕ → Fixed → List ℕ → List ℕ
 attribute_front name t sizes =
-    attribute_head (length name) (length sizes) ++ (padded_text name ++ (padded (datatype_bytes t) 16 ++ dataspace_bytes sizes))
+    attribute_head (length name) (length sizes) ++ (padded_text name ++ (with_zeros (datatype_bytes t) 16 ++ dataspace_bytes sizes))
 
 -- the same, these bytes of the values, and zeros, so many bytes in all
 abbrev pub stored_attribute_bytes : List ℕ → Fixed → List ℕ → List ℕ → ℕ → List ℕ

@@ -2,7 +2,7 @@
 use Rattle.std.specs.Prelude.{ℕ, None, List, [], ◌∷◌, ◌++◌}
 use Rattle.std.specs.Ordering.{nat_cmp}
 use Rattle.std.specs.FinMap.{FinMap, empty, insert}
-use Rattle.h5_bytes.specs.Bytes.{undefined}
+use Rattle.h5_bytes.specs.Bytes.{undefined_address}
 use Rattle.h5_model.specs.Format.MessageTypes.{symbol_table_kind}
 use Rattle.h5_model.specs.Format.Nodes.{group_kind}
 use Rattle.h5_bytes.specs.Numbers.{word}
@@ -18,7 +18,7 @@ new_k = record { leaf = 4; internal = 16; chunk = None }
 -- the header at 96 with one message, the node at 136, the heap at 680 and its segment at 712
 unfoldable pub empty_file : List ℕ
 empty_file = superblock_bytes new_k 800 96 136 680 ++ (header_bytes 1 ((symbol_table_kind, pair_bytes 136 680) ∷ [])
-    ++ (node_bytes_of (group_kind 16) 0 undefined undefined (word 0 ∷ []) [] ++ (heap_header_bytes 88 (free_head_of []) 712 ++ segment_bytes [])))
+    ++ (node_bytes_of (group_kind 16) 0 undefined_address undefined_address (word 0 ∷ []) [] ++ (heap_header_bytes 88 (free_head_of []) 712 ++ segment_bytes [])))
 
 -- the root's header stands behind the superblock
 unfoldable pub root_table : FinMap nat_cmp ℕ

@@ -2,7 +2,7 @@
 use Rattle.std.specs.Prelude.{ℕ, ◌+◌, ◌*◌, ◌==◌, ◌&&◌, ◌||◌, Bool, nat_le, if◌then◌else◌, Option, Some, None, List, map, length}
 use Rattle.std.specs.List.{range_with_len}
 use Rattle.h5_model.specs.Scripts.Tests.{each_below}
-use Rattle.h5_bytes.specs.Bytes.{number_at, byte_at, undefined}
+use Rattle.h5_bytes.specs.Bytes.{number_at, byte_at, undefined_address}
 
 -- sizes, and maxima, of which None is unlimited
 pub record Extent : Type 0 where
@@ -15,7 +15,7 @@ numbers_at bytes at n = map (λ i. number_at bytes (at + 8 * i) 8) (range_with_l
 
 -- a maximum in the message: all ones say unlimited
 abbrev pub maximum_from : ℕ → Option ℕ
-maximum_from n = if n == undefined then None else Some n
+maximum_from n = if n == undefined_address then None else Some n
 
 abbrev pub rank_in : List ℕ → ℕ
 rank_in body = byte_at body 1

@@ -1,7 +1,7 @@
 -- Data Layout messages, version 3 (File Format Specification 3.0, section IV.A.2.i).
 use Rattle.std.specs.Prelude.{ℕ, ◌+◌, ◌*◌, ◌==◌, ◌&&◌, not, nat_le, if◌then◌else◌, Option, Some, None, List, map, length, slice_range}
 use Rattle.std.specs.List.{range_with_len, list_any}
-use Rattle.h5_bytes.specs.Bytes.{number_at, byte_at, undefined}
+use Rattle.h5_bytes.specs.Bytes.{number_at, byte_at, undefined_address}
 use Rattle.h5_bytes.specs.Blocks.{block}
 use Rattle.h5_bytes.specs.declared.Block.{Block}
 use Rattle.h5_model.specs.Tree.Places.{cells}
@@ -17,7 +17,7 @@ abbrev pub short_numbers_at : List ℕ → ℕ → ℕ → List ℕ
 short_numbers_at bytes at n = map (λ i. number_at bytes (at + 4 * i) 4) (range_with_len 0 n)
 
 abbrev pub address_from : ℕ → Option ℕ
-address_from n = if n == undefined then None else Some n
+address_from n = if n == undefined_address then None else Some n
 
 -- class 0: a size and that many bytes, in which the cells have room
 abbrev pub compact_layout : ℕ → List ℕ → Option Layout
@@ -29,7 +29,7 @@ compact_layout need body =
 abbrev pub contiguous_layout : ℕ → List ℕ → Option Layout
 contiguous_layout need body =
     if nat_le 18 (length body)
-    then (if number_at body 2 8 == undefined then Some (InBlock None)
+    then (if number_at body 2 8 == undefined_address then Some (InBlock None)
     else (if nat_le need (number_at body 10 8) then Some (InBlock (Some (block (number_at body 2 8) (number_at body 10 8)))) else None))
     else None
 

@@ -2,7 +2,7 @@
 -- II.A, III and IV.A). Its blocks follow each other without gaps.
 use Rattle.std.specs.Prelude.{ℕ, ◌-◌, nat_le, if◌then◌else◌, ℤ, Option, Some, None, is_some, List, [], ◌∷◌, ◌++◌, length, replicate}
 use Rattle.std.specs.List.{flat_map}
-use Rattle.h5_bytes.specs.Bytes.{undefined}
+use Rattle.h5_bytes.specs.Bytes.{undefined_address}
 use Rattle.h5_bytes.specs.Numbers.{short, middle, word, zeros}
 use Rattle.h5_model.specs.Format.Superblock.{signature, length_with}
 use Rattle.h5_model.specs.Format.Heap.{heap_signature}
@@ -12,8 +12,8 @@ use Rattle.h5_model.specs.Format.Sizes.{text_span}
 use Rattle.h5_model.specs.declared.k_values.KValues.{KValues}
 
 -- bytes with zeros behind them, so many in all
-abbrev pub padded : List ℕ → ℕ → List ℕ
-padded bytes n = bytes ++ replicate (n - length bytes) 0
+abbrev pub with_zeros : List ℕ → ℕ → List ℕ
+with_zeros bytes n = bytes ++ replicate (n - length bytes) 0
 
 -- the version, and the field of chunk K, which is there in version 1
 abbrev pub version_of : Option ℕ → ℕ
@@ -30,7 +30,7 @@ plain_superblock_length k = length_with (is_some k.chunk)
 abbrev pub superblock_bytes : KValues → ℕ → ℕ → ℕ → ℕ → List ℕ
 superblock_bytes k end root tree heap =
     signature ++ (version_of k.chunk ∷ (zeros 4 ++ (8 ∷ 8 ∷ 0 ∷ (short k.leaf ++ (short k.internal ++ (zeros 4 ++ (chunk_k_bytes k.chunk
-    ++ (zeros 8 ++ (word undefined ++ (word end ++ (word undefined ++ (word 0 ++ (word root ++ (word 1 ++ (word tree ++ word heap)))))))))))))))
+    ++ (zeros 8 ++ (word undefined_address ++ (word end ++ (word undefined_address ++ (word 0 ++ (word root ++ (word 1 ++ (word tree ++ word heap)))))))))))))))
 
 -- ---- headers
 
@@ -54,7 +54,7 @@ keys_and_children (key ∷ keys) [] = key
 keys_and_children (key ∷ keys) (child ∷ children) = key ++ (word child ++ keys_and_children keys children)
 
 abbrev pub node_bytes_of : Kind → ℕ → ℕ → ℕ → List (List ℕ) → List ℕ → List ℕ
-node_bytes_of kind level left right keys children = padded
+node_bytes_of kind level left right keys children = with_zeros
     (node_signature ++ (kind.type_byte ∷ level ∷ (short (length children) ++ (word left ++ (word right ++ keys_and_children keys children)))))
     (node_length kind)
 

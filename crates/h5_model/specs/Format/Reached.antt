@@ -91,8 +91,8 @@ pub record Named : Type 0 where
   pub at : ℕ
   pub depth : ℕ
 
-abbrev pub named : ℕ → Role → ℕ → ℕ → Named
-named field role at depth = record { field = field; role = role; at = at; depth = depth }
+abbrev pub naming_of : ℕ → Role → ℕ → ℕ → Named
+naming_of field role at depth = record { field = field; role = role; at = at; depth = depth }
 
 -- the level that the node at an address says
 abbrev pub level_at : List ℕ → Kind → ℕ → ℕ
@@ -111,9 +111,9 @@ chunk_root image shape root = ChunkNode shape root (level_at image (shape_kind i
 -- a Continuation at this place names a block of messages; a Symbol Table names a tree and a heap
 abbrev pub FromMessage : List ℕ → ℕ → ℕ → ℕ → Named → Type 0
 FromMessage image header depth at y =
-    ((kind_at image at ≡ continuation_kind) × (y ≡ named (at + 8) (Continuation header) (number_at image (at + 8) 8) depth))
-    ⊎ (((kind_at image at ≡ symbol_table_kind) × (y ≡ named (at + 8) (group_root image (number_at image (at + 8) 8) (number_at image (at + 16) 8)) (number_at image (at + 8) 8) depth))
-    ⊎ ((kind_at image at ≡ symbol_table_kind) × (y ≡ named (at + 16) (HeapHeader (number_at image (at + 8) 8)) (number_at image (at + 16) 8) depth)))
+    ((kind_at image at ≡ continuation_kind) × (y ≡ naming_of (at + 8) (Continuation header) (number_at image (at + 8) 8) depth))
+    ⊎ (((kind_at image at ≡ symbol_table_kind) × (y ≡ naming_of (at + 8) (group_root image (number_at image (at + 8) 8) (number_at image (at + 16) 8)) (number_at image (at + 8) 8) depth))
+    ⊎ ((kind_at image at ≡ symbol_table_kind) × (y ≡ naming_of (at + 16) (HeapHeader (number_at image (at + 8) 8)) (number_at image (at + 16) 8) depth)))
 
 -- a Data Layout message names a block of data, or a tree of chunks; the undefined address names none
 abbrev pub FromLayout : List ℕ → List Message → ℕ → Named → Type 0
@@ -121,8 +121,8 @@ FromLayout image messages depth y = (m : Message) × (t : Fixed) × (layout : La
     × (find (λ x. x.kind == data_layout_kind) messages ≡ Some m) × (type_among messages ≡ Some t)
     × (layout_among messages ≡ Some layout) × Gives m t layout where
       Gives : Message → Fixed → Layout → Type 0
-      Gives m t (InBlock (Some b)) = y ≡ named (m.at + 2) Data b.at depth
-      Gives m t (InChunks sizes (Some root)) = y ≡ named (m.at + 3) (chunk_root image (record { sizes = sizes; bytes = cells sizes * t.size }) root) root depth
+      Gives m t (InBlock (Some b)) = y ≡ naming_of (m.at + 2) Data b.at depth
+      Gives m t (InChunks sizes (Some root)) = y ≡ naming_of (m.at + 3) (chunk_root image (record { sizes = sizes; bytes = cells sizes * t.size }) root) root depth
       Gives m t _ = ⊥
 
 abbrev pub FromHeader : List ℕ → ℕ → ℕ → Named → Type 0
@@ -133,7 +133,7 @@ FromHeader image header depth y =
 -- child i of a node, of the role below the node's, where the node has room for it
 abbrev pub FromNode : List ℕ → Kind → Role → ℕ → ℕ → Named → Type 0
 FromNode image kind below node depth y = (i : ℕ) × (i < entries_in (node_bytes image kind node)) × (i < 2 * kind.k)
-    × (y ≡ named (node + key_place kind i + kind.key_length) below (child_in kind (node_bytes image kind node) i) depth)
+    × (y ≡ naming_of (node + key_place kind i + kind.key_length) below (child_in kind (node_bytes image kind node) i) depth)
 
 -- entry i of a symbol node
 abbrev pub entry_in : List ℕ → ℕ → ℕ → Entry
@@ -142,7 +142,7 @@ entry_in image node i = entry_of (part (8 + 40 * i) 40 (symbol_bytes image (leaf
 -- the header that entry i of a symbol node names, where it is no soft link and the node has room for it
 abbrev pub FromSymbols : List ℕ → ℕ → ℕ → Named → Type 0
 FromSymbols image node depth y = (i : ℕ) × (i < symbols_in (symbol_bytes image (leaf_k image) node)) × (i < 2 * leaf_k image)
-    × ((entry_in image node i).cache ≢ 2) × (y ≡ named (node + 16 + 40 * i) ObjectHeader (entry_in image node i).header (depth + 1))
+    × ((entry_in image node i).cache ≢ 2) × (y ≡ naming_of (node + 16 + 40 * i) ObjectHeader (entry_in image node i).header (depth + 1))
 
 -- a field of the block of this role at this address is y; a node of a level that no tree has names nothing
 abbrev pub Names : List ℕ → Role → ℕ → ℕ → Named → Type 0
@@ -151,7 +151,7 @@ Names image (Continuation header) at depth y = ⊥
 Names image (GroupNode root heap level) node depth y = (level ≤ 15)
     × FromNode image (group_kind (internal_k image)) (if level == 0 then SymbolNode root heap else GroupNode root heap (level - 1)) node depth y
 Names image (SymbolNode root heap) node depth y = FromSymbols image node depth y
-Names image (HeapHeader root) heap depth y = y ≡ named (heap + 24) Segment (segment_place (heap_header image heap)) depth
+Names image (HeapHeader root) heap depth y = y ≡ naming_of (heap + 24) Segment (segment_place (heap_header image heap)) depth
 Names image Segment at depth y = ⊥
 Names image Data at depth y = ⊥
 Names image (ChunkNode shape root level) node depth y = (level ≤ 15)
@@ -162,7 +162,7 @@ Names image (Chunk bytes) at depth y = ⊥
 
 -- The superblock names it, or a field of a block that is reached does. Each such field is an address of 8 bytes, and is there.
 pub data Reached (image : List ℕ) : Named → Type 0 where
-  by_superblock : {x : Named} → superblock_length image ≤ length image → x ≡ named (root_header_place image) ObjectHeader (root_header image) 0 → Reached image x
+  by_superblock : {x : Named} → superblock_length image ≤ length image → x ≡ naming_of (root_header_place image) ObjectHeader (root_header image) 0 → Reached image x
   by_block : {x : Named} → {y : Named} → Reached image x → Names image x.role x.at x.depth y → y.field + 8 ≤ length image → Reached image y
 
 -- the length of the block that a field names

@@ -1,6 +1,6 @@
 -- What an image says: the tree of objects whose headers stand in it (File Format Specification 3.0, section IV.A; kept messages are
 -- those of IV.A.2.n, IV.A.2.o and IV.A.2.s).
-use Rattle.std.specs.Prelude.{◌≡◌, ℕ, ◌+◌, ◌*◌, ◌^◌, ◌≤◌, ◌==◌, ◌||◌, ◌&&◌, Bool, nat_lt, IsTrue, IsSome, is_some, if◌then◌else◌, ℤ, Option, Some, None, List, [], ◌∷◌, ◌++◌, map, length, option_and_then}
+use Rattle.std.specs.Prelude.{◌≡◌, ℕ, ◌+◌, ◌*◌, ◌^◌, ◌≤◌, ◌==◌, ◌||◌, Bool, IsTrue, IsSome, if◌then◌else◌, Some, None, List, [], ◌∷◌, ◌++◌, map, length, option_and_then}
 use Rattle.std.specs.Ordering.{nat_cmp, eq_by_cmp}
 use Rattle.std.specs.Cmp.Lexicographic.{slice_cmp}
 use Rattle.std.specs.FinMap.{FinMap, get, entries, from_entries, empty}
@@ -15,14 +15,12 @@ use Rattle.h5_model.specs.Format.Symbols.{Target, Header, Text}
 use Rattle.h5_model.specs.Format.Links.{HasLinks}
 use Rattle.h5_model.specs.Format.Fixed.{Fixed}
 use Rattle.h5_model.specs.Tree.Places.{cells, extent_cells}
-use Rattle.h5_model.specs.Format.Extent.{extent_of}
-use Rattle.h5_model.specs.Format.Datatype.{fixed_of}
-use Rattle.h5_model.specs.Format.Fill.{fill_value, old_fill_value, chosen_fill}
-use Rattle.h5_model.specs.Format.Layout.{Layout, InMessage, InBlock, InChunks, layout_of}
+use Rattle.h5_model.specs.Format.Layout.{Layout, InMessage, InBlock, InChunks}
 use Rattle.h5_model.specs.Format.AttributeBody.{attribute_of}
 use Rattle.h5_model.specs.Format.Chunks.{Chunks, HasChunks}
 use Rattle.h5_model.specs.Format.Cells.{cells_of}
-use Rattle.h5_model.specs.Tree.Objects.{Tree, Object, Content, Group, Array, Dataset, Storage, Compact, Contiguous, Chunked, Link, ToObject, Soft, Attribute, Attributes, Kept, follow, hard_links, links_of}
+use Rattle.h5_model.specs.Format.Described.{array_of, HasArray, storage_of}
+use Rattle.h5_model.specs.Tree.Objects.{Tree, Object, Content, Group, Array, Dataset, Link, ToObject, Soft, Attribute, Attributes, Kept, follow, hard_links, links_of}
 
 -- ---- what every header may have
 
@@ -76,22 +74,6 @@ abbrev pub InDataset : Message → Type 0
 InDataset m = IsTrue (((m.kind == dataspace_kind || m.kind == datatype_kind) || (m.kind == old_fill_value_kind || m.kind == fill_value_kind))
     || (m.kind == data_layout_kind || is_common m))
 
--- the value of a fill message that there need not be
-abbrev pub IsFill : (List ℕ → Option ℤ) → Option (List ℕ) → Option ℤ → Type 0
-IsFill value None fill = fill ≡ None
-IsFill value (Some body) fill = (value body ≡ fill) × IsSome fill
-
--- how the cells are stored, as the tree shows it
-abbrev pub storage_of : List ℕ → Layout → Storage
-storage_of sizes (InMessage data_bytes) = Compact
-storage_of sizes (InBlock b) = Contiguous (is_some b && nat_lt 0 (cells sizes))
-storage_of sizes (InChunks chunk_sizes root) = Chunked chunk_sizes
-
--- a chunk has at most 2^30 bytes
-abbrev pub IsChunkSmall : Fixed → Layout → Type 0
-IsChunkSmall t (InChunks chunk_sizes root) = cells chunk_sizes * t.size ≤ 2 ^ 30
-IsChunkSmall t _ = Unit {0}
-
 -- The stored chunks of a layout, and the blocks of its data.
 abbrev pub HasData : List ℕ → Fixed → Layout → Chunks → List Block → Type 0
 HasData image t (InMessage data_bytes) chunks blocks = (chunks ≡ empty) × (blocks ≡ [])
@@ -103,23 +85,9 @@ HasData image t (InChunks chunk_sizes (Some root)) chunks blocks = HasChunks ima
 -- The messages of a header are those of this dataset.
 pub record HasDataset (image : List ℕ) (messages : List Message) (d : Dataset) (blocks : List Block) : Type 0 where
   pub known : AllByRecursion InDataset messages
-  pub one_space : count_of dataspace_kind messages ≡ 1
-  pub one_type : count_of datatype_kind messages ≡ 1
-  pub one_layout : count_of data_layout_kind messages ≡ 1
-  pub old_fills : count_of old_fill_value_kind messages ≤ 1
-  pub fills : count_of fill_value_kind messages ≤ 1
-  pub space : option_and_then extent_of (first_body dataspace_kind messages) ≡ Some (record { sizes = d.sizes; maxima = d.maxima })
-  pub type : option_and_then fixed_of (first_body datatype_kind messages) ≡ Some d.fixed
-  pub old_fill : Option ℤ
-  pub new_fill : Option ℤ
-  pub old_filled : IsFill (old_fill_value d.fixed) (first_body old_fill_value_kind messages) old_fill
-  pub new_filled : IsFill (fill_value d.fixed) (first_body fill_value_kind messages) new_fill
-  pub filled : d.fill ≡ chosen_fill new_fill old_fill
   pub layout : Layout
-  pub laid_out : option_and_then (layout_of d.sizes d.fixed.size) (first_body data_layout_kind messages) ≡ Some layout
+  pub array : HasArray messages (array_of d.fixed d.sizes d.maxima d.fill layout)
   pub storage : d.storage ≡ storage_of d.sizes layout
-  pub small : extent_cells d.sizes ≤ 2 ^ 40
-  pub chunk_small : IsChunkSmall d.fixed layout
   pub chunks : Chunks
   pub stored : HasData image d.fixed layout chunks blocks
   pub cells : d.cells ≡ cells_of image d.fixed d.fill d.sizes layout chunks

@@ -2,7 +2,7 @@
 -- Specification 3.0, section III.A.1).
 use Rattle.std.specs.Prelude.{◌≡◌, ℕ, zero, suc, ◌==◌, if◌then◌else◌, List, [], ◌∷◌, ◌++◌, ⊤}
 use Rattle.std.specs.List.{flat_map, list_any}
-use Rattle.h5_bytes.specs.Bytes.{undefined}
+use Rattle.h5_bytes.specs.Bytes.{undefined_address}
 
 -- what a node says; it has one key more than it has children
 pub record Node : Type 0 where
@@ -18,7 +18,7 @@ Reading = ℕ → Node
 
 -- what is read where a tree owns nothing: a level that no node has
 abbrev pub blank : Node
-blank = record { level = 16; left = undefined; right = undefined; keys = []; children = [] }
+blank = record { level = 16; left = undefined_address; right = undefined_address; keys = []; children = [] }
 
 -- what f reads at these addresses, and x elsewhere
 abbrev pub only : {X : Type 0} → X → (ℕ → X) → List ℕ → ℕ → X
@@ -30,7 +30,7 @@ next_row V row = flat_map (λ n. (V n).children) row
 
 -- the first node of what stands to the right
 abbrev pub first_or_undefined : List ℕ → ℕ
-first_or_undefined [] = undefined
+first_or_undefined [] = undefined_address
 first_or_undefined (n ∷ row) = n
 
 -- the nodes of a row are of this level, and each names its neighbours; `left` stands before the row
@@ -41,8 +41,8 @@ IsRow V level left (n ∷ row) =
 
 -- this row of the level, and each row below it
 abbrev pub AreRows : Reading → ℕ → List ℕ → Type 0
-AreRows V zero row = IsRow V 0 undefined row
-AreRows V (suc level) row = IsRow V (suc level) undefined row × AreRows V level (next_row V row)
+AreRows V zero row = IsRow V 0 undefined_address row
+AreRows V (suc level) row = IsRow V (suc level) undefined_address row × AreRows V level (next_row V row)
 
 -- the row so many levels below a row
 abbrev pub row_below : Reading → ℕ → List ℕ → List ℕ

@@ -92,8 +92,8 @@ unescaped_past zero (c ∷ cs) =
     if c == 92 then option_and_then (λ b. option_map (λ bs. b ∷ bs) (unescaped_past 3 cs)) (escape_from cs)
     else (if is_plain c then option_map (λ bs. c ∷ bs) (unescaped_past 0 cs) else None)
 
-unfoldable pub unescaped : List ℕ → Option (List ℕ)
-unescaped word = unescaped_past 0 word
+unfoldable pub unescaped_text : List ℕ → Option (List ℕ)
+unescaped_text word = unescaped_past 0 word
 
 -- the 14 types
 abbrev pub types_of_size : ℕ → List Fixed
@@ -105,7 +105,7 @@ types_of_size n =
 unfoldable pub type_from : List ℕ → Option Fixed
 type_from word = find (λ t. bytes_eq (type_text t) word) (types_of_size 1 ++ (types_of_size 2 ++ (types_of_size 4 ++ types_of_size 8)))
 
-abbrev pub store_from : List ℕ → Option Store
+abbrev pub store_from : List ℕ → Option (Store (List ℕ))
 store_from word =
     if bytes_eq word (codes "compact") then Some store.Compact
     else (if bytes_eq word (codes "contiguous") then Some store.Contiguous
@@ -126,13 +126,13 @@ abbrev pub dataset_from : List ℕ → List ℕ → List ℕ → List ℕ → Op
 dataset_from path type sizes kept fill =
     option_and_then (λ p. option_and_then (λ t. option_and_then (λ ds. option_and_then (λ s. option_map
     (λ v. Change (CreateDataset p (record { fixed = t; dims = map (λ d. d.0) ds; maxima = map (λ d. d.1) ds; store = s; fill = v })))
-    fill) (store_from kept)) (list_from size_from sizes)) (type_from type)) (unescaped path)
+    fill) (store_from kept)) (list_from size_from sizes)) (type_from type)) (unescaped_text path)
 
 abbrev pub on_path : (List ℕ → Command) → List ℕ → Option Command
-on_path command path = option_map command (unescaped path)
+on_path command path = option_map command (unescaped_text path)
 
 abbrev pub on_paths : (List ℕ → List ℕ → Command) → List ℕ → List ℕ → Option Command
-on_paths command a b = option_and_then (λ x. option_map (command x) (unescaped b)) (unescaped a)
+on_paths command a b = option_and_then (λ x. option_map (command x) (unescaped_text b)) (unescaped_text a)
 
 -- what a line of these words asks for, where it is of one of the forms
 abbrev pub words_ask : List (List ℕ) → Option Command
@@ -148,19 +148,19 @@ words_ask (w ∷ a ∷ b ∷ []) =
     if bytes_eq w (codes "link") then on_paths (λ target path. Change (HardLink target path)) a b
     else (if bytes_eq w (codes "soft") then on_paths (λ text path. Change (SoftLink text path)) a b
     else (if bytes_eq w (codes "unattr") then on_paths (λ path name. Change (RemoveAttr path name)) a b
-    else (if bytes_eq w (codes "resize") then option_and_then (λ p. option_map (λ ds. Change (Resize p ds)) (list_from u64_from b)) (unescaped a) else None)))
+    else (if bytes_eq w (codes "resize") then option_and_then (λ p. option_map (λ ds. Change (Resize p ds)) (list_from u64_from b)) (unescaped_text a) else None)))
 words_ask (w ∷ a ∷ b ∷ c ∷ d ∷ []) = if bytes_eq w (codes "dataset") then dataset_from a b c d (Some (pos 0)) else None
 words_ask (w ∷ a ∷ b ∷ c ∷ d ∷ e ∷ []) =
     if bytes_eq w (codes "dataset") then dataset_from a b c d (fill_from e)
     else (if bytes_eq w (codes "attr") then attr
-    else (if bytes_eq w (codes "view") then option_and_then (λ p. option_map (OpenView p) (hyper_from b c d e)) (unescaped a) else None)) where
+    else (if bytes_eq w (codes "view") then option_and_then (λ p. option_map (OpenView p) (hyper_from b c d e)) (unescaped_text a) else None)) where
       attr : Option Command
       attr = option_and_then (λ p. option_and_then (λ n. option_and_then (λ t. option_and_then (λ ds. option_map
           (λ vs. Change (SetAttr p (record { name = n; fixed = t; dims = ds; values = vs })))
-          (list_from value_from e)) (list_from u64_from d)) (type_from c)) (unescaped b)) (unescaped a)
+          (list_from value_from e)) (list_from u64_from d)) (type_from c)) (unescaped_text b)) (unescaped_text a)
 words_ask (w ∷ a ∷ b ∷ c ∷ d ∷ e ∷ v ∷ []) =
     if bytes_eq w (codes "write")
-    then option_and_then (λ p. option_and_then (λ h. option_map (λ vs. Change (Write p h vs)) (list_from value_from v)) (hyper_from b c d e)) (unescaped a)
+    then option_and_then (λ p. option_and_then (λ h. option_map (λ vs. Change (Write p h vs)) (list_from value_from v)) (hyper_from b c d e)) (unescaped_text a)
     else None
 words_ask _ = None
 
@@ -168,23 +168,23 @@ abbrev pub is_empty_word : List ℕ → Bool
 is_empty_word word = length word == 0
 
 -- words are separated by one space, so none is empty
-abbrev pub asked : List (List ℕ) → Command
-asked words = if list_any is_empty_word words then Unread else unwrap_or (words_ask words) Unread
+abbrev pub command_in : List (List ℕ) → Command
+command_in words = if list_any is_empty_word words then Unread else unwrap_or (words_ask words) Unread
 
 -- what a line asks for; None of a line that is passed over
 unfoldable pub line_asks : List ℕ → Option Command
 line_asks line =
     if nat_lt 1048576 (length line) then Some Unread
-    else (if length line == 0 || slice_index line 0 == 35 then None else Some (asked (slice_split (λ c. c == 32) line)))
+    else (if length line == 0 || slice_index line 0 == 35 then None else Some (command_in (slice_split (λ c. c == 32) line)))
 
 -- what the lines of a script ask for; behind the last LF an empty line is passed over
 unfoldable pub commands_of : List ℕ → List Command
 commands_of script = filter_map line_asks (slice_split (λ c. c == 10) script)
 
 -- the bytes up to the last LF and that LF; an unfinished line is not run
-abbrev pub finished : List ℕ → List ℕ
-finished script = take (length script - suffix_len (λ c. not (c == 10)) script) script
+abbrev pub finished_lines : List ℕ → List ℕ
+finished_lines script = take (length script - suffix_len (λ c. not (c == 10)) script) script
 
 -- the longest part of a script that is run
 abbrev pub within_limit : List ℕ → List ℕ
-within_limit script = if nat_lt 16777216 (length script) then finished (take 16777216 script) else script
+within_limit script = if nat_lt 16777216 (length script) then finished_lines (take 16777216 script) else script

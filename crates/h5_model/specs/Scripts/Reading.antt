@@ -3,11 +3,11 @@ use Rattle.std.specs.Prelude.{ℕ, ◌==◌, ◌||◌, ◌&&◌, Bool, false, no
 use Rattle.std.specs.List.{list_any}
 use Rattle.std.specs.FinMap.{get, keys, contains_key}
 use Rattle.std.specs.Option.{option_map_or, option_and_then}
-use Rattle.h5_bytes.specs.Bytes.{undefined}
+use Rattle.h5_bytes.specs.Bytes.{undefined_address}
 use Rattle.h5_model.specs.Tree.Places.{place_of, is_inside}
 use Rattle.h5_model.specs.Views.Selection.{axes_of, has_rank, has_no_stride, overlaps, is_within}
 use Rattle.h5_model.specs.Tree.Objects.{Tree, Object, Dataset, Attribute}
-use Rattle.h5_model.specs.Tree.Paths.{names_of, located, object_at, dataset_at, links_at}
+use Rattle.h5_model.specs.Tree.Paths.{names_of, location_of, object_at, dataset_at, links_at}
 use Rattle.h5_model.specs.Edits.Refusal.{is_deep, has_no_parent, has_no_group, is_missing, is_here, is_soft}
 use Rattle.h5_model.specs.declared.hyperslab.Hyper.{Hyper}
 use Rattle.h5_model.specs.declared.edit_fault.EditFault.{EditFault}
@@ -18,9 +18,9 @@ abbrev pub path_rules : Tree → List ℕ → List (EditFault × Bool)
 path_rules tree path =
     (fault.BadPath, is_none (names_of path))
     ∷ (fault.PathTooDeep, is_deep path)
-    ∷ (fault.NoSuchParent, has_no_parent (located tree path))
-    ∷ (fault.NotAGroup, has_no_group (located tree path))
-    ∷ (fault.NotFound, is_missing (located tree path))
+    ∷ (fault.NoSuchParent, has_no_parent (location_of tree path))
+    ∷ (fault.NotAGroup, has_no_group (location_of tree path))
+    ∷ (fault.NotFound, is_missing (location_of tree path))
     ∷ []
 
 -- a group has to stand there
@@ -28,14 +28,14 @@ abbrev pub list_rules : Tree → List ℕ → List (EditFault × Bool)
 list_rules tree path =
     (fault.BadPath, is_none (names_of path))
     ∷ (fault.PathTooDeep, is_deep path)
-    ∷ (fault.NoSuchParent, has_no_parent (located tree path))
-    ∷ (fault.NotAGroup, has_no_group (located tree path) || (is_here (located tree path) && is_none (links_at tree path)))
-    ∷ (fault.NotFound, is_missing (located tree path))
+    ∷ (fault.NoSuchParent, has_no_parent (location_of tree path))
+    ∷ (fault.NotAGroup, has_no_group (location_of tree path) || (is_here (location_of tree path) && is_none (links_at tree path)))
+    ∷ (fault.NotFound, is_missing (location_of tree path))
     ∷ []
 
 -- an object has to stand there
 abbrev pub object_rules : Tree → List ℕ → List (EditFault × Bool)
-object_rules tree path = path_rules tree path ++ (fault.NotFound, is_soft (located tree path)) ∷ []
+object_rules tree path = path_rules tree path ++ (fault.NotFound, is_soft (location_of tree path)) ∷ []
 
 -- the object has to have an attribute of this name
 abbrev pub attribute_rules : Tree → List ℕ → List ℕ → List (EditFault × Bool)
@@ -44,7 +44,7 @@ attribute_rules tree path name = object_rules tree path
 
 -- a dataset has to stand there
 abbrev pub dataset_rules : Tree → List ℕ → List (EditFault × Bool)
-dataset_rules tree path = path_rules tree path ++ (fault.NotADataset, is_here (located tree path) && is_none (dataset_at tree path)) ∷ []
+dataset_rules tree path = path_rules tree path ++ (fault.NotADataset, is_here (location_of tree path) && is_none (dataset_at tree path)) ∷ []
 
 -- the index has to be one of the dataset's
 abbrev pub cell_rules : Tree → List ℕ → List ℕ → List (EditFault × Bool)
@@ -79,5 +79,5 @@ attribute_at tree path name = option_and_then (λ (o : Object). get o.attributes
 
 -- a maximum as `kind` shows it: an unlimited one is 18446744073709551615
 abbrev pub shown_maximum : Option ℕ → ℕ
-shown_maximum None = undefined
+shown_maximum None = undefined_address
 shown_maximum (Some m) = m

@@ -19,8 +19,8 @@ abbrev pub escaped_byte : ℕ → List ℕ
 escaped_byte b = if is_plain b then b ∷ [] else 92 ∷ 120 ∷ hex_digit (b / 16) ∷ hex_digit (b % 16) ∷ []
 
 -- a name or a text, other bytes written `\x` and two digits
-abbrev pub escaped : List ℕ → List ℕ
-escaped bytes = flat_map escaped_byte bytes
+abbrev pub escaped_text : List ℕ → List ℕ
+escaped_text bytes = flat_map escaped_byte bytes
 
 -- `i16le`, and `u8` without an order
 abbrev pub type_text : Fixed → List ℕ
@@ -49,12 +49,12 @@ abbrev pub line_of : List ℕ → List ℕ → List ℕ
 line_of path text = path ++ codes " " ++ text ++ codes "\n"
 
 abbrev pub joined_path : List ℕ → List ℕ → List ℕ
-joined_path path name = path ++ codes "/" ++ escaped name
+joined_path path name = path ++ codes "/" ++ escaped_text name
 
 -- the line of a link
 abbrev pub link_line : Tree → List ℕ → Link → List ℕ
 link_line tree path (ToObject number) = option_map_or (λ (o : Object). line_of path (content_text o.content)) (get tree number) []
-link_line tree path (Soft text) = line_of path (codes "soft " ++ escaped text)
+link_line tree path (Soft text) = line_of path (codes "soft " ++ escaped_text text)
 
 -- the lines of a group's links, each group followed by what it holds, at most so many names deep
 unfoldable pub lines_below : Tree → ℕ → List ℕ → ℕ → List ℕ
@@ -79,7 +79,7 @@ values_text values = flat_map (λ v. codes " " ++ signed_decimal v) values
 
 abbrev pub attribute_line : (List ℕ × Attribute) → List ℕ
 attribute_line (name, a) =
-    codes "@" ++ escaped name ++ codes " " ++ type_text a.fixed ++ codes " " ++ sizes_text a.sizes ++ values_text a.values ++ codes "\n"
+    codes "@" ++ escaped_text name ++ codes " " ++ type_text a.fixed ++ codes " " ++ sizes_text a.sizes ++ values_text a.values ++ codes "\n"
 
 -- the last size; an array without dimensions has one cell in a row
 abbrev pub row_length : List ℕ → ℕ

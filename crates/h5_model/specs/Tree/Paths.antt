@@ -46,8 +46,8 @@ locate tree (ToObject number) (name ∷ names) =
     option_map_or (λ links. option_map_or (λ link. locate tree link names) (get links name) (missing_before names)) (links_of tree number) NoGroup
 
 -- what stands at a path
-abbrev pub located : Tree → List ℕ → Located
-located tree path = option_map_or (λ names. locate tree (ToObject 0) names) (names_of path) NoPath
+abbrev pub location_of : Tree → List ℕ → Located
+location_of tree path = option_map_or (λ names. locate tree (ToObject 0) names) (names_of path) NoPath
 
 abbrev pub object_there : Located → Option ℕ
 object_there (Here (ToObject number)) = Some number
@@ -55,7 +55,7 @@ object_there _ = None
 
 -- the number of the object, and the dataset, at a path
 abbrev pub object_at : Tree → List ℕ → Option ℕ
-object_at tree path = object_there (located tree path)
+object_at tree path = object_there (location_of tree path)
 
 abbrev pub dataset_at : Tree → List ℕ → Option Dataset
 dataset_at tree path = option_and_then (dataset_of tree) (object_at tree path)

@@ -4,13 +4,13 @@ use Rattle.std.specs.FinMap.{get, entries}
 use Rattle.h5_model.specs.Tree.Objects.{Tree, Link, ToObject, Soft, Content, Group, Array, Object}
 
 -- the link with the object's number changed
-abbrev pub renumbered : (ℕ → ℕ) → Link → Link
-renumbered change (ToObject number) = ToObject (change number)
-renumbered change (Soft text) = Soft text
+abbrev pub renumbered_link : (ℕ → ℕ) → Link → Link
+renumbered_link change (ToObject number) = ToObject (change number)
+renumbered_link change (Soft text) = Soft text
 
 -- the same content, with the numbers in its links changed
 abbrev pub IsRenumbered : (ℕ → ℕ) → Content → Content → Type 0
-IsRenumbered change (Group a) (Group b) = entries b ≡ map (λ e. (e.0, renumbered change e.1)) (entries a)
+IsRenumbered change (Group a) (Group b) = entries b ≡ map (λ e. (e.0, renumbered_link change e.1)) (entries a)
 IsRenumbered change (Group a) (Array b) = ⊥
 IsRenumbered change (Array a) (Group b) = ⊥
 IsRenumbered change (Array a) (Array b) = a ≡ b

@@ -5,7 +5,7 @@ use Rattle.std.specs.List.{AllByRecursion, Contains}
 use Rattle.std.specs.Ordering.{nat_cmp}
 use Rattle.std.specs.FinMap.{FinMap}
 use Rattle.h5_bytes.specs.Blocks.{Inside}
-use Rattle.h5_model.specs.Format.Reached.{named, ObjectHeader, Reached}
+use Rattle.h5_model.specs.Format.Reached.{naming_of, ObjectHeader, Reached}
 use Rattle.h5_model.specs.Tree.Objects.{hard_links}
 use Rattle.h5_model.specs.Format.Reads.{Placed, IsGroup, IsCounted, ReadsAs, Holds}
 use Rattle.h5_model.specs.Faults.Breaches.{AreAllLinks}
@@ -65,7 +65,7 @@ module _ (image : List ℕ) (objects : List OpenedObject) (whole : IsWholeImage 
     pub long : length fields ≡ leading header (all_links image objects)
     pub depth : ℕ
     pub field : ℕ
-    pub reached : Reached image (named field ObjectHeader header depth)
+    pub reached : Reached image (naming_of field ObjectHeader header depth)
     pub among : Contains fields field
 
   placed_named : (x : Placed) → In x (placed_of image objects) → IsNamed x.header
@@ -78,7 +78,7 @@ module _ (image : List ℕ) (objects : List OpenedObject) (whole : IsWholeImage 
         depth = reached.0;
         field = reached.1.0;
         reached = reached.1.1;
-        among = all.1.all (named reached.1.0 ObjectHeader x.header reached.0) reached.1.1 refl refl;
+        among = all.1.all (naming_of reached.1.0 ObjectHeader x.header reached.0) reached.1.1 refl refl;
       }
 
   object_named : (o : OpenedObject) → In o objects → IsNamed o.messages.header
@@ -121,7 +121,7 @@ module _ (image : List ℕ) (objects : List OpenedObject) (whole : IsWholeImage 
   wrong_fault o member wrong =
       let known = object_named o member in
       let kept = in_all (IsObjectKept image) o objects whole.each member in (
-        named known.field ObjectHeader o.messages.header known.depth,
+        naming_of known.field ObjectHeader o.messages.header known.depth,
         known.reached,
         refl,
         (header_inside image o kept, (refl, (known.fields, known.all, (λ same. wrong (same ∙ known.long))))),

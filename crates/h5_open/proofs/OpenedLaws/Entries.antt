@@ -14,7 +14,7 @@ use Rattle.h5_model.specs.Tree.Objects.{Link, Object, Tree}
 use Rattle.h5_group.specs.Told.{links_told}
 use Rattle.h5_group.specs.Links.{IsGroupRead}
 use Rattle.h5_open.specs.declared.opened.object.OpenedObject.{OpenedObject}
-use Rattle.h5_open.specs.Opened.Objects.{header_of, headers, numbered, objects_of, slots_of, standing, link_to, links_by, object_in, table_of, tree_of}
+use Rattle.h5_open.specs.Opened.Objects.{header_of, headers, numbered_from, objects_of, slots_of, standing, link_to, links_by, object_in, table_of, tree_of}
 use Rattle.h5_laws.proofs.Lists.{In, in_map, from_map}
 use Rattle.h5_laws.proofs.Maps.{found_value, get_of_entry}
 use Rattle.h5_laws.proofs.Ascending.{less_of, before_trans}
@@ -56,7 +56,7 @@ slot_of slots n h at = go (slice_get slots n) refl (sym (get_table slots n) ∙ 
 -- ---- slots of which none is empty
 
 module _ (objects : List OpenedObject) where
-  dense_told : {X : Type 0} (f : OpenedObject → X) (n : ℕ) (os : List OpenedObject) → standing n (map (option_map f) (slots_of os)) ≡ numbered n (map f os)
+  dense_told : {X : Type 0} (f : OpenedObject → X) (n : ℕ) (os : List OpenedObject) → standing n (map (option_map f) (slots_of os)) ≡ numbered_from n (map f os)
   dense_told f n [] = refl
   dense_told {X = X} f n (o ∷ os) = ap (λ (es : List (ℕ × X)). (n, f o) ∷ es) (dense_told f (n + 1) os)
 
@@ -66,10 +66,10 @@ module _ (objects : List OpenedObject) where
     go [] = refl
     go (o ∷ os) = ap (λ (xs : List OpenedObject). o ∷ xs) (go os)
 
-  pub table_dense : table_of (slots_of objects) ≡ from_entries (numbered 0 (headers objects))
+  pub table_dense : table_of (slots_of objects) ≡ from_entries (numbered_from 0 (headers objects))
   table_dense = ap (λ (es : List (ℕ × ℕ)). from_entries es) (dense_told header_of 0 objects)
 
-  pub table_entries_dense : entries (table_of (slots_of objects)) ≡ numbered 0 (headers objects)
+  pub table_entries_dense : entries (table_of (slots_of objects)) ≡ numbered_from 0 (headers objects)
   table_entries_dense = ap entries table_dense ∙ entries_numbered (headers objects)
 
   pub get_table_dense : (n : ℕ) → get (table_of (slots_of objects)) n ≡ slice_get (headers objects) n
@@ -79,10 +79,10 @@ module _ (objects : List OpenedObject) where
   header_at_dense k o at = slice_get-map header_of objects k ∙ ap (option_map header_of) at
 
   module _ (image : List ℕ) where
-    pub tree_dense : tree_of image (slots_of objects) ≡ from_entries (numbered 0 (map (object_in image (table_of (slots_of objects))) objects))
+    pub tree_dense : tree_of image (slots_of objects) ≡ from_entries (numbered_from 0 (map (object_in image (table_of (slots_of objects))) objects))
     tree_dense = ap (λ (es : List (ℕ × Object)). from_entries es) (dense_told (object_in image (table_of (slots_of objects))) 0 objects)
 
-    pub tree_entries_dense : entries (tree_of image (slots_of objects)) ≡ numbered 0 (map (object_in image (table_of (slots_of objects))) objects)
+    pub tree_entries_dense : entries (tree_of image (slots_of objects)) ≡ numbered_from 0 (map (object_in image (table_of (slots_of objects))) objects)
     tree_entries_dense = ap entries tree_dense ∙ entries_numbered (map (object_in image (table_of (slots_of objects))) objects)
 
     pub get_tree_dense : (n : ℕ) → get (tree_of image (slots_of objects)) n ≡ slice_get (map (object_in image (table_of (slots_of objects))) objects) n

@@ -41,5 +41,5 @@ linked_header f sound number o of g is name header there =
           let one : c.2 ≡ links_told f.image g = one_group f.image ms c.2 (links_told f.image g) has.content_blocks (blocks_told f.image g) c.3 told in
           let tied = tied_left (IsSame f.table) (entries c.0) c.2 (name, Header header) c.4 (subst (In (name, Header header)) (sym one) there) in
           hard_to f.table tied.0 name header tied.2
-      | inr d ↦ absurd (omega (arith, d.2.one_space, (kept.0).alone.0))
+      | inr d ↦ absurd (omega (arith, d.2.array.one_space, (kept.0).alone.0))
     ]

@@ -9,7 +9,7 @@ use Rattle.std.specs.FinMap.{find, get, entries, len, put, is_sorted, from_entri
 use Rattle.std.specs.FinMap.Entries.{below_all, by_order}
 use Rattle.h5_model.proofs.MapSteps.{entries-empty}
 use Rattle.h5_model.proofs.ReachLaws.{halves}
-use Rattle.h5_laws.specs.Numbered.{numbered}
+use Rattle.h5_laws.specs.Numbered.{numbered_from}
 use Rattle.h5_laws.proofs.Maps.{true_of}
 use Rattle.h5_laws.proofs.Ascending.{less_of}
 use Rattle.h5_laws.proofs.Numbered.{joined, less_holds, sorted_numbered, found_numbered}
@@ -32,18 +32,18 @@ entries_made {R = R} o (e ∷ es) h =
 -- ---- what other crates cite
 
 -- the entries of a map that numbers a list, and what it looks up
-pub entries_numbered : {X : Type 0} (xs : List X) → entries (from_entries {R = nat_cmp} (numbered 0 xs)) ≡ numbered 0 xs
-entries_numbered xs = entries_made nat_cmp_total (numbered 0 xs) (sorted_numbered 0 xs)
+pub entries_numbered : {X : Type 0} (xs : List X) → entries (from_entries {R = nat_cmp} (numbered_from 0 xs)) ≡ numbered_from 0 xs
+entries_numbered xs = entries_made nat_cmp_total (numbered_from 0 xs) (sorted_numbered 0 xs)
 
-pub get_numbered : {X : Type 0} (xs : List X) (n : ℕ) → get (from_entries {R = nat_cmp} (numbered 0 xs)) n ≡ slice_get xs n
-get_numbered xs n = get-from_entries nat_cmp_total (numbered 0 xs) n ∙ found_numbered n 0 n xs (omega arith)
+pub get_numbered : {X : Type 0} (xs : List X) (n : ℕ) → get (from_entries {R = nat_cmp} (numbered_from 0 xs)) n ≡ slice_get xs n
+get_numbered xs n = get-from_entries nat_cmp_total (numbered_from 0 xs) n ∙ found_numbered n 0 n xs (omega arith)
 
-length_numbered : {X : Type 0} (n : ℕ) (xs : List X) → length (numbered n xs) ≡ length xs
+length_numbered : {X : Type 0} (n : ℕ) (xs : List X) → length (numbered_from n xs) ≡ length xs
 length_numbered n [] = refl
 length_numbered n (x ∷ xs) = ap suc (length_numbered (n + 1) xs)
 
-pub len_numbered : {X : Type 0} (xs : List X) → len (from_entries {R = nat_cmp} (numbered 0 xs)) ≡ length xs
-len_numbered xs = len-entries (from_entries {R = nat_cmp} (numbered 0 xs)) ∙ ap length (entries_numbered xs) ∙ length_numbered 0 xs
+pub len_numbered : {X : Type 0} (xs : List X) → len (from_entries {R = nat_cmp} (numbered_from 0 xs)) ≡ length xs
+len_numbered xs = len-entries (from_entries {R = nat_cmp} (numbered_from 0 xs)) ∙ ap length (entries_numbered xs) ∙ length_numbered 0 xs
 
 -- ---- slots, of which some may be empty
 

@@ -11,15 +11,15 @@ use Rattle.h5_model.specs.Format.Messages.{Message}
 use Rattle.h5_model.specs.Format.Reads.{Placed, IsPlaced, IsSame, HasAttributes, HasContent, HasDataset, HasGroup, HasObject, ReadsAs, all_blocks, is_kept, kept_of}
 use Rattle.h5_model.specs.Format.Superblock.{superblock_length}
 use Rattle.h5_model.specs.Format.Symbols.{Target}
+use Rattle.h5_model.specs.Format.Described.{Described}
 use Rattle.h5_model.specs.Tree.Objects.{Tree, Content, Group, Array, Dataset, Object}
 use Rattle.h5_model.proofs.OneReading.{one_group, one_messages, where_of, first_or}
+use Rattle.h5_model.proofs.DescribedLaws.{in_header}
 use Rattle.h5_laws.proofs.InPlace.OneBlocks.{one_blocks}
 use Rattle.h5_header.specs.Listed.{messages_in}
 use Rattle.h5_group.specs.Told.{links_told, blocks_told}
-use Rattle.h5_layout.specs.Described.{Described}
 use Rattle.h5_layout.specs.Data.{data_blocks}
 use Rattle.h5_layout.specs.Told.{array_told, layout_told, type_told}
-use Rattle.h5_layout.proofs.ArrayLaws.{in_header, has_array}
 use Rattle.h5_layout.proofs.ToldLaws.{told}
 use Rattle.h5_open.specs.declared.opened.object.OpenedObject.{OpenedObject}
 use Rattle.h5_open.specs.declared.opened.object.OpenedContent.{OpenedContent}
@@ -33,7 +33,7 @@ use Rattle.h5_open.proofs.OpenedLaws.Entries.{table_entries}
 
 pub dataset_blocks : (image : List ℕ) (ms : List Message) (d : Dataset) (blocks : List Block) → HasDataset image ms d blocks → blocks ≡ data_blocks image (type_told ms) (layout_told ms)
 dataset_blocks image ms d blocks has =
-    let same : array_told ms ≡ in_header image ms d blocks has = told ms (in_header image ms d blocks has) (has_array image ms d blocks has) in
+    let same : array_told ms ≡ in_header image ms d blocks has = told ms (in_header image ms d blocks has) has.array in
     told_blocks image d.fixed has.layout has.chunks blocks has.stored ∙ ap (λ (a : Described). data_blocks image a.fixed a.layout) (sym same)
 
 -- a group with the links that its table tells
@@ -48,7 +48,7 @@ module _ (image : List ℕ) (table : FinMap nat_cmp ℕ) where
       let there = group_kept image ms found blocks t has kept in
       (links_told image t, there, subst (AllZip (IsSame table) (entries links)) (one_group image ms found (links_told image t) blocks (blocks_told image t) has there) same)
   content_kept ms (Group links) blocks content.Array (found, has, same) (list, read) = absurd (omega (arith, has.once, (list.kinds).no_table))
-  content_kept ms (Array d) blocks (content.Group t) has (kinds, chosen, read) = absurd (omega (arith, has.one_space, (kinds.alone).0))
+  content_kept ms (Array d) blocks (content.Group t) has (kinds, chosen, read) = absurd (omega (arith, has.array.one_space, (kinds.alone).0))
   content_kept ms (Array d) blocks content.Array has (list, read) = subst (HasDataset image ms d) (dataset_blocks image ms d blocks has) has
 
   -- ---- objects

@@ -15,7 +15,7 @@ use Rattle.h5_header.specs.Listed.{messages_in}
 use Rattle.h5_open.specs.declared.opened.object.OpenedObject.{OpenedObject}
 use Rattle.h5_open.specs.declared.opened.object.OpenedContent.{OpenedContent}
 use Rattle.h5_open.specs.declared.opened.object.OpenedContent.TheVariants as content
-use Rattle.h5_open.specs.Opened.Objects.{headers, numbered, content_in, object_in, object_blocks, opened_blocks, table_of, tree_of, slots_of}
+use Rattle.h5_open.specs.Opened.Objects.{headers, numbered_from, content_in, object_in, object_blocks, opened_blocks, table_of, tree_of, slots_of}
 use Rattle.h5_open.specs.Placed.Whole.{IsGroupContent, IsWholeImage, placed_from, placed_of}
 use Rattle.h5_open.proofs.OpenedLaws.Entries.{table_entries_dense, tree_entries_dense, get_table_dense, header_at_dense}
 use Rattle.h5_open.proofs.PlacedLaws.Places.{own_header}
@@ -26,11 +26,11 @@ use Rattle.h5_open.proofs.PlacedLaws.Paths.{all_reached, all_short}
 -- ---- what is placed
 
 module _ (image : List ℕ) (table : FinMap nat_cmp ℕ) where
-  placed_headers : (n : ℕ) (os : List OpenedObject) → numbered n (headers os) ≡ map (λ (x : Placed). (x.number, x.header)) (placed_from image table n os)
+  placed_headers : (n : ℕ) (os : List OpenedObject) → numbered_from n (headers os) ≡ map (λ (x : Placed). (x.number, x.header)) (placed_from image table n os)
   placed_headers n [] = refl
   placed_headers n (o ∷ os) = ap (λ (es : List (ℕ × ℕ)). (n, o.messages.header) ∷ es) (placed_headers (n + 1) os)
 
-  placed_objects : (n : ℕ) (os : List OpenedObject) → numbered n (map (object_in image table) os) ≡ map (λ (x : Placed). (x.number, x.object)) (placed_from image table n os)
+  placed_objects : (n : ℕ) (os : List OpenedObject) → numbered_from n (map (object_in image table) os) ≡ map (λ (x : Placed). (x.number, x.object)) (placed_from image table n os)
   placed_objects n [] = refl
   placed_objects n (o ∷ os) = ap (λ (es : List (ℕ × Object)). (n, object_in image table o) ∷ es) (placed_objects (n + 1) os)
 

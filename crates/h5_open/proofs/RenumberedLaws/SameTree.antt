@@ -12,13 +12,13 @@ use Rattle.h5_model.specs.Format.Symbols.{Target, Header, Text}
 use Rattle.h5_model.specs.Format.Links.{HasLinks}
 use Rattle.h5_model.specs.Tree.Objects.{Tree, Object, Content, Group, Array, Dataset, Link, Links, ToObject, Soft}
 use Rattle.h5_model.specs.Format.Reads.{IsSame, HasDataset, HasContent, HasAttributes, HasObject, Placed, IsPlaced, Reads, is_kept, kept_of}
+use Rattle.h5_model.specs.Format.Described.{described_dataset}
 use Rattle.h5_model.proofs.OneReading.{some_same, one_messages, one_links, one_attributes, where_of, first_or}
+use Rattle.h5_model.proofs.DescribedLaws.{in_header, dataset_in-in_header}
 use Rattle.h5_header.specs.Listed.{messages_in}
 use Rattle.h5_attr.specs.Attributes.{attributes_of}
 use Rattle.h5_layout.specs.Data.{dataset_told}
-use Rattle.h5_layout.specs.Described.{described_dataset}
 use Rattle.h5_layout.specs.Told.{array_told}
-use Rattle.h5_layout.proofs.ArrayLaws.{in_header, has_array, dataset_in-in_header}
 use Rattle.h5_layout.proofs.ToldLaws.{told}
 use Rattle.h5_group.specs.Told.{links_told, blocks_told}
 use Rattle.h5_open.specs.declared.opened.object.OpenedObject.{OpenedObject}
@@ -34,7 +34,7 @@ use Rattle.h5_open.proofs.OpenedLaws.HeaderNumbers.{number_is}
 
 dataset_is : (image : List ℕ) (ms : List Message) (d : Dataset) (blocks : List Block) → HasDataset image ms d blocks → dataset_told image (array_told ms) ≡ d
 dataset_is image ms d blocks has =
-    let same : array_told ms ≡ in_header image ms d blocks has = told ms (in_header image ms d blocks has) (has_array image ms d blocks has) in
+    let same : array_told ms ≡ in_header image ms d blocks has = told ms (in_header image ms d blocks has) has.array in
     ap (dataset_told image) same
     ∙ ap (described_dataset image (in_header image ms d blocks has)) (sym (told_chunks image d.fixed has.layout has.chunks blocks has.stored))
     ∙ dataset_in-in_header image ms d blocks has
@@ -69,7 +69,7 @@ module _ (image : List ℕ) (table : FinMap nat_cmp ℕ) (own : (a b h : ℕ) �
       ∙ sym (group_entries image table t read) in
       ap (λ (ls : Links). Group ls) (sym (same_entries_map links (links_by table (links_told image t)) listed))
   content_is ms (Group links) blocks content.Array (found, has, same) (list, read) = absurd (omega (arith, has.once, (list.kinds).no_table))
-  content_is ms (Array d) blocks (content.Group t) has (kinds, chosen, read) = absurd (omega (arith, has.one_space, (kinds.alone).0))
+  content_is ms (Array d) blocks (content.Group t) has (kinds, chosen, read) = absurd (omega (arith, has.array.one_space, (kinds.alone).0))
   content_is ms (Array d) blocks content.Array has (list, read) = ap (λ (x : Dataset). Array x) (dataset_is image ms d blocks has)
 
   -- ---- objects

@@ -5,12 +5,12 @@ use Rattle.h5_model.specs.Format.Addresses.{SymbolTable, symbol_table_of}
 use Rattle.h5_model.specs.Format.MessageTypes.{symbol_table_kind}
 use Rattle.h5_model.specs.Format.Messages.{Message, count_of, first_body}
 use Rattle.h5_model.specs.Format.Reads.{HasAttributes}
+use Rattle.h5_model.specs.Format.Described.{HasArray}
 use Rattle.h5_model.specs.Faults.HeaderFaults.{HasNameTwice, ListBreach}
 use Rattle.h5_model.specs.declared.open_fault.Cause.{Cause}
 use Rattle.h5_model.specs.declared.open_fault.Cause.TheVariants.{DuplicateMessage, HeapForm, MissingMessage, NoMemory}
 use Rattle.h5_header.specs.Kinds.{IsOfGroup, IsOfDataset}
 use Rattle.h5_attr.specs.Attributes.{HasNamesOnce, attributes_of, first_fault}
-use Rattle.h5_layout.specs.Described.{HasArray}
 use Rattle.h5_layout.specs.Judged.{breach_in}
 use Rattle.h5_layout.specs.Told.{array_told}
 

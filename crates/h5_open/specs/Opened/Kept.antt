@@ -9,7 +9,8 @@ use Rattle.h5_model.specs.Edits.Refusal.{is_chunked}
 use Rattle.h5_model.specs.Format.Addresses.{symbol_table_of}
 use Rattle.h5_model.specs.Format.MessageTypes.{symbol_table_kind}
 use Rattle.h5_model.specs.Format.Messages.{Message, first_body}
-use Rattle.h5_model.specs.Format.Reads.{Reads, storage_of}
+use Rattle.h5_model.specs.Format.Reads.{Reads}
+use Rattle.h5_model.specs.Format.Described.{storage_of, Described}
 use Rattle.h5_space.specs.Space.{Space}
 use Rattle.h5_space.specs.Whole.{IsApart}
 use Rattle.h5_header.specs.Heads.{is_read}
@@ -18,7 +19,6 @@ use Rattle.h5_header.specs.Listed.{messages_in}
 use Rattle.h5_group.specs.Exact.{HasExactKeys}
 use Rattle.h5_group.specs.Links.{IsGroupRead}
 use Rattle.h5_layout.specs.Data.{AreDataRead}
-use Rattle.h5_layout.specs.Described.{Described}
 use Rattle.h5_layout.specs.Told.{array_told, layout_told, type_told}
 use Rattle.h5_layout.specs.Trimmed.{IsTrimmed}
 use Rattle.h5_open.specs.declared.opened.object.OpenedObject.{OpenedObject}

@@ -5,7 +5,7 @@ use Rattle.std.specs.FinMap.{FinMap, entries, from_entries}
 use Rattle.std.specs.List.{filter_map, flat_map}
 use Rattle.h5_bytes.specs.Blocks.{block}
 use Rattle.h5_bytes.specs.declared.Block.{Block}
-pub use Rattle.h5_laws.specs.Numbered.{numbered}
+pub use Rattle.h5_laws.specs.Numbered.{numbered_from}
 use Rattle.h5_model.specs.Format.Messages.{Message}
 use Rattle.h5_model.specs.Format.Superblock.{superblock_length}
 use Rattle.h5_model.specs.Format.Symbols.{Target, Header, Text}

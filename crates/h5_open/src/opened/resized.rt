@@ -3,10 +3,10 @@
 ghost use Rattle.std.specs.Prelude.{◌≡◌, ◌↔◌, ◌+◌, ◌^◌, ◌<◌, ◌≤◌, ◌∷◌, [], ◌&&◌, Bool, Err, IfOk, IsFalse, IsTrue, OnErr, OnOk, false, length, true};
 ghost use Rattle.std.specs.FinMap.{get};
 ghost use Rattle.std.specs.Option.{option_copied};
-ghost use Rattle.h5_model.specs.Edits.Applied.{resized, with_dataset};
+ghost use Rattle.h5_model.specs.Edits.Applied.{with_sizes, with_dataset};
 ghost use Rattle.h5_model.specs.Tree.Objects.{with_object};
+ghost use Rattle.h5_model.specs.Format.Described.{Described};
 ghost use Rattle.h5_header.specs.Listed.{messages_in};
-ghost use Rattle.h5_layout.specs.Described.{Described};
 ghost use Rattle.h5_layout.specs.Kept.{smaller_sizes};
 ghost use Rattle.h5_layout.specs.ArrayEdits.{IsArrayApart, described_in};
 ghost use Rattle.h5_layout.specs.Extents.{CanHaveSizes, extent_room};
@@ -56,7 +56,8 @@ impl Opened {
         ensures changed { OnOk result ((lacks : Bool)
             → LacksMaxima self.old.image (get self.old.table number) lacks
             → IsChangedInPlace self.old self.new
-            (with_object self.old.tree number (with_dataset (resized sizes.now))) self.old.next (number ∷ [])
+            (with_object self.old.tree number (with_dataset (with_sizes sizes.now)))
+            self.old.next (number ∷ [])
             (extent_bytes lacks sizes.now)) }
         ensures sound { IsSound self.new }
         ensures trimmed { OnOk result (IsArrayTrimmed self.new number) }

@@ -5,7 +5,7 @@ ghost use Rattle.std.specs.List.{Contains};
 ghost use Rattle.h5_model.specs.Edits.Applied.{with_dataset};
 ghost use Rattle.h5_model.specs.Tree.Objects.{with_object};
 ghost use Rattle.h5_model.specs.Views.Selection.{Slab, selection_of};
-ghost use Rattle.h5_layout.specs.Described.{Described};
+ghost use Rattle.h5_model.specs.Format.Described.{Described};
 ghost use Rattle.h5_layout.specs.ArrayEdits.{IsArrayApart, described_in};
 ghost use Rattle.h5_layout.specs.Lacking.{IsFound, IsMissing, stored_all};
 ghost use Rattle.h5_layout.specs.RunStorage.{IsMadeAt};

@@ -4,8 +4,8 @@ ghost use Rattle.std.specs.Prelude.{◌≡◌, ℕ, ◌<◌, ◌∷◌, [], List
 ghost use Rattle.std.specs.BTreeMap.{BTreeMap};
 ghost use Rattle.h5_model.specs.Edits.Applied.{with_dataset};
 ghost use Rattle.h5_model.specs.Format.Superblock.{k_values};
+ghost use Rattle.h5_model.specs.Format.Described.{Described};
 ghost use Rattle.h5_model.specs.Tree.Objects.{Dataset, with_object};
-ghost use Rattle.h5_layout.specs.Described.{Described};
 ghost use Rattle.h5_layout.specs.Standing.{cell_blocks};
 ghost use Rattle.h5_shape.specs.Runs.{places_in};
 ghost use Rattle.h5_open.specs.declared.opened.object.OpenedObject.{OpenedObject};

@@ -3,8 +3,9 @@ use Rattle.std.proofs.Common.{◌≡◌, ℕ, zero, suc, ◌+◌, ◌*◌, ◌<�
 use Rattle.std.proofs.lemmas.List.{length-replicate}
 use Rattle.std.proofs.lemmas.Option.{same_Some}
 use Rattle.std.specs.Prelude.{nat_lt, if◌then◌else◌, slice_get, slice_index}
+use Rattle.std.proofs.lemmas.Bool.{not-true}
 use Rattle.h5_bytes.specs.Texts.{pad8}
-use Rattle.h5_model.specs.Format.Bodies.{raised, dataspace_bytes, bounded_bytes, fill_bytes, chunked_bytes, short_words}
+use Rattle.h5_model.specs.Format.Bodies.{padded_body, dataspace_bytes, bounded_bytes, fill_bytes, chunked_bytes, short_words}
 use Rattle.h5_model.specs.Format.Fixed.{Fixed}
 use Rattle.h5_model.specs.Format.Plain.{message_bytes, messages_bytes, cells_bytes}
 use Rattle.h5_model.specs.Format.Sizes.{dataspace_length, layout_size, message_size}
@@ -16,7 +17,7 @@ use Rattle.h5_msg.proofs.LayoutLaws.{short_words_long}
 use Rattle.h5_model.specs.Tree.Places.{cells}
 use Rattle.h5_model.proofs.PaddedLaws.{length-raised, padded_full}
 use Rattle.h5_repack.specs.Bodies.Bodies.{space_body, type_message, fill_message, fill_messages}
-use Rattle.h5_layout.specs.Described.{Described}
+use Rattle.h5_model.specs.Format.Described.{Described}
 use Rattle.h5_repack.specs.Blocks.Others.{OthersBytes}
 use Rattle.h5_repack.proofs.BodyLaws.HeaderSpace.{length-space_body, space_padded}
 use Rattle.h5_repack.specs.Blocks.ArrayHeader.{array_list, cells_written, data_written, has_data, header_written, in_chunks, layout_written, messages_count, messages_size, storage_written, stored_written}
@@ -52,20 +53,20 @@ length-chunked chunk tree size = omega (arith, short_words_long chunk, length-ap
 
 module _ (chunked : Bool) (sizes : List ℕ) (maxima : List (Option ℕ)) where
   abbrev space_by : Bool → List ℕ
-  space_by b = message_bytes (1, raised (if b then bounded_bytes sizes maxima else dataspace_bytes sizes))
+  space_by b = message_bytes (1, padded_body (if b then bounded_bytes sizes maxima else dataspace_bytes sizes))
 
   -- there is no zero behind it
-  same_body : length sizes ≤ 32 → length maxima ≡ length sizes → raised (space_body chunked sizes maxima) ≡ space_body chunked sizes maxima
+  same_body : length sizes ≤ 32 → length maxima ≡ length sizes → padded_body (space_body chunked sizes maxima) ≡ space_body chunked sizes maxima
   same_body rank same =
       let long = (space_padded chunked sizes maxima rank same).2 in
       padded_full (space_body chunked sizes maxima) (pad8 (length (space_body chunked sizes maxima))) (omega (arith, long))
 
   pub space_own : length sizes ≤ 32 → length maxima ≡ length sizes → (chunked || not (are_sizes sizes maxima)) ≡ false
-      → message_bytes (1, raised (dataspace_bytes sizes)) ≡ message_bytes (1, space_body chunked sizes maxima)
+      → message_bytes (1, padded_body (dataspace_bytes sizes)) ≡ message_bytes (1, space_body chunked sizes maxima)
   space_own rank same own = sym (ap space_by own) ∙ ap (λ body. message_bytes (1, body)) (same_body rank same)
 
   pub space_bounded : length sizes ≤ 32 → length maxima ≡ length sizes → (chunked || not (are_sizes sizes maxima)) ≡ true
-      → message_bytes (1, raised (bounded_bytes sizes maxima)) ≡ message_bytes (1, space_body chunked sizes maxima)
+      → message_bytes (1, padded_body (bounded_bytes sizes maxima)) ≡ message_bytes (1, space_body chunked sizes maxima)
   space_bounded rank same other = sym (ap space_by other) ∙ ap (λ body. message_bytes (1, body)) (same_body rank same)
 
   -- its length
@@ -76,27 +77,19 @@ module _ (chunked : Bool) (sizes : List ℕ) (maxima : List (Option ℕ)) where
       let long = (space_padded chunked sizes maxima rank same).2 in
       ap message_size (sym (length-space_body chunked sizes maxima same)) ∙ sym long ∙ omega arith
 
-pub space_few : (rank : ℕ) (b : Bool) → rank ≤ 32 → message_size (dataspace_length rank + (if b then 8 * rank else 0)) ≤ 528
-space_few rank true most = omega (arith, most)
-space_few rank false most = omega (arith, most)
-
 -- ---- the fill value message
-
-of_not : (b : Bool) → not b ≡ true → b ≡ false
-of_not true e = absurd (cc)
-of_not false e = refl
 
 module _ (chunked : Bool) (t : Fixed) (fill : ℤ) (others : ℕ) where
   abbrev fill_by : Bool → List (ℕ × List ℕ)
   fill_by b = if b then [] else fill_message chunked t fill ∷ []
 
   pub fill_there : not (nat_lt 65535 (4 + others)) ≡ true → messages_bytes (fill_messages chunked t fill others) ≡ message_bytes (fill_message chunked t fill)
-  fill_there few = ap (λ b. messages_bytes (fill_by b)) (of_not (nat_lt 65535 (4 + others)) few) ∙ append-nil (message_bytes (fill_message chunked t fill))
+  fill_there few = ap (λ b. messages_bytes (fill_by b)) (not-true (nat_lt 65535 (4 + others)) few) ∙ append-nil (message_bytes (fill_message chunked t fill))
 
   pub length-fill : not (nat_lt 65535 (4 + others)) ≡ true → message_size (8 + t.size) ≡ length (messages_bytes (fill_messages chunked t fill others))
   length-fill few =
       let time : ℕ = if chunked then 3 else 1 in
-      let long : length (raised (fill_bytes time t fill)) ≡ pad8 (8 + t.size) = length-raised (fill_bytes time t fill) ∙ ap pad8 (length-fill_bytes time t fill) in
+      let long : length (padded_body (fill_bytes time t fill)) ≡ pad8 (8 + t.size) = length-raised (fill_bytes time t fill) ∙ ap pad8 (length-fill_bytes time t fill) in
       sym (ap length (fill_there few) ∙ omega (arith, long))
 
 -- ---- the header
@@ -113,7 +106,7 @@ module _ (a : Described) (c : Cells) (o : OthersBytes) (address : Option ℕ) wh
   fills = fill_messages (in_chunks a.layout) a.fixed a.fill o.count
 
   abbrev layout : ℕ × List ℕ
-  layout = (8, raised (layout_written a c address))
+  layout = (8, padded_body (layout_written a c address))
 
   pub list_is : messages_bytes (array_list a c o address)
       ≡ message_bytes space ++ (message_bytes (type_message a.fixed) ++ (messages_bytes fills ++ (message_bytes layout ++ [])))
@@ -153,20 +146,17 @@ length-cells_written (Chunks held) a room = sym (length-filled a.fixed a.fill (c
 
 -- a layout message, wherever the data are
 pub length-laid : (a : Described) (c : Cells) (address : Option ℕ) → HasRoom c (cells a.sizes * (a.fixed).size)
-    → length (message_bytes (8, raised (layout_written a c address))) ≡ message_size (layout_size a.sizes (storage_written a c) (a.fixed).size)
+    → length (message_bytes (8, padded_body (layout_written a c address))) ≡ message_size (layout_size a.sizes (storage_written a c) (a.fixed).size)
 length-laid a c address room =
     let body : List ℕ = layout_written a c address in
     let long : length body ≡ layout_size a.sizes (storage_written a c) (a.fixed).size
     = length-layout (storage_written a c) a.fixed a.sizes (cells_written c a) address (length-cells_written c a room) in
-    let own : length (message_bytes (8, raised body)) ≡ 8 + length (raised body) = omega arith in
+    let own : length (message_bytes (8, padded_body body)) ≡ 8 + length (padded_body body) = omega arith in
     own ∙ ap (λ n. 8 + n) (length-raised body ∙ ap pad8 long)
 
 -- ---- data behind the header
 
 module _ (chunk_k : ℕ) (c : Cells) (a : Described) (place : ℕ) where
-  pub no_data : has_data a c ≡ false → data_written chunk_k c a place ≡ []
-  no_data none = ap (λ b. if b then stored_written chunk_k c a place else []) none
-
   pub all_data : has_data a c ≡ true → data_written chunk_k c a place ≡ stored_written chunk_k c a place
   all_data some = ap (λ b. if b then stored_written chunk_k c a place else []) some
 

@@ -18,7 +18,7 @@ use Rattle.h5_repack.specs.Bodies.Sound.{IsPlainStorage, IsUnset}
 use Rattle.h5_layout.specs.HeldChunks.{HeldCells, chunk_values}
 use Rattle.h5_chunks.specs.Keys.{index_from}
 use Rattle.h5_model.specs.Edits.Applied.{cell_or_fill}
-use Rattle.h5_layout.specs.Described.{Described}
+use Rattle.h5_model.specs.Format.Described.{Described}
 use Rattle.h5_repack.specs.declared.blocks.cells.Cells.{Cells}
 use Rattle.h5_repack.specs.declared.blocks.cells.Cells.TheVariants.{Unset, Filled, Stored, Chunks}
 use Rattle.h5_repack.specs.Blocks.ArrayHeader.{FitsLayout, group_written, array_list, cells_written, header_written, in_chunks, layout_written, messages_count, messages_size, data_written, address_written, storage_by, storage_written}

@@ -4,8 +4,8 @@ use Rattle.std.proofs.lemmas.List.{length-replicate, length-take, length-drop}
 use borrow.Rule.Slice.PartMut.{put_mid}
 use Rattle.h5_bytes.specs.Numbers.{short, zeros}
 use Rattle.h5_bytes.specs.Texts.{pad8}
-use Rattle.h5_model.specs.Format.Bodies.{raised}
-use Rattle.h5_model.specs.Format.Plain.{padded, message_bytes}
+use Rattle.h5_model.specs.Format.Bodies.{padded_body}
+use Rattle.h5_model.specs.Format.Plain.{with_zeros, message_bytes}
 use Rattle.h5_bytes.proofs.TailLaws.{tail_written}
 use Rattle.h5_model.proofs.PaddedLaws.{length-raised}
 use Rattle.h5_repack.specs.Blocks.Parts.{message_head, message_room}
@@ -41,7 +41,7 @@ module _ (kind size len at : ℕ) (out room whole : List ℕ) (made : room ≡ o
       ∙ append_assoc out head part ∙ ap (λ n. out ++ (short kind ++ (short n ++ (zeros 4 ++ part)))) (sym fills)
 
   -- a body with zeros behind it
-  pub body_written : (part body : List ℕ) → length body ≡ size → part ≡ padded body (length lent_part) → after part ≡ out ++ message_bytes (kind, raised body)
+  pub body_written : (part body : List ℕ) → length body ≡ size → part ≡ with_zeros body (length lent_part) → after part ≡ out ++ message_bytes (kind, padded_body body)
   body_written part body full is =
-      let same : part ≡ raised body = is ∙ ap (padded body) (length-lent ∙ ap pad8 (sym full)) in
+      let same : part ≡ padded_body body = is ∙ ap (with_zeros body) (length-lent ∙ ap pad8 (sym full)) in
       part_written part (ap length same ∙ length-raised body ∙ ap pad8 full) ∙ ap (λ xs. out ++ message_bytes (kind, xs)) same

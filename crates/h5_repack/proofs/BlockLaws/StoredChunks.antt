@@ -18,7 +18,7 @@ use Rattle.h5_chunks.specs.Keys.{OffsetKey, chunk_key}
 use Rattle.h5_chunks.specs.declared.write.ChunkKey.{ChunkKey}
 use Rattle.h5_layout.specs.HeldChunks.{HeldCells}
 use Rattle.h5_repack.specs.Bodies.Chunks.{chunk_children, chunk_nodes, chunks_place, key_after}
-use Rattle.h5_repack.specs.Blocks.StoredChunks.{IsLastKey, chunks_written, key_bytes, keyed, part_bytes, part_length, parts_bytes, parts_written}
+use Rattle.h5_repack.specs.Blocks.StoredChunks.{IsLastKey, chunks_written, key_bytes, with_key_bytes, part_bytes, part_length, parts_bytes, parts_written}
 use Rattle.h5_repack.specs.Blocks.Written.{AreWhole, part_offsets}
 use Rattle.h5_repack.proofs.ChunkLaws.ChunkLengths.{AreRanked, key_fits, keys_fit, length-children, length-nodes, node_long}
 use Rattle.h5_repack.proofs.ChunkLaws.KeyTrees.{tree_kept}
@@ -63,12 +63,6 @@ length-parts t n (part ∷ parts) all =
     omega (arith, own, length-append (part_bytes t part) (flat_map (part_bytes t) parts), length-parts t n parts all.1)
 
 module _ (h : HeldCells) (whole : AreWhole h) where
-  pub chunks_none : (k count : ℕ) → count ≡ length h.parts → count ≡ 0 → (place : ℕ) → length (chunks_written k h place) ≡ 0
-  chunks_none k count is none place = by_offsets (part_offsets h) (as_many h ∙ sym is ∙ none) where
-    by_offsets : (all : List (List ℕ)) → length all ≡ 0 → length (parts_written k h all place) ≡ 0
-    by_offsets [] zero_is = refl
-    by_offsets (first ∷ others) zero_is = absurd (omega (arith, zero_is))
-
   -- in a tree of nodes of this K
   module _ (ranked : AreRankedParts h) (k : ℕ) (some_k : 1 ≤ k) (count size : ℕ) (count_is : count ≡ length h.parts) (some : 1 ≤ count) (size_is : size ≡ part_length h) where
     -- nodes and chunks
@@ -128,20 +122,20 @@ place_step at place k long size is so_far = omega (arith, is, so_far)
 pub child_step : (h : HeldCells) (k place size : ℕ) (children new : List (Child ChunkKey)) (key : ChunkKey) → k < length h.parts → size ≡ part_length h
     → new ≡ children ++ record { at = place; key = key } ∷ []
     → ((part : List ℕ × List ℤ) → slice_get h.parts k ≡ Some part → key.bytes.now ≡ chunk_key (key_after (part_length h) h.chunk part.0 (drop (k + 1) (part_offsets h))))
-    → map (keyed key_bytes) new ++ map (keyed chunk_key) (chunk_children (part_length h) h.chunk (place + size) (drop (k + 1) (part_offsets h)))
-    ≡ map (keyed key_bytes) children ++ map (keyed chunk_key) (chunk_children (part_length h) h.chunk place (drop k (part_offsets h)))
+    → map (with_key_bytes key_bytes) new ++ map (with_key_bytes chunk_key) (chunk_children (part_length h) h.chunk (place + size) (drop (k + 1) (part_offsets h)))
+    ≡ map (with_key_bytes key_bytes) children ++ map (with_key_bytes chunk_key) (chunk_children (part_length h) h.chunk place (drop k (part_offsets h)))
 child_step h k place size children new key low size_is pushed key_is =
     let part : List ℕ × List ℤ = get_or h.parts k no_part in
-    let rest : List (Child (List ℕ)) = map (keyed chunk_key) (chunk_children (part_length h) h.chunk (place + part_length h) (drop (k + 1) (part_offsets h))) in
+    let rest : List (Child (List ℕ)) = map (with_key_bytes chunk_key) (chunk_children (part_length h) h.chunk (place + part_length h) (drop (k + 1) (part_offsets h))) in
     let own = key_is part (slice_get-get_or h.parts k no_part low) in
-    let next : map (keyed chunk_key) (chunk_children (part_length h) h.chunk place (drop k (part_offsets h)))
+    let next : map (with_key_bytes chunk_key) (chunk_children (part_length h) h.chunk place (drop k (part_offsets h)))
     ≡ record { at = place; key = key.bytes.now } ∷ rest
-    = ap (λ (all : List (List ℕ)). map (keyed chunk_key) (chunk_children (part_length h) h.chunk place all)) (offsets_next h k low)
+    = ap (λ (all : List (List ℕ)). map (with_key_bytes chunk_key) (chunk_children (part_length h) h.chunk place all)) (offsets_next h k low)
     ∙ (λ i. record { at = place; key = sym own i } ∷ rest) in
-    (λ i. map (keyed key_bytes) (pushed i) ++ map (keyed chunk_key) (chunk_children (part_length h) h.chunk (place + size_is i) (drop (k + 1) (part_offsets h))))
-    ∙ ap (λ (cs : List (Child (List ℕ))). cs ++ rest) (map-append (keyed key_bytes) children (record { at = place; key = key } ∷ []))
-    ∙ append_assoc (map (keyed key_bytes) children) (record { at = place; key = key.bytes.now } ∷ []) rest
-    ∙ ap (λ (cs : List (Child (List ℕ))). map (keyed key_bytes) children ++ cs) (sym next)
+    (λ i. map (with_key_bytes key_bytes) (pushed i) ++ map (with_key_bytes chunk_key) (chunk_children (part_length h) h.chunk (place + size_is i) (drop (k + 1) (part_offsets h))))
+    ∙ ap (λ (cs : List (Child (List ℕ))). cs ++ rest) (map-append (with_key_bytes key_bytes) children (record { at = place; key = key } ∷ []))
+    ∙ append_assoc (map (with_key_bytes key_bytes) children) (record { at = place; key = key.bytes.now } ∷ []) rest
+    ∙ ap (λ (cs : List (Child (List ℕ))). map (with_key_bytes key_bytes) children ++ cs) (sym next)
 
 pub part_step : (h : HeldCells) (k : ℕ) (out new : List ℕ) → k < length h.parts
     → ((part : List ℕ × List ℤ) → slice_get h.parts k ≡ Some part → new ≡ out ++ part_bytes h.fixed part)
@@ -155,11 +149,11 @@ part_step h k out new low pushed =
 -- ---- the tree
 
 module _ {K : Type 0} (kind : Kind) (bytes : K → List ℕ) where
-  fit_from : (cs : List (Child K)) → AllFit kind (λ (key : List ℕ). key) (map (keyed bytes) cs) → AllFit kind bytes cs
+  fit_from : (cs : List (Child K)) → AllFit kind (λ (key : List ℕ). key) (map (with_key_bytes bytes) cs) → AllFit kind bytes cs
   fit_from [] all = tt
   fit_from (c ∷ cs) all = (all.0, fit_from cs all.1)
 
-  fit_to : (cs : List (Child K)) → AllFit kind bytes cs → AllFit kind (λ (key : List ℕ). key) (map (keyed bytes) cs)
+  fit_to : (cs : List (Child K)) → AllFit kind bytes cs → AllFit kind (λ (key : List ℕ). key) (map (with_key_bytes bytes) cs)
   fit_to [] all = tt
   fit_to (c ∷ cs) all = (all.0, fit_to cs all.1)
 
@@ -180,13 +174,13 @@ module _ (k : ℕ) (some_k : 1 ≤ k) (h : HeldCells) (ranked : AreRankedParts h
     first_fits = by_parts h.parts ranked some first_is
 
     module _ (begin : ℕ) (children : List (Child ChunkKey))
-        (are : map (keyed key_bytes) children ≡ map (keyed chunk_key) (chunk_children size h.chunk begin (part_offsets h))) where
+        (are : map (with_key_bytes key_bytes) children ≡ map (with_key_bytes chunk_key) (chunk_children size h.chunk begin (part_offsets h))) where
       abbrev own : List (Child OffsetKey)
       own = chunk_children size h.chunk begin (part_offsets h)
 
       pub as_many_children : length children ≡ length h.parts
       as_many_children =
-          sym (length-map children (keyed key_bytes)) ∙ ap length are ∙ length-map own (keyed chunk_key) ∙ length-children h.chunk size begin (part_offsets h) ∙ as_many h
+          sym (length-map children (with_key_bytes key_bytes)) ∙ ap length are ∙ length-map own (with_key_bytes chunk_key) ∙ length-children h.chunk size begin (part_offsets h) ∙ as_many h
 
       pub all_fit : AllFit kind key_bytes children
       all_fit =
@@ -215,7 +209,7 @@ module _ (k : ℕ) (some_k : 1 ≤ k) (h : HeldCells) (ranked : AreRankedParts h
             let first_key : first.bytes.now ≡ chunk_key (record { bytes = size; offsets = head }) = head_key h.parts e first_is in
             sym (tree_kept (λ (key : List ℕ). key) key_bytes kind first place children)
             ∙ (λ i. tree_bytes (kind_is i) (λ (key : List ℕ). key) (first_key i) place (are i))
-            ∙ (λ i. tree_bytes (chunk_kind k (length h.chunk)) (λ (key : List ℕ). key) (chunk_key (record { bytes = size; offsets = head })) place (map (keyed chunk_key) (chunk_children size h.chunk (there i) (e i))))
+            ∙ (λ i. tree_bytes (chunk_kind k (length h.chunk)) (λ (key : List ℕ). key) (chunk_key (record { bytes = size; offsets = head })) place (map (with_key_bytes chunk_key) (chunk_children size h.chunk (there i) (e i))))
             ∙ tree_kept (λ (key : List ℕ). key) chunk_key (chunk_kind k (length h.chunk)) (record { bytes = size; offsets = head }) place
             (chunk_children size h.chunk (chunks_place k h.chunk (length (head ∷ others)) place) (head ∷ others)) where
               head_key : (parts : List (List ℕ × List ℤ)) → map (λ part. part.0) parts ≡ head ∷ others

@@ -16,6 +16,7 @@ use Rattle.h5_bytes.proofs.PartLaws.{part-whole}
 use Rattle.h5_bytes.specs.Blocks.{block, Run}
 use Rattle.h5_bytes.specs.Texts.{pad8}
 use Rattle.h5_bytes.specs.declared.Block.{Block}
+use Rattle.h5_model.specs.Format.MessageTypes.{data_layout_kind, dataspace_kind, datatype_kind, fill_value_kind, old_fill_value_kind}
 use Rattle.h5_model.specs.Format.Cells.{cells_of, value_in_chunk}
 use Rattle.h5_model.specs.Format.Chunks.{Chunks}
 use Rattle.h5_model.specs.Tree.Grid.{corner_of, inner_of}
@@ -25,9 +26,10 @@ use Rattle.h5_model.specs.Edits.Refusal.{is_chunked}
 use Rattle.h5_model.specs.Format.Layout.{Layout, InMessage, InBlock, InChunks, layout_of}
 use Rattle.h5_model.specs.Format.Messages.{Message, HasMessages, prefix_at, reference_count, count_of, first_body}
 use Rattle.h5_model.specs.Tree.Places.{cells, extent_cells, index_of, place_of}
-use Rattle.h5_model.specs.Format.Bodies.{raised, datatype_bytes, fill_bytes, compact_bytes, contiguous_bytes, chunked_bytes}
+use Rattle.h5_model.specs.Format.Bodies.{padded_body, datatype_bytes, fill_bytes, compact_bytes, contiguous_bytes, chunked_bytes}
 use Rattle.h5_model.specs.Format.Plain.{header_bytes, cells_bytes}
-use Rattle.h5_model.specs.Format.Reads.{HasObject, HasContent, HasDataset, HasData, InDataset, IsChunkSmall, IsFill, storage_of}
+use Rattle.h5_model.specs.Format.Reads.{HasObject, HasContent, HasDataset, HasData, InDataset}
+use Rattle.h5_model.specs.Format.Described.{IsChunkSmall, IsFill, storage_of}
 use Rattle.h5_model.specs.Tree.Sound.{AreOf}
 use Rattle.h5_model.specs.Tree.Objects.{Object, Content, Array, Dataset, Storage, Compact, Contiguous, Chunked}
 use Rattle.h5_model.proofs.PlainMessages.{messages_from, header_reads, header_counted}
@@ -70,7 +72,7 @@ module _ (t : Fixed) (sizes : List ℕ) (maxima : List (Option ℕ)) (fill : ℤ
   fills without = if without then [] else fill_message chunked t fill ∷ []
 
   abbrev bodies : Bool → List (ℕ × List ℕ)
-  bodies without = (1, space_body chunked sizes maxima) ∷ type_message t ∷ (fills without ++ (8, raised body) ∷ [])
+  bodies without = (1, space_body chunked sizes maxima) ∷ type_message t ∷ (fills without ++ (8, padded_body body) ∷ [])
 
   -- ---- they are messages of a content
 
@@ -84,11 +86,11 @@ module _ (t : Fixed) (sizes : List ℕ) (maxima : List (Option ℕ)) (fill : ℤ
 
   fill_content : IsContentMessage (fill_message chunked t fill)
   fill_content =
-      let long : length (raised (fill_bytes time t fill)) ≡ 16
+      let long : length (padded_body (fill_bytes time t fill)) ≡ 16
       = length-raised (fill_bytes time t fill) ∙ ap pad8 (length-fill_bytes time t fill) ∙ omega (arith, size-low t is, size-high t is) in
       record { plain = record { kind = omega arith; own = refl; padded = ap (λ n. n % 8) long; low = omega arith }; kind = refl }
 
-  layout_content : IsContentMessage (8, raised body)
+  layout_content : IsContentMessage (8, padded_body body)
   layout_content =
       let long = length-raised body in
       record { plain = record { kind = omega arith; own = refl; padded = omega (arith, long); low = omega (arith, long, short_body) }; kind = refl }
@@ -113,42 +115,42 @@ module _ (t : Fixed) (sizes : List ℕ) (maxima : List (Option ℕ)) (fill : ℤ
     abbrev ms : Bool → List Message
     ms without = messages_from place (bodies without)
 
-    one_space : (without : Bool) → count_of 1 (ms without) ≡ 1
+    one_space : (without : Bool) → count_of dataspace_kind (ms without) ≡ 1
     one_space true = refl
     one_space false = refl
 
-    one_type : (without : Bool) → count_of 3 (ms without) ≡ 1
+    one_type : (without : Bool) → count_of datatype_kind (ms without) ≡ 1
     one_type true = refl
     one_type false = refl
 
-    one_layout : (without : Bool) → count_of 8 (ms without) ≡ 1
+    one_layout : (without : Bool) → count_of data_layout_kind (ms without) ≡ 1
     one_layout true = refl
     one_layout false = refl
 
-    no_old_fill : (without : Bool) → count_of 4 (ms without) ≡ 0
+    no_old_fill : (without : Bool) → count_of old_fill_value_kind (ms without) ≡ 0
     no_old_fill true = refl
     no_old_fill false = refl
 
-    one_fill : (without : Bool) → count_of 5 (ms without) ≤ 1
+    one_fill : (without : Bool) → count_of fill_value_kind (ms without) ≤ 1
     one_fill true = omega arith
     one_fill false = omega arith
 
-    old_fill_read : (without : Bool) → IsFill (old_fill_value t) (first_body 4 (ms without)) None
+    old_fill_read : (without : Bool) → IsFill (old_fill_value t) (first_body old_fill_value_kind (ms without)) None
     old_fill_read true = refl
     old_fill_read false = refl
 
     abbrev new_fill : Bool → Option ℤ
     new_fill without = if without then None else Some fill
 
-    new_fill_read : (without : Bool) → IsFill (fill_value t) (first_body 5 (ms without)) (new_fill without)
+    new_fill_read : (without : Bool) → IsFill (fill_value t) (first_body fill_value_kind (ms without)) (new_fill without)
     new_fill_read true = refl
-    new_fill_read false = (fill_back time t fill _ (raised (fill_bytes time t fill)) is of refl, refl)
+    new_fill_read false = (fill_back time t fill _ (padded_body (fill_bytes time t fill)) is of refl, refl)
 
     chosen : (without : Bool) → (without ≡ true → fill ≡ pos 0) → fill ≡ chosen_fill (new_fill without) None
     chosen true unwritten = unwritten refl
     chosen false unwritten = refl
 
-    layout_found : (without : Bool) → first_body 8 (ms without) ≡ Some (raised body)
+    layout_found : (without : Bool) → first_body data_layout_kind (ms without) ≡ Some (padded_body body)
     layout_found true = refl
     layout_found false = refl
 
@@ -180,30 +182,34 @@ module _ (t : Fixed) (sizes : List ℕ) (maxima : List (Option ℕ)) (fill : ℤ
       abbrev array : Dataset
       array = record { fixed = t; sizes = sizes; maxima = maxima; storage = storage; fill = fill; cells = cs }
 
-      dataset : layout_of sizes t.size (raised body) ≡ Some layout → storage ≡ storage_of sizes layout → IsChunkSmall t layout → HasData image t layout held blocks
+      dataset : layout_of sizes t.size (padded_body body) ≡ Some layout → storage ≡ storage_of sizes layout → IsChunkSmall t layout → HasData image t layout held blocks
           → cs ≡ cells_of image t fill sizes layout held → (without ≡ true → fill ≡ pos 0) → HasDataset image messages array blocks
       dataset laid stored small data_there cells_are unwritten =
           let old = counted_own 4 refl ∙ no_old_fill (at + 16) without in
           let new = counted_own 5 refl in
           record {
             known = all_known;
-            one_space = counted_own 1 refl ∙ one_space (at + 16) without;
-            one_type = counted_own 3 refl ∙ one_type (at + 16) without;
-            one_layout = counted_own 8 refl ∙ one_layout (at + 16) without;
-            old_fills = omega (arith, old);
-            fills = omega (arith, new, one_fill (at + 16) without);
-            space = space_back chunked sizes maxima rank (sizes_small sizes few) bound;
-            type = fixed_back t 16 (raised (datatype_bytes t)) is refl;
-            old_fill = None;
-            new_fill = new_fill (at + 16) without;
-            old_filled = subst (λ body. IsFill (old_fill_value t) body None) (sym (found_own 4 refl)) (old_fill_read (at + 16) without);
-            new_filled = subst (λ body. IsFill (fill_value t) body (new_fill (at + 16) without)) (sym (found_own 5 refl)) (new_fill_read (at + 16) without);
-            filled = chosen (at + 16) without unwritten;
             layout = layout;
-            laid_out = ap (option_and_then (layout_of sizes t.size)) (found_own 8 refl ∙ layout_found (at + 16) without) ∙ laid;
+            array = record {
+              one_space = counted_own 1 refl ∙ one_space (at + 16) without;
+              one_type = counted_own 3 refl ∙ one_type (at + 16) without;
+              one_layout = counted_own 8 refl ∙ one_layout (at + 16) without;
+              old_fills = omega (arith, old);
+              fills = omega (arith, new, one_fill (at + 16) without);
+              space = space_back chunked sizes maxima rank (sizes_small sizes few) bound;
+              type = fixed_back t 16 (padded_body (datatype_bytes t)) is refl;
+              filled = record {
+                old_fill = None;
+                new_fill = new_fill (at + 16) without;
+                old_filled = subst (λ body. IsFill (old_fill_value t) body None) (sym (found_own 4 refl)) (old_fill_read (at + 16) without);
+                new_filled = subst (λ body. IsFill (fill_value t) body (new_fill (at + 16) without)) (sym (found_own 5 refl)) (new_fill_read (at + 16) without);
+                filled = chosen (at + 16) without unwritten;
+              };
+              laid_out = ap (option_and_then (layout_of sizes t.size)) (found_own 8 refl ∙ layout_found (at + 16) without) ∙ laid;
+              small = few;
+              chunk_small = small;
+            };
             storage = stored;
-            small = few;
-            chunk_small = small;
             chunks = held;
             stored = data_there;
             cells = cells_are;
@@ -247,7 +253,7 @@ pub record IsLaid (image : List ℕ) (place end : ℕ) (address : Option ℕ) (d
   pub blocks : List Block
   pub run : Run place blocks end
   pub short : IsLayoutBody (array_layout d address)
-  pub says : layout_of d.sizes (d.fixed).size (raised (array_layout d address)) ≡ Some layout
+  pub says : layout_of d.sizes (d.fixed).size (padded_body (array_layout d address)) ≡ Some layout
   pub storage : d.storage ≡ storage_of d.sizes layout
   pub small : IsChunkSmall d.fixed layout
   pub stored : HasData image d.fixed layout chunks blocks
@@ -281,7 +287,7 @@ module _ (image : List ℕ) (place : ℕ) (t : Fixed) (sizes : List ℕ) (maxima
         blocks = [];
         run = omega arith;
         short = omega (arith, low, long);
-        says = compact_back bytes _ (raised (compact_bytes bytes)) sizes t.size (omega (arith, low, long)) refl (sym long);
+        says = compact_back bytes _ (padded_body (compact_bytes bytes)) sizes t.size (omega (arith, low, long)) refl (sym long);
         storage = refl;
         small = tt;
         stored = (refl, refl);
@@ -300,7 +306,7 @@ module _ (image : List ℕ) (place : ℕ) (t : Fixed) (sizes : List ℕ) (maxima
         blocks = block place (length bytes) ∷ [];
         run = (refl, refl);
         short = omega arith;
-        says = contiguous_back (Some place) len 24 (raised (contiguous_bytes (Some place) len)) sizes t.size there (omega (arith, room)) refl (omega arith);
+        says = contiguous_back (Some place) len 24 (padded_body (contiguous_bytes (Some place) len)) sizes t.size there (omega (arith, room)) refl (omega arith);
         storage = ap (λ b. Contiguous b) any;
         small = tt;
         stored = (refl, ap (λ n. block place n ∷ []) long);
@@ -317,7 +323,7 @@ module _ (image : List ℕ) (place : ℕ) (t : Fixed) (sizes : List ℕ) (maxima
         blocks = [];
         run = omega arith;
         short = omega arith;
-        says = contiguous_back None len 24 (raised (contiguous_bytes None len)) sizes t.size there (omega (arith, room)) refl (omega arith);
+        says = contiguous_back None len 24 (padded_body (contiguous_bytes None len)) sizes t.size there (omega (arith, room)) refl (omega arith);
         storage = refl;
         small = tt;
         stored = (refl, refl);
@@ -335,7 +341,7 @@ module _ (image : List ℕ) (place : ℕ) (t : Fixed) (sizes : List ℕ) (maxima
         blocks = [];
         run = omega arith;
         short = omega (arith, body_long, same, rank);
-        says = chunked_back chunk None t.size _ (raised body) sizes (chunk_sizes_low t chunk (size-low t is) plain) plain.some there plain.ranked
+        says = chunked_back chunk None t.size _ (padded_body body) sizes (chunk_sizes_low t chunk (size-low t is) plain) plain.some there plain.ranked
             (omega (arith, size-high t is)) refl (sym same);
         storage = refl;
         small = plain.small;

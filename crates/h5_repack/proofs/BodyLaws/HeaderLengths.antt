@@ -6,7 +6,7 @@ use Rattle.std.specs.List.{AllZip}
 use Rattle.h5_bytes.specs.Texts.{pad8}
 use Rattle.h5_bytes.specs.Bytes.{little_bytes}
 use Rattle.h5_model.specs.Edits.Refusal.{is_chunked}
-use Rattle.h5_model.specs.Format.Bodies.{raised, fill_bytes, short_words}
+use Rattle.h5_model.specs.Format.Bodies.{padded_body, fill_bytes, short_words}
 use Rattle.h5_model.specs.Format.Fixed.{Fixed, IsFixed}
 use Rattle.h5_model.specs.Tree.Places.{cells, extent_cells}
 use Rattle.h5_model.specs.Tree.Sound.{IsDataset}
@@ -40,7 +40,7 @@ pub length-messages_of : (t : Fixed) (sizes : List ℕ) (maxima : List (Option �
     → length (messages_bytes (messages_of t sizes maxima fill chunked layout others))
     ≡ 8 + length (space_body chunked sizes maxima) + (24 + (length (messages_bytes (fill_messages chunked t fill others)) + message_size (length layout)))
 length-messages_of t sizes maxima fill chunked layout others =
-    let laid : ℕ × List ℕ = (8, raised layout) in
+    let laid : ℕ × List ℕ = (8, padded_body layout) in
     let fills : List (ℕ × List ℕ) = fill_messages chunked t fill others in
     let behind = length-messages fills (laid ∷ []) in
     let last : length (messages_bytes (laid ∷ [])) ≡ 8 + pad8 (length layout) + 0 = one_more laid [] (pad8 (length layout)) 0 (length-raised layout) refl in

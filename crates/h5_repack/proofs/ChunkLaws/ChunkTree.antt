@@ -8,7 +8,7 @@ use Rattle.std.specs.Cmp.Lexicographic.{slice_cmp}
 use Rattle.std.specs.FinMap.{entries, values, from_sorted, entries-from_sorted, is_sorted}
 use Rattle.std.specs.List.{AllByRecursion, AllZip, flat_map, zip}
 use Rattle.h5_bytes.specs.Blocks.{block}
-use Rattle.h5_bytes.specs.Bytes.{undefined}
+use Rattle.h5_bytes.specs.Bytes.{undefined_address}
 use Rattle.h5_bytes.proofs.BlockLaws.{all_append, all_so}
 use Rattle.h5_model.specs.Format.Rows.{IsRow, AreRows, Reading, blank, next_row, nodes, row_below}
 use Rattle.h5_model.specs.Format.Nodes.{HasTree, Kind, chunk_kind, node_at, node_bytes, reading_of, tree_blocks}
@@ -76,7 +76,7 @@ same_pairs {X = X} all own (x ∷ xs) (p ∷ ps) same among among' =
 
 -- ---- rows
 
-bottom_row : (V : Reading) (level : ℕ) (row : List ℕ) → AreRows V level row → IsRow V 0 undefined (row_below V level row)
+bottom_row : (V : Reading) (level : ℕ) (row : List ℕ) → AreRows V level row → IsRow V 0 undefined_address (row_below V level row)
 bottom_row V zero row are = are
 bottom_row V (suc level) row are = bottom_row V level (next_row V row) are.1
 
@@ -239,7 +239,7 @@ module _ (chunk : List ℕ) (grid : IsGridOf chunk) (size : ℕ) (some : 1 ≤ s
     owned_of n is = subst (In n) (sym (plain.tree).owns) (in_bottom V level (at ∷ []) n is)
 
     level_of : (n : ℕ) → In n bottom → (V n).level ≡ 0
-    level_of n is = row_level V 0 undefined n bottom (bottom_row V level (at ∷ []) (plain.tree).rows) is
+    level_of n is = row_level V 0 undefined_address n bottom (bottom_row V level (at ∷ []) (plain.tree).rows) is
 
     long_of : (n : ℕ) → In n bottom → length (V n).keys ≡ length (V n).children + 1
     long_of n is =

@@ -11,7 +11,7 @@ use Rattle.h5_bytes.specs.Bytes.{part}
 use Rattle.h5_bytes.specs.Blocks.{Run, block}
 use Rattle.h5_bytes.specs.declared.Block.{Block}
 use Rattle.h5_bytes.proofs.BlockLaws.{all_so}
-use Rattle.h5_model.specs.Format.Bodies.{chunked_bytes, raised}
+use Rattle.h5_model.specs.Format.Bodies.{chunked_bytes, padded_body}
 use Rattle.h5_model.specs.Format.Chunks.{HasChunks, IsOffset}
 use Rattle.h5_model.specs.Format.Fixed.{IsFixed}
 use Rattle.h5_model.specs.Format.Layout.{InChunks, layout_of}
@@ -70,11 +70,11 @@ module _ (d : Dataset) (chunk : List ℕ) (e : d.storage ≡ Chunked chunk) (fix
 
     module _ (image : List ℕ) (k_is : chunk_k image ≡ k) (few_k : k ≤ 32767) (low_tree : root_level k (length (first ∷ others)) ≤ 15) (few : length d.sizes ≤ 32) (room : place + length bytes < 2 ^ 63)
         (there : part place (length bytes) image ≡ bytes) where
-      says : layout_of d.sizes (d.fixed).size (raised (array_layout d (Some place))) ≡ Some (InChunks chunk (Some place))
+      says : layout_of d.sizes (d.fixed).size (padded_body (array_layout d (Some place))) ≡ Some (InChunks chunk (Some place))
       says =
           let low : IsAddress (Some place) = λ n f. let here : place ≡ n = cc in omega (arith, room, here) in
-          ap (λ (s : Storage). layout_of d.sizes (d.fixed).size (raised (layout_body s d.fixed (cells d.sizes) (cells_bytes d.fixed d.cells) (Some place)))) e
-          ∙ chunked_back chunk (Some place) (d.fixed).size _ (raised (chunked_bytes chunk (Some place) (d.fixed).size)) d.sizes grid.small plain.some low plain.ranked
+          ap (λ (s : Storage). layout_of d.sizes (d.fixed).size (padded_body (layout_body s d.fixed (cells d.sizes) (cells_bytes d.fixed d.cells) (Some place)))) e
+          ∙ chunked_back chunk (Some place) (d.fixed).size _ (padded_body (chunked_bytes chunk (Some place) (d.fixed).size)) d.sizes grid.small plain.some low plain.ranked
           (omega (arith, size-high d.fixed fixed)) refl (sym same)
 
       body_long : length (array_layout d (Some place)) ≡ 11 + 4 * (length chunk + 1)

@@ -2,11 +2,11 @@
 -- 3.0, section III.A.1).
 use Rattle.std.proofs.Common.{◌≡◌, ℕ, ℤ, List, [], ◌∷◌, length, map, refl, sym, ap, subst}
 use Rattle.h5_bytes.specs.declared.Block.{Block}
-use Rattle.h5_model.specs.Edits.Applied.{resized}
-use Rattle.h5_model.specs.Format.Reads.{HasData, storage_of}
+use Rattle.h5_model.specs.Edits.Applied.{with_sizes}
+use Rattle.h5_model.specs.Format.Reads.{HasData}
+use Rattle.h5_model.specs.Format.Described.{storage_of, Described}
 use Rattle.h5_model.specs.Tree.Objects.{Dataset, Chunked}
 use Rattle.h5_layout.specs.Data.{dataset_told, stored_chunks}
-use Rattle.h5_layout.specs.Described.{Described}
 use Rattle.h5_layout.specs.HeldChunks.{chunk_values, held_cells, held_chunks}
 pub use Rattle.h5_layout.proofs.HeldParts.{resized_own}
 use Rattle.h5_repack.specs.Bodies.Headers.{AreStoredFor}
@@ -19,7 +19,7 @@ offsets_alone f (offsets ∷ others) = ap (λ (rest : List (List ℕ)). offsets 
 
 module _ (image : List ℕ) (a : Described) (chunk sizes : List ℕ) where
   abbrev array : Dataset
-  array = resized sizes (dataset_told image a)
+  array = with_sizes sizes (dataset_told image a)
 
   pub held_offsets : map (λ p. p.0) (held_cells image a chunk sizes).parts ≡ held_chunks sizes (stored_chunks image a.fixed a.layout)
   held_offsets = offsets_alone (chunk_values array chunk) (held_chunks sizes (stored_chunks image a.fixed a.layout))

@@ -10,7 +10,7 @@ use Rattle.std.specs.Cmp.Lexicographic.{slice_cmp, nat_list_cmp_total}
 use Rattle.std.specs.FinMap.{entries, entries_sorted, get, get-entries, get-retain_keys, retain_keys, nat_cmp-IsAntisymmetric, slice_cmp-IsAntisymmetric}
 use Rattle.std.specs.List.{AllByRecursion, AllZip, Contains, zip}
 use Rattle.h5_bytes.specs.declared.Block.{Block}
-use Rattle.h5_model.specs.Edits.Applied.{cell_or_fill, resized}
+use Rattle.h5_model.specs.Edits.Applied.{cell_or_fill, with_sizes}
 use Rattle.h5_model.specs.Format.Cells.{cells_of, value_in_chunk}
 use Rattle.h5_model.specs.Format.Chunks.{Chunks, HasChunkKeys, HasChunks, IsChunkKey, IsOffset, chunks_in, offsets_in}
 use Rattle.h5_model.specs.Format.Layout.{InChunks}
@@ -57,7 +57,7 @@ unread_fill image d chunk root chunks cells_are index inside none =
     ∙ ap (value_in_chunk image d.fixed d.fill (cells chunk * (d.fixed).size) (place_of chunk (inner_of chunk index))) none
 
 -- and where the array then has other sizes
-pub resized_fill : (sizes : List ℕ) (d : Dataset) (chunk : List ℕ) (chunks : Chunks) → IsFillUnstored d chunk chunks → IsFillUnstored (resized sizes d) chunk chunks
+pub resized_fill : (sizes : List ℕ) (d : Dataset) (chunk : List ℕ) (chunks : Chunks) → IsFillUnstored d chunk chunks → IsFillUnstored (with_sizes sizes d) chunk chunks
 resized_fill sizes d chunk chunks unstored index inside none =
     get_or-map-range_with_len (λ n. cell_or_fill d (index_of sizes n)) 0 (cells sizes) (place_of sizes index) (place_of sizes index) d.fill (place_below sizes index inside) (omega arith)
     ∙ ap (cell_or_fill d) (index-place sizes index inside) ∙ by_test (is_inside d.sizes index) refl where
@@ -65,17 +65,7 @@ resized_fill sizes d chunk chunks unstored index inside none =
       by_test true is = unstored index (inside_of d.sizes index is) none
       by_test false is = refl
 
--- an array of which no chunk is stored
-pub none_stored : (d : Dataset) (chunk : List ℕ) → IsUnset d → AreStoredChunks d chunk []
-none_stored d chunk unset = record {
-  rising = tt;
-  held = tt;
-  unset = λ index inside none.
-      ap (λ cs. slice_index_or cs (place_of d.sizes index) d.fill) unset
-      ∙ get_or-replicate (cells d.sizes) (place_of d.sizes index) d.fill d.fill (place_below d.sizes index inside);
-}
-
--- and there each cell is the fill
+-- each cell of an array of which no chunk is stored is the fill
 pub none_unset : (d : Dataset) (chunk : List ℕ) → length d.cells ≡ cells d.sizes → AreStoredChunks d chunk [] → IsUnset d
 none_unset d chunk counted are =
     fill_by_all (λ (k : ℕ). d.fill) d.cells (cells d.sizes) d.fill counted each

@@ -2,7 +2,7 @@
 use Rattle.std.proofs.Common.{◌≡◌, ℕ, zero, suc, ◌+◌, ◌*◌, List, [], ◌∷◌, ◌++◌, length, map, take, drop, refl, sym, ap, ◌∙◌, true, false, Bool, cond}
 use Rattle.std.proofs.lemmas.List.{length-map}
 use Rattle.std.specs.Prelude.{nat_le}
-use Rattle.h5_bytes.specs.Bytes.{undefined}
+use Rattle.h5_bytes.specs.Bytes.{undefined_address}
 use Rattle.h5_model.specs.Format.Nodes.{Kind, node_length}
 use Rattle.h5_model.specs.Format.Plain.{node_bytes_of}
 use Rattle.h5_btree.specs.declared.write.child.Child.{Child}
@@ -84,29 +84,29 @@ module _ {K L : Type 0} (g : L → List ℕ) (h : K → L) (kind : Kind) where
         ap (λ n. by_count n) (length-map cs kept) ∙ by_cases (nat_le (length cs) (2 * kind.k)) (λ upper. rows_kept levels (level + 1) at upper) where
           -- the rows over so many children
           by_test : ℕ → Bool → List ℕ
-          by_test n b = cond b (row_bytes kind g level undefined (h first) at (map kept cs ∷ []))
+          by_test n b = cond b (row_bytes kind g level undefined_address (h first) at (map kept cs ∷ []))
               (rows_bytes kind g (h first) levels (level + 1) at (as_children kind (row_place levels kind at n) (h first) (cut_into_lists n (2 * kind.k) (map kept cs)))
-              ++ row_bytes kind g level undefined (h first) (row_place levels kind at n) (cut_into_lists n (2 * kind.k) (map kept cs)))
+              ++ row_bytes kind g level undefined_address (h first) (row_place levels kind at n) (cut_into_lists n (2 * kind.k) (map kept cs)))
 
           by_count : ℕ → List ℕ
           by_count n = by_test n (nat_le n (2 * kind.k))
 
           own : Bool → List ℕ
-          own b = cond b (row_bytes kind bytes level undefined first at (cs ∷ []))
+          own b = cond b (row_bytes kind bytes level undefined_address first at (cs ∷ []))
               (rows_bytes kind bytes first levels (level + 1) at (as_children kind (row_place levels kind at (length cs)) first (chunks (2 * kind.k) cs))
-              ++ row_bytes kind bytes level undefined first (row_place levels kind at (length cs)) (chunks (2 * kind.k) cs))
+              ++ row_bytes kind bytes level undefined_address first (row_place levels kind at (length cs)) (chunks (2 * kind.k) cs))
 
           by_cases : (b : Bool)
               → ((upper : List (Child K)) → rows_bytes kind g (h first) levels (level + 1) at (map kept upper) ≡ rows_bytes kind bytes first levels (level + 1) at upper)
               → by_test (length cs) b ≡ own b
-          by_cases true again = row_kept level undefined first at (cs ∷ [])
+          by_cases true again = row_kept level undefined_address first at (cs ∷ [])
           by_cases false again =
               let place : ℕ = row_place levels kind at (length cs) in
               let cut : cut_into_lists (length cs) (2 * kind.k) (map kept cs) ≡ map (map kept) (chunks (2 * kind.k) cs) = cut_mapped kept (length cs) (2 * kind.k) cs in
               let upper : as_children kind place (h first) (cut_into_lists (length cs) (2 * kind.k) (map kept cs)) ≡ map kept (as_children kind place first (chunks (2 * kind.k) cs))
               = ap (as_children kind place (h first)) cut ∙ raised_kept place first (chunks (2 * kind.k) cs) in
               let above = ap (rows_bytes kind g (h first) levels (level + 1) at) upper ∙ again (as_children kind place first (chunks (2 * kind.k) cs)) in
-              let row = ap (row_bytes kind g level undefined (h first) place) cut ∙ row_kept level undefined first place (chunks (2 * kind.k) cs) in
+              let row = ap (row_bytes kind g level undefined_address (h first) place) cut ∙ row_kept level undefined_address first place (chunks (2 * kind.k) cs) in
               (λ i. above i ++ row i)
 
     pub tree_kept : (at : ℕ) (cs : List (Child K)) → tree_bytes kind g (h first) at (map kept cs) ≡ tree_bytes kind bytes first at cs

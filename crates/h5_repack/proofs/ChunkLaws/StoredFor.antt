@@ -1,26 +1,25 @@
--- The stored chunks of an array, however it is stored: none where each cell is the fill or none is in a chunk; and of an array that is
--- read, those of the image that hold a cell of the extent (File Format Specification 3.0, sections III.A.1 and IV.A.2.i).
+-- The stored chunks of an array, however it is stored: any list where none of its cells is in a chunk; and of an array that is read and has
+-- new sizes then, those of the image that hold a cell of its extent (File Format Specification 3.0, sections III.A.1 and IV.A.2.i).
 use Rattle.std.proofs.Common.{◌≡◌, ℕ, ◌*◌, List, [], length, refl, sym, ap, ◌∙◌, subst, false, true, Option, Some, None}
 use Rattle.std.specs.Ordering.{nat_cmp}
 use Rattle.std.specs.Cmp.Lexicographic.{slice_cmp}
 use Rattle.std.specs.FinMap.{entries}
 use Rattle.h5_bytes.specs.declared.Block.{Block}
 use Rattle.h5_model.proofs.MapSteps.{entries-empty}
-use Rattle.h5_model.specs.Edits.Applied.{resized}
+use Rattle.h5_model.specs.Edits.Applied.{with_sizes}
 use Rattle.h5_model.specs.Edits.Refusal.{is_chunked}
 use Rattle.h5_model.specs.Format.Cells.{cells_of}
 use Rattle.h5_model.specs.Format.Chunks.{Chunks}
 use Rattle.h5_model.specs.Format.Layout.{Layout, InMessage, InBlock, InChunks}
-use Rattle.h5_model.specs.Format.Messages.{Message}
-use Rattle.h5_model.specs.Format.Reads.{HasData, HasDataset, storage_of}
+use Rattle.h5_model.specs.Format.Reads.{HasData}
+use Rattle.h5_model.specs.Format.Described.{storage_of}
 use Rattle.h5_model.specs.Format.Superblock.{chunk_k}
 use Rattle.h5_model.specs.Tree.Objects.{Dataset, Storage, Compact, Contiguous, Chunked}
 use Rattle.h5_model.specs.Tree.Places.{cells}
 use Rattle.h5_laws.proofs.Lists.{In}
 use Rattle.h5_layout.specs.HeldChunks.{AreStoredChunks, held_chunks}
 use Rattle.h5_repack.specs.Bodies.Headers.{AreStoredFor}
-use Rattle.h5_repack.specs.Bodies.Sound.{IsUnset}
-use Rattle.h5_repack.proofs.ChunkLaws.HeldChunks.{AreAligned, IsFillUnstored, aligned_stored, none_stored, read_aligned, resized_fill, unread_fill}
+use Rattle.h5_repack.proofs.ChunkLaws.HeldChunks.{AreAligned, IsFillUnstored, aligned_stored, read_aligned, resized_fill, unread_fill}
 
 -- ---- by how it is stored
 
@@ -34,24 +33,9 @@ stored_by stored d (Chunked chunk) each = each chunk refl
 pub stored_for : (stored : List (List ℕ)) (d : Dataset) → ((chunk : List ℕ) → d.storage ≡ Chunked chunk → AreStoredChunks d chunk stored) → AreStoredFor stored d
 stored_for stored d each = stored_by stored d d.storage each
 
-chunks_by : (stored : List (List ℕ)) (d : Dataset) (s : Storage) (chunk : List ℕ) → AreStoredFor stored (record d { storage = s }) → s ≡ Chunked chunk
-    → AreStoredChunks (record d { storage = s }) chunk stored
-chunks_by stored d Compact chunk are e = absurd (cc)
-chunks_by stored d (Contiguous held) chunk are e = absurd (cc)
-chunks_by stored d (Chunked sizes) chunk are e =
-    let same : sizes ≡ chunk = cc in subst (λ (c : List ℕ). AreStoredChunks (record d { storage = Chunked sizes }) c stored) same are
-
--- and follows
-pub chunks_of_stored : (stored : List (List ℕ)) (d : Dataset) (chunk : List ℕ) → AreStoredFor stored d → d.storage ≡ Chunked chunk → AreStoredChunks d chunk stored
-chunks_of_stored stored d chunk are e = chunks_by stored d d.storage chunk are e
-
 -- an array of which no cell is in a chunk
 pub unchunked_stored : (stored : List (List ℕ)) (d : Dataset) → is_chunked d.storage ≡ false → AreStoredFor stored d
 unchunked_stored stored d other = stored_for stored d (λ chunk e. absurd (let both : true ≡ false = sym (ap is_chunked e) ∙ other in cc))
-
--- an array of which each cell is the fill
-pub unset_stored : (d : Dataset) → IsUnset d → AreStoredFor [] d
-unset_stored d unset = stored_for [] d (λ chunk e. none_stored d chunk unset)
 
 -- ---- an array that is read
 
@@ -78,18 +62,8 @@ module _ (image : List ℕ) (d : Dataset) (layout : Layout) (chunks : Chunks) (b
   chunked_so chunk e = chunked_by layout chunk refl (sym storage ∙ e)
 
   module _ (boxed : (chunk : List ℕ) → d.storage ≡ Chunked chunk → length chunk ≡ length d.sizes) where
-    -- the chunks of the image that hold a cell
-    pub held_for : AreStoredFor (held_chunks d.sizes chunks) d
-    held_for = stored_for (held_chunks d.sizes chunks) d
-        (λ chunk e. let own = chunked_so chunk e in aligned_stored d chunk chunks own.0 (boxed chunk e) own.1)
-
-    -- and those that hold one of another extent, where the array has these sizes
-    pub resized_for : (sizes : List ℕ) → length sizes ≡ length d.sizes → AreStoredFor (held_chunks sizes chunks) (resized sizes d)
-    resized_for sizes ranked = stored_for (held_chunks sizes chunks) (resized sizes d)
+    -- the chunks of the image that hold a cell of the extent of these sizes, where the array then has them
+    pub resized_for : (sizes : List ℕ) → length sizes ≡ length d.sizes → AreStoredFor (held_chunks sizes chunks) (with_sizes sizes d)
+    resized_for sizes ranked = stored_for (held_chunks sizes chunks) (with_sizes sizes d)
         (λ chunk e. let own = chunked_so chunk e in
-        aligned_stored (resized sizes d) chunk chunks own.0 (boxed chunk e ∙ sym ranked) (resized_fill sizes d chunk chunks own.1))
-
--- as the messages of its header say
-pub read_stored : (image : List ℕ) (messages : List Message) (d : Dataset) (blocks : List Block) (has : HasDataset image messages d blocks)
-    → ((chunk : List ℕ) → d.storage ≡ Chunked chunk → length chunk ≡ length d.sizes) → AreStoredFor (held_chunks d.sizes has.chunks) d
-read_stored image messages d blocks has boxed = held_for image d has.layout has.chunks blocks has.storage has.stored has.cells boxed
+        aligned_stored (with_sizes sizes d) chunk chunks own.0 (boxed chunk e ∙ sym ranked) (resized_fill sizes d chunk chunks own.1))

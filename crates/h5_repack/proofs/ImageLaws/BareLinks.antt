@@ -10,8 +10,8 @@ use Rattle.h5_model.specs.Format.PlainLength.{nodes_over, rows_of}
 use Rattle.h5_model.specs.Format.Sizes.{group_node, symbol_node}
 use Rattle.h5_btree.specs.Writing.Written.{cut_into_lists, chunks, tree_bytes}
 use Rattle.h5_btree.specs.declared.write.child.Child.{Child}
-use Rattle.h5_group.specs.Heap.Links.{Leads, ToGroup, ToArray, ToText, spelled}
-use Rattle.h5_group.specs.Heap.Written.{texts_span, placed, placed_links, written_segment, heap_bytes}
+use Rattle.h5_group.specs.Heap.Links.{Leads, ToGroup, ToArray, ToText, heap_texts}
+use Rattle.h5_group.specs.Heap.Written.{texts_span, links_with_offsets, placed_links, written_segment, heap_bytes}
 use Rattle.h5_group.specs.Writing.Written.{runs_of, written_symbol_node, last_name_offset, children_of, heap_place, symbols_place, links_bytes}
 use Rattle.h5_group.proofs.WriteLaws.SymbolNodes.{length-node_of}
 
@@ -23,7 +23,7 @@ bare (name, ToText text) = (name, ToText text)
 
 -- ---- its texts
 
-spelled_bare : (links : List (List ℕ × Leads)) → spelled (map bare links) ≡ spelled links
+spelled_bare : (links : List (List ℕ × Leads)) → heap_texts (map bare links) ≡ heap_texts links
 spelled_bare [] = refl
 spelled_bare ((name, ToGroup header tree heap) ∷ links) = ap (λ (texts : List (List ℕ)). name ∷ texts) (spelled_bare links)
 spelled_bare ((name, ToArray header) ∷ links) = ap (λ (texts : List (List ℕ)). name ∷ texts) (spelled_bare links)
@@ -44,10 +44,10 @@ span_bare (name, ToText text) = refl
 abbrev placed_bare : ℕ × (List ℕ × Leads) → ℕ × (List ℕ × Leads)
 placed_bare x = (x.0, bare x.1)
 
-placed_map : (at : ℕ) (links : List (List ℕ × Leads)) → placed at (map bare links) ≡ map placed_bare (placed at links)
+placed_map : (at : ℕ) (links : List (List ℕ × Leads)) → links_with_offsets at (map bare links) ≡ map placed_bare (links_with_offsets at links)
 placed_map at [] = refl
 placed_map at (l ∷ links) =
-    ap (λ n. (at, bare l) ∷ placed (at + n) (map bare links)) (span_bare l)
+    ap (λ n. (at, bare l) ∷ links_with_offsets (at + n) (map bare links)) (span_bare l)
     ∙ ap (λ (rest : List (ℕ × (List ℕ × Leads))). (at, bare l) ∷ rest) (placed_map (at + texts_span l) links)
 
 -- ---- runs

@@ -144,9 +144,6 @@ module _ (links_length_is : LinksLength) (group_length : GroupLength) (k : KValu
       heap_low : group_heap_place k o group header < 2 ^ 64
       heap_low = omega (arith, sym same_heap, links_low)
 
-      own_blocks : List Block
-      own_blocks = block header (length header_part) ∷ linked.blocks
-
       group_reads : HasObject image table header o (block header (length header_part) ∷ linked.blocks) × (reference_count (prefix_at image header) ≡ 1)
       group_reads = group_object image table header k.leaf k.internal (content_place o header) (group_heap_place k o group header) o group (map target_link written)
           linked.blocks own.others e own_content (omega (arith, length-header_part, links_low)) (omega (arith, links_low)) heap_low header_there leaf_is internal_is

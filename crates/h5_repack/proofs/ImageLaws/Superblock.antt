@@ -1,6 +1,6 @@
 -- The superblock of a plain image, of either version (File Format Specification 3.0, section II.A).
 use Rattle.std.proofs.Common.{◌≡◌, ℕ, ◌^◌, ◌<◌, ◌≤◌, List, [], ◌∷◌, ◌++◌, length, refl, ap, ◌∙◌, sym, arith, length-append, Option, Some, None}
-use Rattle.h5_bytes.specs.Bytes.{number_at, byte_at, part, with_part, little_bytes, undefined}
+use Rattle.h5_bytes.specs.Bytes.{number_at, byte_at, part, with_part, little_bytes, undefined_address}
 use Rattle.h5_bytes.proofs.FieldLaws.{number_at-with_field}
 use Rattle.h5_model.specs.Format.Plain.{plain_superblock_length, superblock_bytes}
 use Rattle.h5_model.specs.Format.Superblock.{AreKValues, IsSuperblock, base_place, chunk_k, chunk_k_of, driver_place, end_of_file, internal_k, k_values, leaf_k, length_with, root_header, superblock_length}
@@ -31,7 +31,7 @@ record HasFields (k : KValues) (end : ℕ) (image : List ℕ) : Type 0 where
   version : byte_at image 8 ≤ 1
   k_is : k_values image ≡ k
   base : number_at image (base_place image) 8 ≡ 0
-  driver : number_at image (driver_place image) 8 ≡ undefined
+  driver : number_at image (driver_place image) 8 ≡ undefined_address
   end_is : end_of_file image ≡ end
   root_is : root_header image ≡ plain_superblock_length k
 

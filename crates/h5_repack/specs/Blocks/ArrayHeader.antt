@@ -9,7 +9,7 @@ use Rattle.h5_model.specs.Format.Plain.{message_bytes, messages_bytes, cells_byt
 use Rattle.h5_model.specs.Format.Layout.{Layout, InMessage, InBlock, InChunks}
 use Rattle.h5_model.specs.Tree.Objects.{Storage, Compact, Contiguous, Chunked}
 use Rattle.h5_model.specs.Tree.Places.{cells}
-use Rattle.h5_layout.specs.Described.{Described}
+use Rattle.h5_model.specs.Format.Described.{Described}
 use Rattle.h5_repack.specs.Bodies.Bodies.{layout_body, messages_of}
 use Rattle.h5_repack.specs.Bodies.Headers.{is_stored}
 use Rattle.h5_repack.specs.declared.blocks.cells.Cells.{Cells}

@@ -43,5 +43,5 @@ abbrev pub key_bytes : ChunkKey → List ℕ
 key_bytes key = key.bytes.now
 
 -- a child of a node with the bytes of the key behind it
-abbrev pub keyed : {K : Type 0} → (K → List ℕ) → Child K → Child (List ℕ)
-keyed bytes child = record { at = child.at; key = bytes child.key }
+abbrev pub with_key_bytes : {K : Type 0} → (K → List ℕ) → Child K → Child (List ℕ)
+with_key_bytes bytes child = record { at = child.at; key = bytes child.key }

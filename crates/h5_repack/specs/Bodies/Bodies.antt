@@ -4,7 +4,7 @@ use Rattle.std.specs.FinMap.{entries}
 use Rattle.h5_bytes.specs.Texts.{pad8}
 use Rattle.h5_model.specs.Tree.Places.{cells}
 use Rattle.h5_model.specs.Edits.Refusal.{is_chunked}
-use Rattle.h5_model.specs.Format.Bodies.{raised, dataspace_bytes, bounded_bytes, datatype_bytes, fill_bytes, compact_bytes, contiguous_bytes, chunked_bytes, attribute_bytes}
+use Rattle.h5_model.specs.Format.Bodies.{padded_body, dataspace_bytes, bounded_bytes, datatype_bytes, fill_bytes, compact_bytes, contiguous_bytes, chunked_bytes, attribute_bytes}
 use Rattle.h5_model.specs.Format.Fixed.{Fixed}
 use Rattle.h5_model.specs.Format.MessageTypes.{dataspace_kind, datatype_kind, fill_value_kind, data_layout_kind, attribute_kind}
 use Rattle.h5_model.specs.Format.Plain.{cells_bytes}
@@ -34,11 +34,11 @@ abbrev pub space_body : Bool → List ℕ → List (Option ℕ) → List ℕ
 space_body chunked sizes maxima = if chunked || not (are_sizes sizes maxima) then bounded_bytes sizes maxima else dataspace_bytes sizes
 
 abbrev pub type_message : Fixed → ℕ × List ℕ
-type_message t = (datatype_kind, raised (datatype_bytes t))
+type_message t = (datatype_kind, padded_body (datatype_bytes t))
 
 -- a fill that was set; space for chunks is made when they are stored, for other cells with the array
 abbrev pub fill_message : Bool → Fixed → ℤ → ℕ × List ℕ
-fill_message chunked t fill = (fill_value_kind, raised (fill_bytes (if chunked then 3 else 1) t fill))
+fill_message chunked t fill = (fill_value_kind, padded_body (fill_bytes (if chunked then 3 else 1) t fill))
 
 -- the fill is left out where a header with so many other messages would have more than 65535
 abbrev pub fill_messages : Bool → Fixed → ℤ → ℕ → List (ℕ × List ℕ)
@@ -54,7 +54,7 @@ layout_body (Chunked chunk) t count bytes address = chunked_bytes chunk address 
 -- the messages of an array of this type, sizes, maxima and fill with this layout, whether its cells are in chunks
 abbrev pub messages_of : Fixed → List ℕ → List (Option ℕ) → ℤ → Bool → List ℕ → ℕ → List (ℕ × List ℕ)
 messages_of t sizes maxima fill chunked layout others =
-    (dataspace_kind, space_body chunked sizes maxima) ∷ type_message t ∷ (fill_messages chunked t fill others ++ (data_layout_kind, raised layout) ∷ [])
+    (dataspace_kind, space_body chunked sizes maxima) ∷ type_message t ∷ (fill_messages chunked t fill others ++ (data_layout_kind, padded_body layout) ∷ [])
 
 -- the layout of an array whose data or whose tree stand at this address
 abbrev pub array_layout : Dataset → Option ℕ → List ℕ

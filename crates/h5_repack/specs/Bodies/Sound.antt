@@ -2,7 +2,7 @@
 use Rattle.std.specs.Prelude.{◌≡◌, ℕ, ◌+◌, ◌*◌, ◌^◌, ◌%◌, ◌<◌, ◌≤◌, ◌==◌, ◌||◌, true, false, IsTrue, IfSome, pos, Option, Some, None, List, length, replicate}
 use Rattle.std.specs.List.{AllByRecursion, AllZip, list_any}
 use Rattle.std.specs.FinMap.{entries}
-use Rattle.h5_bytes.specs.Bytes.{undefined}
+use Rattle.h5_bytes.specs.Bytes.{undefined_address}
 use Rattle.h5_model.specs.Format.AttributeBody.{attribute_of}
 use Rattle.h5_model.specs.Format.Fixed.{Fixed, IsFixed}
 use Rattle.h5_model.specs.Tree.Places.{cells, extent_cells}
@@ -40,7 +40,7 @@ pub record IsPlainObject (o : Object) : Type 0 where
 
 -- a maximum is not below the size, and can be told from none
 abbrev pub IsBound : ℕ → Option ℕ → Type 0
-IsBound size maximum = IfSome maximum (λ m. (size ≤ m) × (m < undefined))
+IsBound size maximum = IfSome maximum (λ m. (size ≤ m) × (m < undefined_address))
 
 -- no cell is stored: each reads the fill
 abbrev pub IsUnset : Dataset → Type 0

@@ -6,7 +6,7 @@ use Rattle.std.specs.Option.{option_flatten}
 use Rattle.h5_model.specs.Tree.Objects.{Tree, Object, Content, Group, Array, Dataset}
 use Rattle.h5_model.specs.Tree.Links.{tree_link}
 use Rattle.h5_repack.specs.Bodies.Bodies.{others_of}
-use Rattle.h5_layout.specs.Described.{Described}
+use Rattle.h5_model.specs.Format.Described.{Described}
 use Rattle.h5_repack.specs.Blocks.ArrayHeader.{storage_written}
 use Rattle.h5_repack.specs.Bodies.Headers.{AreStoredFor}
 use Rattle.h5_repack.specs.Blocks.Written.{AreCellsToWrite, AreOthers, chunks_of}

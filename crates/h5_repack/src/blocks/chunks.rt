@@ -9,7 +9,7 @@ ghost use Rattle.h5_chunks.specs.Keys.{chunk_key, index_from};
 ghost use Rattle.h5_repack.specs.Bodies.Chunks.{chunk_children, chunk_nodes, key_after};
 ghost use Rattle.h5_repack.specs.Bodies.Headers.{is_stored};
 ghost use Rattle.h5_repack.specs.Blocks.ArrayHeader.{IsLength};
-ghost use Rattle.h5_repack.specs.Blocks.StoredChunks.{IsLastKey, chunks_written, key_bytes, keyed, part_length, parts_bytes};
+ghost use Rattle.h5_repack.specs.Blocks.StoredChunks.{IsLastKey, chunks_written, key_bytes, with_key_bytes, part_length, parts_bytes};
 ghost use Rattle.h5_repack.specs.Blocks.Written.{AreWhole, chunks_of, part_offsets};
 
 use crate::blocks::cells::Cells;
@@ -123,8 +123,8 @@ fn children_of<'a>(
     requires last { IsLastKey held.now last.now }
     requires low { at ≤ 2 ^ 62 }
     requires few { length held.now.parts < 2 ^ 32 }
-    ensures { IfOk result (λ children. map (keyed key_bytes) children.items
-        ≡ map (keyed chunk_key)
+    ensures { IfOk result (λ children. map (with_key_bytes key_bytes) children.items
+        ≡ map (with_key_bytes chunk_key)
         (chunk_children (part_length held.now) held.now.chunk at (part_offsets held.now))) }
 {
     let mut children = Vec::with_capacity(alloc, held.len())?;

@@ -9,7 +9,7 @@ ghost use Rattle.h5_model.specs.Format.Plain.{message_bytes, messages_bytes};
 ghost use Rattle.h5_model.specs.Format.Sizes.{message_size};
 ghost use Rattle.h5_model.specs.Tree.Places.{cells as cells_of};
 ghost use Rattle.h5_msg.specs.Times.{time_number};
-ghost use Rattle.h5_layout.specs.Described.{Described};
+ghost use Rattle.h5_model.specs.Format.Described.{Described};
 ghost use Rattle.h5_repack.specs.Bodies.Bodies.{fill_message, fill_messages, type_message};
 ghost use Rattle.h5_repack.specs.Blocks.ArrayHeader.{FitsLayout, IsArrayToWrite, group_written, header_written, in_chunks, messages_count as count_of, messages_size as size_of};
 ghost use Rattle.h5_repack.specs.Blocks.Parts.{message_head, message_room, prefix_bytes};

@@ -2,7 +2,7 @@
 ghost use Rattle.std.specs.Prelude.{◌≡◌, ℕ, ◌+◌, ◌*◌, ◌-◌, ◌^◌, ◌<◌, ◌≤◌, ◌==◌, ◌++◌, OnOk, Option, false, length, replicate};
 ghost use Rattle.std.specs.List.{list_any};
 ghost use Rattle.std.specs.Option.{ForSome};
-ghost use Rattle.h5_model.specs.Format.Bodies.{chunked_bytes, compact_bytes, contiguous_bytes, raised};
+ghost use Rattle.h5_model.specs.Format.Bodies.{chunked_bytes, compact_bytes, contiguous_bytes, padded_body};
 ghost use Rattle.h5_model.specs.Format.Plain.{cells_bytes, message_bytes};
 ghost use Rattle.h5_model.specs.Format.Sizes.{layout_size};
 ghost use Rattle.h5_model.specs.Tree.Places.{cells as cells_of};
@@ -52,7 +52,7 @@ pub(crate) fn layout_length(array: &ArrayRef<'_>) -> u64
     requires { FitsLayout (cells_of array.now.sizes * array.now.fixed.size) array.now.layout }
     ensures exact { (c : NewCells) (address : Option ℕ)
         → HasRoom c (cells_of array.now.sizes * array.now.fixed.size)
-        → result ≡ length (message_bytes (8, raised (layout_written array.now c address))) }
+        → result ≡ length (message_bytes (8, padded_body (layout_written array.now c address))) }
     ensures few { result ≤ 65536 }
 {
     message_length(layout_body_length(array))
@@ -68,7 +68,7 @@ pub(crate) fn push_layout(
     requires array { IsArrayToWrite array.now cells.now }
     requires address { ForSome address (λ at. at < 2 ^ 64 - 1) }
     ensures { OnOk result (out.new.items
-        ≡ out.old.items ++ message_bytes (8, raised (layout_written array.now cells.now address))) }
+        ≡ out.old.items ++ message_bytes (8, padded_body (layout_written array.now cells.now address))) }
 {
     match array.layout() {
         Layout::Compact(_) => push_compact(out, array, cells),
@@ -86,7 +86,8 @@ fn push_compact(
     requires few { cells_of array.now.sizes * array.now.fixed.size ≤ 65524 }
     requires room { HasRoom cells.now (cells_of array.now.sizes * array.now.fixed.size) }
     ensures { OnOk result (out.new.items
-        ≡ out.old.items ++ message_bytes (8, raised (compact_bytes (cells_written cells.now array.now)))) }
+        ≡ out.old.items
+        ++ message_bytes (8, padded_body (compact_bytes (cells_written cells.now array.now)))) }
 {
     match cells {
         Cells::Unset => push_compact_fill(out, array),
@@ -102,7 +103,7 @@ fn push_compact_fill(out: &mut Vec<u8>, array: &ArrayRef<'_>) -> Result<(), Allo
     requires { cells_of array.now.sizes * array.now.fixed.size ≤ 65524 }
     ensures { OnOk result (out.new.items ≡ out.old.items ++ message_bytes (
       8,
-      raised
+      padded_body
           (compact_bytes (cells_bytes array.now.fixed (replicate (cells_of array.now.sizes) array.now.fill))),
     )) }
 {
@@ -123,7 +124,7 @@ fn push_compact_fill(out: &mut Vec<u8>, array: &ArrayRef<'_>) -> Result<(), Allo
 fn push_compact_data(out: &mut Vec<u8>, bytes: &[u8]) -> Result<(), AllocError>
     requires { length bytes.now ≤ 65524 }
     ensures { OnOk result
-        (out.new.items ≡ out.old.items ++ message_bytes (8, raised (compact_bytes bytes.now))) }
+        (out.new.items ≡ out.old.items ++ message_bytes (8, padded_body (compact_bytes bytes.now))) }
 {
     let at = push_message_room(out, DATA_LAYOUT, compact_length(bytes.len()))?;
     write_compact_layout(bytes, &mut out[at..]);
@@ -134,7 +135,7 @@ fn push_compact_data(out: &mut Vec<u8>, bytes: &[u8]) -> Result<(), AllocError>
 fn push_contiguous(out: &mut Vec<u8>, address: Option<u64>, len: u64) -> Result<(), AllocError>
     requires { ForSome address (λ at. at < 2 ^ 64 - 1) }
     ensures { OnOk result
-        (out.new.items ≡ out.old.items ++ message_bytes (8, raised (contiguous_bytes address len))) }
+        (out.new.items ≡ out.old.items ++ message_bytes (8, padded_body (contiguous_bytes address len))) }
 {
     let at = push_message_room(out, DATA_LAYOUT, CONTIGUOUS_LENGTH)?;
     write_contiguous_layout(address, len, &mut out[at..]);
@@ -152,7 +153,7 @@ fn push_chunked(
     requires some { list_any (λ n. n == 0) sizes.now ≡ false }
     requires address { ForSome tree (λ at. at < 2 ^ 64 - 1) }
     ensures { OnOk result (out.new.items
-        ≡ out.old.items ++ message_bytes (8, raised (chunked_bytes sizes.now tree fixed.now.size))) }
+        ≡ out.old.items ++ message_bytes (8, padded_body (chunked_bytes sizes.now tree fixed.now.size))) }
 {
     let mut room = [0; MAX_RANK];
     let chunk = &mut room[..sizes.rank()];

@@ -2,7 +2,7 @@ use Rattle.std.proofs.Common.{◌≡◌, ◌∙◌, ap, is_some, subst, sym, map
 use Rattle.clap.specs.Words.{App, HasKind, fault_of, is_simple, is_simple_and_free, kind_of, subcommand_of, takes}
 use Rattle.clap.proofs.CallerLemmas.{some_of_text}
 use Rattle.h5_args.specs.Order.{wanted_by_order}
-use Rattle.h5_args.specs.Words.{wanted_by_words, faults, wanted}
+use Rattle.h5_args.specs.Words.{wanted_by_words, faults, wanted_in}
 use Rattle.h5_args.proofs.FaultLaws.{fault_told}
 use Rattle.h5_args.proofs.FaultlessLaws.{faultless_asked}
 use Rattle.h5_args.proofs.read.order.Goals as goal
@@ -13,7 +13,7 @@ unreachable-requires g c =
     let app_is = c.in_ok-command.ensures in
     let none = ap (λ (a : App). fault_of a words) (sym app_is) ∙ c.in-Ok.ensures.kinds (ap is_simple_and_free app_is) in
     let found = (c.in-Ok.ensures.matches (ap is_simple app_is)).1 ∙ ap (λ (a : App). subcommand_of a words) app_is in
-    let given = some_of_text wanted_by_order c.order_in.result (wanted_by_words words) (c.order_in.ensures ∙ ap wanted found) (faultless_asked words none) in
+    let given = some_of_text wanted_by_order c.order_in.result (wanted_by_words words) (c.order_in.ensures ∙ ap wanted_in found) (faultless_asked words none) in
     absurd (true≢false (sym given ∙ ap is_some c.in-None.is))
 
 pub returns-in-Some-clause-faults : goal.returns-in-Some-clause-faults

@@ -6,21 +6,16 @@ use Rattle.h5_model.specs.Format.Nodes.{Kind, node_at, node_bytes}
 use Rattle.h5_space.specs.Space.{Space}
 use Rattle.h5_btree.specs.Held.{IsNodeThere}
 use Rattle.h5_btree.specs.Retired.{StandsSomewhere, keys_below}
-use Rattle.h5_btree.proofs.NodeLaws.{capacity_low, length-children, length-keys}
+use Rattle.h5_btree.proofs.NodeLaws.{capacity_low, length-children}
 use Rattle.h5_btree.proofs.RetiredKeys.{ArePartly, none_retired, partly_all, partly_none}
 use Rattle.h5_btree.proofs.RetiredSteps.{key_more, key_written, partly_under, retiring_under}
 use Rattle.h5_btree.proofs.WideningLaws.{rewritten_none}
 use Rattle.h5_btree.proofs.retirement.retire_keys.Goals as goal
+use Rattle.h5_btree.proofs.KeyedOwn.{keys_count}
 
 there : (hit : List ℕ → Bool) (stands : List ℕ → ℕ → Type 0) (keys_at : List ℕ → ℕ → List (List ℕ)) (t : Space) (kind : Kind) (level at : ℕ)
     → StandsSomewhere hit stands keys_at t kind level at → IsNodeThere t.bytes kind at
 there hit stands keys_at t kind level at c = (retiring_under hit stands keys_at c.0 t kind c.1 c.2 c.3 c.4 c.5 (suc level) at c.6).0
-
-counts : (image : List ℕ) (kind : Kind) (at : ℕ) → length (node_at image kind at).keys ≡ length (node_at image kind at).children + 1
-counts image kind at =
-    let a = length-keys kind (node_bytes image kind at) (node_at image kind at) refl in
-    let b = length-children kind (node_bytes image kind at) (node_at image kind at) refl in
-    omega (arith, a, b)
 
 pub has_hit-requires : goal.has_hit-requires
 has_hit-requires g c =
@@ -90,7 +85,7 @@ loop-i-preserved g c =
     let keys_at = g.R.Hits.keys_at c.args.how.now in
     let e = c.retire_key.ensures in
     let low : c.loop-i.i < length (node_at c.args.image.now.bytes c.args.kind c.args.at).keys
-    = let n = counts c.args.image.now.bytes c.args.kind c.args.at in omega (arith, n, c.loop-i.invariant.end, c.loop-i-test.true) in
+    = let n = keys_count c.args.image.now.bytes c.args.kind c.args.at in omega (arith, n, c.loop-i.invariant.end, c.loop-i-test.true) in
     record {
       end = c.loop-i.invariant.end;
       written = (
@@ -105,7 +100,7 @@ returns-after-loop-i g c =
     let V = node_at c.args.image.now.bytes c.args.kind in
     let w = c.loop-i.invariant.written in
     let lists = map (keys_below V (g.R.Hits.keys_at c.args.how.now c.args.image.now.bytes) c.args.level) (V c.args.at).children in
-    let n = counts c.args.image.now.bytes c.args.kind c.args.at in
+    let n = keys_count c.args.image.now.bytes c.args.kind c.args.at in
     let all : c.loop-i.i ≡ length (V c.args.at).keys = omega (arith, n, c.loop-i.invariant.end, c.loop-i-test.false, c.loop-i.auto.i-end) in
     let long = length-map (V c.args.at).children (keys_below V (g.R.Hits.keys_at c.args.how.now c.args.image.now.bytes) c.args.level) in (
       w.0,
@@ -122,7 +117,7 @@ returns-else-has_hit g c =
     let keys_at = g.R.Hits.keys_at c.args.how.now in
     let lists = map (keys_below V (keys_at c.args.image.now.bytes) c.args.level) (V c.args.at).children in
     let is = there hit stands keys_at c.args.image.now c.args.kind c.args.level c.args.at c.requires.stands in
-    let n = counts c.args.image.now.bytes c.args.kind c.args.at in
+    let n = keys_count c.args.image.now.bytes c.args.kind c.args.at in
     let long = length-map (V c.args.at).children (keys_below V (keys_at c.args.image.now.bytes) c.args.level) in
     let none : list_any hit (V c.args.at).keys ≡ false
     = ap (λ (b : List ℕ). list_any hit (node_at b c.args.kind c.args.at).keys) (sym c.bytes.ensures) ∙ sym c.has_hit.ensures ∙ c.if-has_hit.false in (

@@ -1,7 +1,7 @@
 use Rattle.std.proofs.Common.{◌≡◌, ℕ, ◌+◌, ◌≤◌, List, ◌∷◌, length, take, drop, refl, sym, ap, ◌∙◌, subst, arith}
 use Rattle.std.specs.List.{insert}
 use Rattle.std.proofs.lemmas.List.{take-append-drop}
-use Rattle.h5_bytes.specs.Bytes.{undefined}
+use Rattle.h5_bytes.specs.Bytes.{undefined_address}
 use Rattle.h5_model.specs.Format.Rows.{Node}
 use Rattle.h5_model.specs.Format.Nodes.{entries_in, node_at, node_bytes, node_length, node_of}
 use Rattle.h5_model.proofs.RowLaws.{at_listed}
@@ -164,7 +164,7 @@ name_left-requires-clause-form c =
 
 spent : (c : After-name_left) → Spends c.args.image.now c.name_left.new.image (node_length c.args.kind) 1
 spent c =
-    let last : Spends c.set_right.new.image c.name_left.new.image 0 0 = at_or undefined c.right-next.result
+    let last : Spends c.set_right.new.image c.name_left.new.image 0 0 = at_or undefined_address c.right-next.result
     (λ none. subst (λ (s : Space). Spends c.set_right.new.image s 0 0) (sym (c.name_left.ensures.none none)) (spends_none c.set_right.new.image))
     (λ there. (c.name_left.ensures.written there).spends) in
     let first = subst (λ (n : ℕ). Spends c.args.image.now c.take-new.new.self n 1) c.node_length.ensures.length

@@ -3,7 +3,7 @@ use Rattle.std.specs.Prelude.{slice_index_or, false}
 use Rattle.std.proofs.lemmas.List.{get_or_default}
 use Rattle.h5_model.specs.Format.Nodes.{node_at}
 use Rattle.h5_btree.specs.Rewritten.{IsRewritten}
-use Rattle.h5_btree.specs.Widened.{widened}
+use Rattle.h5_btree.specs.Widened.{widened_node}
 use Rattle.h5_btree.specs.declared.way.Step.{Step}
 use Rattle.h5_btree.specs.declared.widening.End.{End}
 use Rattle.h5_btree.proofs.WaySteps.{all_at}
@@ -45,9 +45,9 @@ module _ (c : After-widen_end-in-loop-level) where
   at_step = get_or_default c.args.way.now c.loop-level.level _ step_none low
 
   both : IsRewritten c.loop-level.image c.widen_end-in-loop-level.new.image c.args.kind here.node
-      (widened (get_or c.args.ends.now c.loop-level.level end_none) c.args.low.now c.args.high.now (node_at c.loop-level.image.bytes c.args.kind here.node))
+      (widened_node (get_or c.args.ends.now c.loop-level.level end_none) c.args.low.now c.args.high.now (node_at c.loop-level.image.bytes c.args.kind here.node))
   both = subst (λ (es : List End). IsRewritten c.loop-level.image c.widen_end-in-loop-level.new.image c.args.kind here.node
-      (widened (get_or es c.loop-level.level end_none) c.args.low.now c.args.high.now (node_at c.loop-level.image.bytes c.args.kind here.node)))
+      (widened_node (get_or es c.loop-level.level end_none) c.args.low.now c.args.high.now (node_at c.loop-level.image.bytes c.args.kind here.node)))
       c.by_level-end-items.ensures.ends
       (both_ends c.loop-level.image c.widen_end.new.image c.widen_end-in-loop-level.new.image c.args.kind here.node
       (get_or c.by_level-end-items.result.now c.loop-level.level end_none) c.args.low.now c.args.high.now

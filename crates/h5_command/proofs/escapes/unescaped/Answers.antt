@@ -2,13 +2,13 @@ use Rattle.std.proofs.Common.{◌≡◌, ◌+◌, false, Some, ◌∷◌, [], dr
 use Rattle.std.proofs.lemmas.Bool.Decides.{nat_tests}
 use Rattle.std.proofs.lemmas.Slice.{pushed}
 use Rattle.std.proofs.lemmas.List.{take_rest}
-use Rattle.h5_model.specs.Scripts.Lines.{unescaped, unescaped_past}
+use Rattle.h5_model.specs.Scripts.Lines.{unescaped_text, unescaped_past}
 use Rattle.h5_command.proofs.Lists.{behind}
 use Rattle.h5_command.proofs.EscapeLaws.{plain_step, escape_step, other_none, wrong_none, all_read}
 use Rattle.h5_command.proofs.escapes.unescaped.Goals as goal
 
 pub returns-in_default : goal.returns-in_default
-unfolding unescaped
+unfolding unescaped_text
 returns-in_default c =
     sym (wrong_none c.bytes.bytes.items c.bytes.at c.args.word.now c.bytes-test.true (eq-eqb _ _ c.if-byte-eq92.true) (cc (take_rest c.args.word.now (c.bytes.at + 1)))) ∙ c.bytes.invariant
 
@@ -24,11 +24,11 @@ bytes-preserved c =
     ∙ plain_step c.bytes.bytes.items c.bytes.at c.args.word.now c.bytes-test.true other (sym c.is_plain.ensures ∙ c.if-is_plain.true) ∙ c.bytes.invariant
 
 pub returns-else-is_plain : goal.returns-else-is_plain
-unfolding unescaped
+unfolding unescaped_text
 returns-else-is_plain c =
     let other : eqb (get_or c.args.word.now c.bytes.at 0) 92 ≡ false = grind (arith, nat_tests) in
     sym (other_none c.bytes.bytes.items c.bytes.at c.args.word.now c.bytes-test.true other (sym c.is_plain.ensures ∙ c.if-is_plain.false)) ∙ c.bytes.invariant
 
 pub returns : goal.returns
-unfolding unescaped
+unfolding unescaped_text
 returns c = ap (λ xs. Some xs) c.new.ensures ∙ sym (all_read c.bytes.bytes.items c.bytes.at c.args.word.now c.bytes-test.false) ∙ c.bytes.invariant

@@ -1,7 +1,7 @@
 use Rattle.std.proofs.Common.{◌≡◌, ℕ, suc, ◌-◌, ◌++◌, List, codes, map, take, sym, ap, ◌∙◌, subst, append_assoc, append-nil, arith}
 use Rattle.std.specs.Prelude.{MatchOption}
 use Rattle.std.specs.List.{flat_map}
-use Rattle.h5_model.specs.Scripts.Text.{content_text, escaped, joined_path, line_of}
+use Rattle.h5_model.specs.Scripts.Text.{content_text, escaped_text, joined_path, line_of}
 use Rattle.h5_model.specs.Tree.Objects.{Array}
 use Rattle.h5_text.specs.Appends.{Appends}
 use Rattle.h5_text.proofs.Appending.{appends_err}
@@ -66,7 +66,7 @@ push_object-returns-clause-lines t c =
     let below = c.push_name.new.path.items in
     let are = subst (λ found. MatchOption found (IsNoGroup tree number) (λ links. AreGroupLinks tree number links.items)) c.in-Some-2.is c.in_ok-links.ensures.found in
     let deeper : suc (c.args.depth - 1) ≡ c.args.depth = omega (arith, c.if-depth-eq0.false) in
-    let joined : below ≡ joined_path path name = c.in_ok-push_name.ensures ∙ sym (append_assoc path (codes "/") (escaped name)) in
+    let joined : below ≡ joined_path path name = c.in_ok-push_name.ensures ∙ sym (append_assoc path (codes "/") (escaped_text name)) in
     let first : c.push_group_line.new.out.items ≡ old ++ line =
     c.in_ok-push_group_line.ensures ∙ ap (λ (p : List ℕ). old ++ line_of (joined_path p name) (codes "group")) c.as_slice.ensures.value in
     in_two_pieces old line (flat_map (lines_of_link tree (c.args.depth - 1) below) (map tree_link c.deref.result.now)) c.push_group_line.new.out.items c.push_links.new.text.items

@@ -1,5 +1,4 @@
 use Rattle.std.proofs.Common.{ℕ, ◌+◌, ◌*◌, ◌^◌, ◌≤◌, List, Some, subst, sym, arith}
-use Rattle.h5_layout.specs.Described.{Described}
 use Rattle.h5_layout.specs.Lacking.{IsFound}
 use Rattle.h5_layout.specs.Storage.{storage_bytes}
 use Rattle.h5_model.specs.Tree.Objects.{Dataset}
@@ -14,6 +13,7 @@ use Rattle.h5_edit.specs.WriteTarget.{IsTarget}
 use Rattle.h5_edit.specs.declared.target.MissingRun.{MissingRun}
 use Rattle.h5_edit.specs.declared.target.TargetCells.TheVariants as target
 use Rattle.h5_model.specs.Views.Selection.{axes_of}
+use Rattle.h5_model.specs.Format.Described.{Described}
 use Rattle.h5_edit.proofs.MissingRuns.{inner_small, run_has, run_low, run_missing, run_ready, run_standing}
 use Rattle.h5_edit.proofs.StandingRuns.{run_asked, selected_written, some_asked, standing_asked}
 use Rattle.h5_edit.proofs.StorageGiven.{made_accepted, made_grows, storage_refused}

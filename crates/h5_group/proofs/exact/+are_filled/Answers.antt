@@ -1,11 +1,9 @@
-use Rattle.std.proofs.Common.{◌≡◌, ◌-◌, ◌+◌, ◌≤◌, ℕ, suc, true, false, List, Some, length, take, sym, ap, ◌∙◌, subst, arith}
-use Rattle.std.specs.Bool.{IsTrue}
-use Rattle.std.specs.List.{AllByRecursion, slice_get}
+use Rattle.std.proofs.Common.{◌≡◌, ◌-◌, ℕ, suc, true, false, Some, sym, ◌∙◌, subst, arith}
+use Rattle.std.specs.List.{slice_get}
 use Rattle.h5_model.specs.Format.Rows.{Node}
 use Rattle.h5_model.specs.Format.Nodes.{node_at}
 use Rattle.h5_model.specs.Format.Superblock.{leaf_k}
 use Rattle.h5_btree.proofs.RetiredReads.{under_child}
-use Rattle.h5_btree.proofs.RetiredSteps.{take_all}
 use Rattle.h5_group.specs.Exact.{AreFilledUnder}
 use Rattle.h5_group.specs.Nodes.Trees.{kind_in}
 use Rattle.h5_group.specs.Retired.{StandsAt}

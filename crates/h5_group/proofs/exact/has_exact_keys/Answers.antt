@@ -9,7 +9,6 @@ use Rattle.h5_btree.specs.Exact.{AreKeysExact}
 use Rattle.h5_btree.specs.Retired.{StandsUnder}
 use Rattle.h5_btree.specs.Walk.Forms.{OfGroup}
 use Rattle.h5_btree.specs.Walk.Stands.{IsNodeAt}
-use Rattle.h5_btree.proofs.RetiredReads.{under_there}
 use Rattle.h5_group.specs.Exact.{AreFilledUnder, AreGroupKeys, AreSymbolsFilled, HasExactKeys}
 use Rattle.h5_group.specs.Nodes.Trees.{kind_in}
 use Rattle.h5_group.specs.Retired.{StandsAt, entry_keys}

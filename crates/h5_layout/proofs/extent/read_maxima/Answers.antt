@@ -4,7 +4,6 @@ use Rattle.std.proofs.lemmas.List.{take_more, take_more_set, length-set}
 use Rattle.std.proofs.lemmas.Option.{get_or_from_slice_get, slice_get_within}
 use Rattle.h5_model.specs.Format.Extent.{Extent, extent_of}
 use Rattle.h5_layout.specs.ArrayEdits.{described_in}
-use Rattle.h5_layout.proofs.ExtentWritten.{form_long}
 use Rattle.h5_layout.proofs.extent.read_maxima.Goals as goal
 
 pub loop-k-preserved : goal.loop-k-preserved
@@ -31,12 +30,3 @@ returns-clause-maxima c =
     let same : e ≡ x = cc (read, c.unwrap-extent.ensures) in
     ap (λ n. take n c.loop-k.room) (sym whole) ∙ c.loop-k.invariant.1 ∙ ap (λ n. take n e.maxima) whole
     ∙ take_all c.rank-rank.result e.maxima (omega (arith, c.rank-rank.ensures.maxima)) ∙ ap (λ (y : Extent). y.maxima) same
-
-pub bounds-body-2 : goal.bounds-body-2
-bounds-body-2 c =
-    let a = described_in c.args.image.now.bytes c.args.messages.now in
-    omega (
-      arith,
-      form_long c.one_body-body.result.now (record { sizes = a.sizes; maxima = a.maxima })
-          (sym (ap (option_and_then extent_of) c.one_body-body.ensures) ∙ c.requires.array.array.space),
-    )

@@ -1,9 +1,9 @@
 use Rattle.std.proofs.Common.{◌≡◌, ℕ, List, Option, Some, sym, ap, ◌∙◌, arith}
 use Rattle.std.specs.Prelude.{option_and_then}
 use Rattle.h5_model.specs.Format.Layout.{InChunks, address_from, layout_of}
+use Rattle.h5_model.specs.Format.Described.{Described}
 use Rattle.h5_layout.specs.ArrayChunks.{IsChunked}
 use Rattle.h5_layout.specs.ArrayEdits.{described_in}
-use Rattle.h5_layout.specs.Described.{Described}
 use Rattle.h5_layout.proofs.LayoutBodies.{tree_address, tree_room}
 use Rattle.h5_layout.proofs.NoTree.{none_where, treeless_there}
 use Rattle.h5_layout.proofs.OutsideChunks.{chunked_is}

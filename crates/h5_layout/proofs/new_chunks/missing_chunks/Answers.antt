@@ -5,6 +5,7 @@ use Rattle.std.proofs.lemmas.Result.{IfOk-weaker}
 use Rattle.h5_model.specs.Format.Chunks.{Chunks}
 use Rattle.h5_model.specs.Format.Layout.{InChunks}
 use Rattle.h5_model.specs.Format.Reached.{Shape}
+use Rattle.h5_model.specs.Format.Described.{Described}
 use Rattle.h5_model.specs.Tree.Places.{IsInside}
 use Rattle.h5_shape.specs.PartCells.{AreParted, part_corner}
 use Rattle.h5_shape.specs.declared.parts.Span.{Span}
@@ -12,7 +13,6 @@ use Rattle.h5_chunks.specs.Lists.{ChunkOffsets}
 use Rattle.h5_model.specs.Views.Selection.{Slab}
 use Rattle.h5_layout.specs.ArrayChunks.{ArrayChunks, IsInChunksOf}
 use Rattle.h5_layout.specs.Data.{chunk_shape, stored_chunks}
-use Rattle.h5_layout.specs.Described.{Described}
 use Rattle.h5_layout.specs.HeldChunks.{IsChunkMet}
 use Rattle.h5_layout.specs.Kept.{chunks_below_root}
 use Rattle.h5_layout.specs.NewChunks.{AreMissing}

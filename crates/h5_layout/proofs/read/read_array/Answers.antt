@@ -1,6 +1,6 @@
 use Rattle.std.proofs.Common.{Ok}
 use Rattle.h5_header.specs.Listed.{messages_in}
-use Rattle.h5_layout.proofs.ArrayLaws.{one_array}
+use Rattle.h5_model.proofs.DescribedLaws.{one_array}
 use Rattle.h5_layout.proofs.BreachLaws.{no_breach, breach_rule}
 use Rattle.h5_layout.proofs.read.read_array.Goals as goal
 

@@ -3,7 +3,7 @@ use Rattle.std.specs.Option.{option_copied}
 use Rattle.h5_space.specs.Space.{Space}
 use Rattle.h5_header.specs.Listed.{Listed}
 use Rattle.h5_layout.specs.ArrayEdits.{described_in}
-use Rattle.h5_layout.specs.Described.{Described}
+use Rattle.h5_model.specs.Format.Described.{Described}
 use Rattle.h5_layout.specs.Kept.{smaller_sizes}
 use Rattle.h5_layout.specs.Resized.{IsLookedAt}
 use Rattle.h5_layout.specs.Trimmed.{IsTrimmedTo}

@@ -1,12 +1,12 @@
 use Rattle.std.proofs.Common.{◌≡◌, ◌^◌, ◌≤◌, Some, sym, ◌∙◌, subst, arith}
 use Rattle.std.proofs.Math.Nat.{mul-le-mul_right}
 use Rattle.h5_model.specs.Format.Reached.{Shape}
+use Rattle.h5_model.specs.Format.Described.{Described}
 use Rattle.h5_model.proofs.PlainValues.{size-high}
 use Rattle.h5_shape.proofs.Products.{cells_le}
 use Rattle.h5_layout.specs.ArrayChunks.{ArrayChunks}
 use Rattle.h5_layout.specs.ArrayEdits.{described_in}
 use Rattle.h5_chunks.specs.Edited.{AreChunksApart}
-use Rattle.h5_layout.specs.Described.{Described}
 use Rattle.h5_layout.specs.Lacking.{IsMissing}
 use Rattle.h5_layout.specs.declared.lacking.Missing.{Missing}
 use Rattle.h5_layout.proofs.LackingLaws.{chunks_missing}

@@ -6,6 +6,7 @@ use Rattle.h5_bytes.specs.Bytes.{part}
 use Rattle.h5_bytes.specs.Blocks.{block}
 use Rattle.h5_header.specs.Listed.{messages_in}
 use Rattle.h5_model.specs.Format.Fixed.{Fixed, fits}
+use Rattle.h5_model.specs.Format.Described.{Described}
 use Rattle.h5_model.specs.Tree.Places.{cells}
 use Rattle.h5_model.proofs.PlainValues.{size-high}
 use Rattle.h5_space.specs.Space.{Space, growth}
@@ -13,7 +14,6 @@ use Rattle.h5_chunks.proofs.TakenBlock.{zero_behind}
 use Rattle.h5_shape.proofs.Products.{cells_le}
 use Rattle.h5_layout.specs.ArrayEdits.{described_in}
 use Rattle.h5_layout.specs.Data.{data_blocks}
-use Rattle.h5_layout.specs.Described.{Described}
 use Rattle.h5_layout.specs.Filled.{cells_of_fill}
 use Rattle.h5_layout.specs.declared.copied.CellsToFill.{CellsToFill}
 use Rattle.h5_layout.proofs.ArrayMoved.{header_stands}

@@ -9,13 +9,13 @@ use Rattle.h5_model.specs.Format.Chunks.{Chunks}
 use Rattle.h5_model.specs.Format.Fixed.{Fixed, IsFixed, fits}
 use Rattle.h5_model.specs.Format.Layout.{InChunks, Layout}
 use Rattle.h5_model.specs.Format.Reached.{Shape}
+use Rattle.h5_model.specs.Format.Described.{Described}
 use Rattle.h5_model.specs.Tree.Places.{cells}
 use Rattle.h5_chunks.specs.Told.{chunks_told}
 use Rattle.h5_layout.specs.ArrayChunks.{ArrayChunks, IsInChunksOf}
 use Rattle.h5_layout.specs.ArrayEdits.{described_in}
 use Rattle.h5_chunks.specs.Edited.{AreChunksApart, CanBeStored}
 use Rattle.h5_layout.specs.Data.{chunk_shape, stored_chunks}
-use Rattle.h5_layout.specs.Described.{Described}
 use Rattle.h5_layout.specs.Filled.{AreToStore, FillsChunk, HasFilledChunks, cells_of_fill}
 use Rattle.h5_layout.specs.NewTrees.{IsTreeMade}
 use Rattle.h5_layout.specs.Storage.{IsDeepIn, IsFullInNewTree, IsFullInTurn, chunks_room, chunks_room_in}

@@ -1,9 +1,9 @@
 use Rattle.std.proofs.Common.{ℕ, List, sym, subst}
 use Rattle.std.proofs.lemmas.Result.{IfOk-weaker}
 use Rattle.h5_model.specs.Views.Selection.{Slab}
+use Rattle.h5_model.specs.Format.Described.{Described}
 use Rattle.h5_layout.specs.ArrayChunks.{IsInChunksOf}
 use Rattle.h5_layout.specs.ArrayEdits.{described_in}
-use Rattle.h5_layout.specs.Described.{Described}
 use Rattle.h5_layout.specs.Lacking.{IsMissing}
 use Rattle.h5_layout.specs.NewChunks.{AreMissing}
 use Rattle.h5_layout.specs.RunStorage.{IsMadeAt}

@@ -3,9 +3,8 @@ use Rattle.std.specs.Prelude.{option_and_then}
 use Rattle.h5_model.specs.Edits.Refusal.{is_chunked}
 use Rattle.h5_model.specs.Format.Extent.{Extent, extent_of}
 use Rattle.h5_model.specs.Format.Layout.{layout_of}
-use Rattle.h5_model.specs.Format.Reads.{storage_of}
+use Rattle.h5_model.specs.Format.Described.{storage_of, Described}
 use Rattle.h5_header.specs.Listed.{messages_in}
-use Rattle.h5_layout.specs.Described.{Described}
 use Rattle.h5_layout.specs.StoredExtent.{stored_extent}
 use Rattle.h5_layout.proofs.LayoutClass.{class_chunked, class_room}
 use Rattle.h5_layout.proofs.ToldLaws.{told}

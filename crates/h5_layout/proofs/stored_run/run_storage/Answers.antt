@@ -2,10 +2,10 @@ use Rattle.std.proofs.Common.{ℕ, ◌+◌, ◌*◌, sym, ap, arith, ◌∙◌}
 use Rattle.std.specs.Prelude.{Ok}
 use Rattle.h5_model.specs.Format.Fixed.{Fixed}
 use Rattle.h5_model.specs.Format.Layout.{InBlock}
+use Rattle.h5_model.specs.Format.Described.{Described}
 use Rattle.h5_model.proofs.PlainValues.{size-high}
 use Rattle.h5_msg.specs.Layouts.{layout_in}
 use Rattle.h5_shape.proofs.Products.{cells_le}
-use Rattle.h5_layout.specs.Described.{Described}
 use Rattle.h5_layout.specs.Standing.{IsStandingAt}
 use Rattle.h5_layout.specs.declared.stored_run.RunStorage.TheVariants as storage
 use Rattle.h5_layout.proofs.RunStorageLaws.{block_missing, standing_first}

@@ -1,9 +1,9 @@
 use Rattle.std.proofs.Common.{◌≡◌, [], None, length, sym, ap, ◌∙◌}
 use Rattle.h5_model.specs.Format.Reached.{Shape}
+use Rattle.h5_model.specs.Format.Described.{Described}
 use Rattle.h5_layout.specs.ArrayChunks.{ArrayChunks}
 use Rattle.h5_layout.specs.ArrayEdits.{described_in}
 use Rattle.h5_chunks.specs.Lists.{ChunkOffsets}
-use Rattle.h5_layout.specs.Described.{Described}
 use Rattle.h5_layout.proofs.OutsideChunks.{chunked_is, none_across, none_lost}
 use Rattle.h5_layout.proofs.trimmed.outside_of.Goals as goal
 

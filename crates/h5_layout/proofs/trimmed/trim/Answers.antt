@@ -5,6 +5,7 @@ use Rattle.std.proofs.lemmas.List.{take_all, take_more}
 use Rattle.h5_bytes.specs.Blocks.{Keeps, block}
 use Rattle.h5_model.specs.Format.Chunks.{Chunks, offsets_in}
 use Rattle.h5_model.specs.Format.Reached.{Shape}
+use Rattle.h5_model.specs.Format.Described.{Described}
 use Rattle.h5_model.specs.Tree.Places.{cells, is_inside}
 use Rattle.h5_space.specs.Space.{Space}
 use Rattle.h5_header.specs.Listed.{Listed}
@@ -14,7 +15,6 @@ use Rattle.h5_layout.specs.ArrayEdits.{described_in}
 use Rattle.h5_chunks.specs.Edited.{AreChunksApart, HasChunksNow}
 use Rattle.h5_layout.specs.Data.{chunk_shape}
 use Rattle.h5_chunks.specs.Lists.{ChunkOffsets, offsets_across, offsets_outside}
-use Rattle.h5_layout.specs.Described.{Described}
 use Rattle.h5_layout.proofs.OutsideChunks.{chunked_is}
 use Rattle.h5_layout.proofs.TrimmedArray.{chunks_apart, edge_there, stored_by, trimmed_already, trimmed_to}
 use Rattle.h5_layout.proofs.TrimmedChunks.{AreTrimmedSo, none_trimmed, one_trimmed}

@@ -1,4 +1,5 @@
 use Rattle.std.proofs.Common.{◌≡◌, Some, None}
+use Rattle.h5_model.specs.Format.MessageTypes.{symbol_table_kind}
 use Rattle.h5_model.specs.Format.Addresses.{symbol_table_of}
 use Rattle.h5_model.specs.Format.Messages.{first_body}
 use Rattle.h5_header.specs.Listed.{messages_in}
@@ -13,6 +14,6 @@ unwrap-body-requires c =
 pub returns-in_default-clause-refused : goal.returns-in_default-clause-refused
 returns-in_default-clause-refused c =
     let ms = messages_in c.args.image.now.bytes c.args.messages.now.list in
-    let body : Some c.unwrap-body.result.now ≡ first_body 17 ms = rw c.unwrap-body.ensures at c.find_body.ensures in
+    let body : Some c.unwrap-body.result.now ≡ first_body symbol_table_kind ms = rw c.unwrap-body.ensures at c.find_body.ensures in
     let none : symbol_table_of c.unwrap-body.result.now ≡ None = none_read (symbol_table_of c.unwrap-body.result.now) _ _ c.in_default.ensures in
     rw c.fault.ensures (first_fails symbol_table_of 17 ms c.unwrap-body.result.now body none)

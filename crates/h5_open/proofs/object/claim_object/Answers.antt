@@ -7,7 +7,7 @@ use Rattle.h5_space.specs.Claimed.{Claimed, HasClaimed}
 use Rattle.h5_group.specs.Told.{blocks_told}
 use Rattle.h5_header.specs.Listed.{messages_in}
 use Rattle.h5_layout.specs.Data.{data_blocks}
-use Rattle.h5_layout.specs.Described.{Described}
+use Rattle.h5_model.specs.Format.Described.{Described}
 use Rattle.h5_open.specs.declared.opened.object.OpenedContent.{OpenedContent}
 use Rattle.h5_open.specs.Opened.Objects.{content_blocks, object_blocks}
 use Rattle.h5_open.proofs.object.claim_object.Goals as goal

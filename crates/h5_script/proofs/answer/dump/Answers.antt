@@ -1,7 +1,7 @@
 use Rattle.std.proofs.Common.{List, ℕ, Option, sym, subst}
 use Rattle.h5_model.specs.Edits.EditFaults.{refused_text}
-use Rattle.h5_model.specs.Tree.Paths.{located}
-use Rattle.h5_model.specs.Scripts.Answers.{dumped}
+use Rattle.h5_model.specs.Tree.Paths.{location_of}
+use Rattle.h5_model.specs.Scripts.Answers.{dump_of}
 use Rattle.h5_model.specs.Scripts.Lines.{Dump}
 use Rattle.std.specs.Prelude.{MatchResult}
 use Rattle.h5_dump.specs.Dumped.{IsDumped, IsPartlyDumped, IsUndumped}
@@ -21,7 +21,7 @@ returns-in-Ok g c =
     let told : IsDumped session.file.tree c.args.path.now (g.W.Write.contents c.args.output.now) (g.W.Write.contents c.write_dump.new.output) =
     subst (λ (f : FileState). IsDumped f.tree c.args.path.now (g.W.Write.contents c.args.output.now) (g.W.Write.contents c.write_dump.new.output)) c.file.ensures.file c.in-Ok.ensures in
     record {
-      text = dumped session.file.tree c.args.path.now (located session.file.tree c.args.path.now);
+      text = dump_of session.file.tree c.args.path.now (location_of session.file.tree c.args.path.now);
       answered = dump_told session c.args.path.now told.accepted;
       written = told.written;
     }
@@ -49,6 +49,6 @@ returns-in-Err-Cut g c =
     let there = subst (λ (f : DumpFault). IsUndumped c.file.result.now.tree c.args.path.now old now f) c.in-Err-Cut.field-0-is c.in-Err-Cut.ensures in
     let is : IsPartlyDumped session.file.tree c.args.path.now old now = subst (λ (f : FileState). IsPartlyDumped f.tree c.args.path.now old now) c.file.ensures.file there in (
       run_cut c.in-Err-Cut.reason c.from.result c.from.ensures,
-      line_cut session session (Dump c.args.path.now) (dumped session.file.tree c.args.path.now (located session.file.tree c.args.path.now)) Told old now
+      line_cut session session (Dump c.args.path.now) (dump_of session.file.tree c.args.path.now (location_of session.file.tree c.args.path.now)) Told old now
           (dump_told session c.args.path.now is.accepted) is.some,
     )

@@ -23,14 +23,14 @@ module _ (g : Over) (c : goal.After-runs-1 g) where
   abbrev head : Run g.row.V.Denot
   head = record { first = x.first; entries = c.truncate.new.self }
 
-  inserted : c.insert.new.self.items ≡ insert runs (suc c.args.run) c.in_ok-rest.rest
-  inserted = c.in_ok-insert.ensures.items ∙ ap (λ k. insert runs k c.in_ok-rest.rest) (add-one c.args.run)
+  inserted : c.shift_in.new.items.items ≡ insert runs (suc c.args.run) c.in_ok-rest.rest
+  inserted = c.in_ok-shift_in.ensures.put ∙ ap (λ k. insert runs k c.in_ok-rest.rest) (add-one c.args.run)
 
   is : x ≡ get_or runs c.args.run x
   is = c.index_mut.ensures.value ∙ ap (λ (rs : List (Run g.row.V.Denot)). get_or rs c.args.run x) inserted
       ∙ get_or-insert_below runs (suc c.args.run) c.in_ok-rest.rest x c.args.run (omega arith) (omega (arith, c.requires.there))
 
-  new_is : set c.insert.new.self.items c.args.run head ≡ halved runs c.args.run head c.in_ok-rest.rest
+  new_is : set c.shift_in.new.items.items c.args.run head ≡ halved runs c.args.run head c.in_ok-rest.rest
   new_is = ap (λ (rs : List (Run g.row.V.Denot)). set rs c.args.run head) inserted
 
   first : head.entries.items ≡ take 128 (run_at runs c.args.run)

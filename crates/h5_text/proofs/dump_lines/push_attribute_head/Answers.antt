@@ -1,5 +1,5 @@
 use Rattle.std.proofs.Common.{◌++◌, codes}
-use Rattle.h5_model.specs.Scripts.Text.{escaped, type_text, sizes_text}
+use Rattle.h5_model.specs.Scripts.Text.{escaped_text, type_text, sizes_text}
 use Rattle.h5_text.proofs.Appending.{appends_more}
 use Rattle.h5_text.proofs.LineTexts.{in_two_pieces}
 use Rattle.h5_text.proofs.dump_lines.push_attribute_head.Goals as goal
@@ -7,7 +7,7 @@ use Rattle.h5_text.proofs.dump_lines.push_attribute_head.Goals as goal
 pub returns : goal.returns
 returns c =
     let old = c.args.out.now.items in
-    let name = escaped c.args.name.now in
+    let name = escaped_text c.args.name.now in
     let type = type_text c.args.fixed.now in
     let named = c.push_escaped.new.out.items in
     let typed = c.push_type.new.out.items in

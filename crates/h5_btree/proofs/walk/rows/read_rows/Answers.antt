@@ -1,7 +1,7 @@
 use Rattle.std.proofs.Common.{◌≡◌, ℕ, suc, ◌-◌, ◌++◌, List, inr, sym, ap, ◌∙◌, subst, rules, arith}
 use Rattle.std.specs.List.{AllByRecursion}
 use Rattle.std.proofs.lemmas.Result.{err_from_is_err_and}
-use Rattle.h5_bytes.specs.Bytes.{undefined}
+use Rattle.h5_bytes.specs.Bytes.{undefined_address}
 use Rattle.h5_model.specs.Format.Rows.{IsRow, next_row}
 use Rattle.h5_btree.specs.Walk.Below.{reading_in, IsStanding}
 use Rattle.h5_btree.specs.Walk.Rows.{IsMisnamed}
@@ -30,8 +30,8 @@ loop-row-preserved g c =
     let e : c.loop-row.height ≡ suc m = omega (arith, c.if-height-eq0.false) in
     let listed : AreListed image form c.args.root c.args.level (suc m) c.loop-row.nodes.items row
     = subst (λ (h : ℕ). AreListed image form c.args.root c.args.level h c.loop-row.nodes.items row) e c.loop-row.invariant in
-    let is : IsRow (reading_in image form) (suc m) undefined row =
-    subst (λ (xs : List ℕ). IsRow (reading_in image form) (suc m) undefined xs) c.deref.ensures.value
+    let is : IsRow (reading_in image form) (suc m) undefined_address row =
+    subst (λ (xs : List ℕ). IsRow (reading_in image form) (suc m) undefined_address xs) c.deref.ensures.value
     (c.in_ok-check_siblings.ensures.named (suc m) (subst (AllByRecursion (IsStanding image form (suc m))) (sym c.deref.ensures.value) listed.read.here)) in
     let next : c.in-Ok.next.items ≡ next_row (reading_in image form) row = c.in-Ok.ensures ∙ ap (next_row (reading_in image form)) c.deref-in-loop-row.ensures.value in
     let done : c.append.new.self.items ≡ c.loop-row.nodes.items ++ row = search rules in

@@ -11,7 +11,7 @@ use Rattle.std_alloc.proofs.BoxSteps.Steps.{box_in}
 use Rattle.std_heap.specs.contracts.Global as Heap
 use Rattle.std_heap.proofs.Handle.{heap_val, heap_Tells}
 use Rattle.h5_c.specs.contracts.held.Held.{the_row as T}
-use Rattle.h5_c.specs.Slot.{freed, slot_owns}
+use Rattle.h5_c.specs.Slot.{free_right, slot_owns}
 use Rattle.h5_c.proofs.AsBox.{E}
 use Rattle.h5_c.specs.contracts.slot.Slot.take_parts as f
 use Rattle.h5_c.proofs.slot.Slot.take_parts.Statement.{statement}
@@ -36,7 +36,7 @@ take_parts_spec 𝓤 𝓛 𝓜 𝓡 wired =
     fsplit3 ! $ move ! (1 ∷ 2 ∷ 3 ∷ []) $ opens ! tt R b o (λ us.
     move ! (1 ∷ []) $ peeks ! R _ (shows 𝓛 R) h us (λ is. fsplit ! $ move ! (1 ∷ []) $
     rewrite ! 0 (λ (t : Bool). ‵ (slot_owns t h.at h.held)) opened refl $
-    in_a_block ! h.at (λ p. slot_owns true p h.held) (fst∗ 𝓤 (never 𝓤) (sem 𝓛 (freed (bare (lone T.mir)) null_ptr))) (λ b' o' e.
+    in_a_block ! h.at (λ p. slot_owns true p h.held) (fst∗ 𝓤 (never 𝓤) (sem 𝓛 (free_right (bare (lone T.mir)) null_ptr))) (λ b' o' e.
     let Cell = λ (ws : List Val). ‵ (cell_at full_share R.mir ws b o) in
     rewrite ! 2 Cell (lowers.val_is h us is ∙ ap (λ (p : Ptr). lowers.lowered (record h { at = p }) ∷ []) e) refl $
     -- [what lies at the pointer; what the fields own; the slot's cell; the open borrow, in three entries; self's first part; the heap's handle]

@@ -25,7 +25,7 @@ returns-then-root_level-gt15 c =
     c.nodes_over.ensures.exact c.node_length.ensures.length c.bytes_of-tree.ensures.exact c.in-Some.ensures.0 c.from-2.ensures c.bytes_of.ensures.exact in
     let level = c.root_level.ensures ∙ ap (λ (kind : Kind). root_level kind.k c.rows_of-nodes.result) c.group-kind.ensures in (
       subst (λ n. n ≤ 2 ^ 31) all.whole_is c.if-length-gt-MAXIMUM_IMAGE.false,
-      subst (λ n. 15 < root_level c.args.internal n) all.nodes_are (subst (λ n. 15 < n) level c.if-root_level-gt15.true),
+      subst (λ n. 15 < root_level (c.args.k.now).internal n) all.nodes_are (subst (λ n. 15 < n) level c.if-root_level-gt15.true),
     )
 
 pub returns : goal.returns
@@ -38,5 +38,5 @@ returns c =
       segment = c.in-Some.ensures.0;
       length_is = all.whole_is;
       few = c.if-length-gt-MAXIMUM_IMAGE.false;
-      low = subst (λ n. root_level c.args.internal n ≤ 15) all.nodes_are (subst (λ n. n ≤ 15) level c.if-root_level-gt15.false);
+      low = subst (λ n. root_level (c.args.k.now).internal n ≤ 15) all.nodes_are (subst (λ n. n ≤ 15) level c.if-root_level-gt15.false);
     }

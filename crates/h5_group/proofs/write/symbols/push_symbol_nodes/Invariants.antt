@@ -1,14 +1,14 @@
 use Rattle.std.proofs.Common.{◌≡◌, ◌+◌, ◌-◌, ◌++◌, ◌≤◌, drop, map, length}
 use Rattle.std.specs.List.{flat_map, sum_by}
 use Rattle.h5_heap.specs.Writing.Links.{name_and_leads}
-use Rattle.h5_heap.specs.Writing.Written.{placed, placed_links, texts_span}
+use Rattle.h5_heap.specs.Writing.Written.{links_with_offsets, placed_links, texts_span}
 use Rattle.h5_group.specs.Writing.Written.{runs_of, written_symbol_node}
 use Rattle.h5_group.proofs.write.symbols.push_symbol_nodes.Given as goal
 
 -- the symbol nodes so far, with those to come
 abbrev pub invariant-loop-from : goal.invariant-loop-from
 invariant-loop-from l = record {
-  nodes : l.out.items ++ flat_map (written_symbol_node l.leaf) (runs_of l.leaf (placed l.name (map name_and_leads (drop l.from l.links))))
+  nodes : l.out.items ++ flat_map (written_symbol_node l.leaf) (runs_of l.leaf (links_with_offsets l.name (map name_and_leads (drop l.from l.links))))
       ≡ l.initial.out.items ++ flat_map (written_symbol_node l.leaf) (runs_of l.leaf (placed_links (map name_and_leads l.links)));
   spans : l.name + sum_by texts_span (map name_and_leads (drop l.from l.links)) ≡ 8 + sum_by texts_span (map name_and_leads l.links);
   within : l.from ≤ length l.links;

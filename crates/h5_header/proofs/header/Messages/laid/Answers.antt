@@ -1,4 +1,4 @@
-use Rattle.std.proofs.Common.{◌≡◌, ◌+◌, ◌<◌, ◌≤◌, length, arith, rules, subst, sym, ◌++◌, ◌∷◌, []}
+use Rattle.std.proofs.Common.{◌≡◌, ◌+◌, ◌<◌, length, arith, rules, subst, sym, ◌++◌, ◌∷◌, []}
 use Rattle.h5_bytes.specs.Bytes.{number_at}
 use Rattle.h5_header.proofs.LaidLaws.{LaidTo, laid_first, laid_more, laid_whole, next_fits, placed_at}
 use Rattle.h5_header.proofs.header.Messages.laid.Goals as goal

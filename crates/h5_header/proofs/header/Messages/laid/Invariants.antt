@@ -1,4 +1,4 @@
-use Rattle.std.proofs.Common.{length, ◌-◌, ℕ, List}
+use Rattle.std.proofs.Common.{length, ◌-◌, List}
 use Rattle.h5_model.specs.Format.Messages.{Message}
 use Rattle.h5_header.specs.Laid.{IsHeaderBytes}
 use Rattle.h5_header.proofs.LaidLaws.{LaidTo}

@@ -4,8 +4,8 @@ use Rattle.std.proofs.Math.Nat.{mul-le-mul_left}
 use Rattle.h5_shape.proofs.Products.{cells_le}
 use Rattle.h5_model.proofs.PlainValues.{size-high}
 use Rattle.h5_model.specs.Format.Fixed.{IsFixed}
+use Rattle.h5_model.specs.Format.Described.{Described, described_dataset}
 use Rattle.h5_model.specs.Tree.Places.{cells}
-use Rattle.h5_layout.specs.Described.{Described, described_dataset}
 use Rattle.h5_layout.specs.Stored.{AreStored, IsArray, data_in}
 use Rattle.h5_layout.proofs.RoomLaws.{few}
 use Rattle.h5_layout.proofs.StoredLaws.{with_data, without_data}

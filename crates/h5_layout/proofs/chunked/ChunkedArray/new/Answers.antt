@@ -1,6 +1,6 @@
 use Rattle.std.proofs.Common.{sym, subst}
 use Rattle.h5_layout.specs.ArrayChunks.{IsChunked, IsInChunksOf}
-use Rattle.h5_layout.specs.Described.{Described}
+use Rattle.h5_model.specs.Format.Described.{Described}
 use Rattle.h5_layout.proofs.chunked.ChunkedArray.new.Goals as goal
 
 pub of-requires : goal.of-requires

@@ -3,10 +3,10 @@ use mir.Syntax.{w128}
 use Rattle.std.proofs.lemmas.List.{take_at}
 use Rattle.h5_model.specs.Format.Fixed.{Fixed, fits}
 use Rattle.h5_model.specs.Format.Layout.{InChunks, Layout}
+use Rattle.h5_model.specs.Format.Described.{Described}
 use Rattle.h5_model.specs.Tree.Places.{cells}
 use Rattle.h5_msg.specs.Layouts.{layout_in}
 use Rattle.h5_layout.specs.ArrayChunks.{AreSoundChunks}
-use Rattle.h5_layout.specs.Described.{Described}
 use Rattle.h5_layout.specs.Judged.{is_chunk_large}
 use Rattle.h5_layout.proofs.KeptValues.{chunk_rank}
 use Rattle.h5_layout.proofs.OutsideChunks.{sound_chunks}

@@ -4,12 +4,12 @@ use Rattle.std.specs.FinMap.{entries, retain_keys}
 use Rattle.std.specs.List.{AllByRecursion}
 use Rattle.h5_model.specs.Format.Layout.{InChunks}
 use Rattle.h5_model.specs.Format.Reached.{Shape}
+use Rattle.h5_model.specs.Format.Described.{Described}
 use Rattle.h5_model.specs.Tree.Places.{is_inside}
 use Rattle.h5_chunks.specs.Held.{IsChunkPlace, place_entry}
 use Rattle.h5_chunks.specs.declared.held.ChunkPlace.{ChunkPlace}
 use Rattle.h5_layout.specs.ArrayChunks.{ArrayChunks, IsInChunksOf}
 use Rattle.h5_layout.specs.Data.{chunk_shape, stored_chunks}
-use Rattle.h5_layout.specs.Described.{Described}
 use Rattle.h5_layout.specs.Kept.{chunks_below_root, kept_cells, smaller_sizes}
 use Rattle.h5_layout.proofs.KeptLaws.{length-smaller}
 use Rattle.h5_layout.proofs.KeptValues.{kept_is_held, layout_parts, stored_below}

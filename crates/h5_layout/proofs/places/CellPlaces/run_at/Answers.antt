@@ -1,10 +1,10 @@
 use Rattle.std.proofs.Common.{◌≡◌, ℕ, ◌+◌, ◌*◌, ◌≤◌, inr, List, Some, sym, ap, ◌∙◌, subst, arith}
 use Rattle.h5_header.specs.declared.message.Message.{Message as Placed}
 use Rattle.h5_model.specs.Format.Fixed.{Fixed}
+use Rattle.h5_model.specs.Format.Described.{Described}
 use Rattle.h5_layout.specs.CellPlaces.{DoStandAs, IsIndexOf, IsLineAt, IsStoredAmong, KeptPlaces}
 use Rattle.h5_layout.specs.ChunkCells.{chunk_of}
 use Rattle.h5_layout.specs.Compact.{IsRunAt}
-use Rattle.h5_layout.specs.Described.{Described}
 use Rattle.h5_layout.specs.GridKept.{grid_in}
 use Rattle.h5_layout.specs.declared.address.StoredRun.{StoredRun}
 use Rattle.h5_layout.proofs.BesideLaws.{fewer_beside}

@@ -4,13 +4,14 @@ use Rattle.std.specs.BTreeMap.{BTreeMap}
 use Rattle.std.specs.List.{list_all}
 use Rattle.std.proofs.lemmas.List.{take_all}
 use Rattle.std.proofs.lemmas.Option.{option_and_then_some}
+use Rattle.h5_model.specs.Format.MessageTypes.{datatype_kind}
 use Rattle.h5_model.specs.Format.Fixed.{Fixed, IsFixed, fits}
 use Rattle.h5_model.specs.Format.Plain.{cells_bytes}
 use Rattle.h5_model.specs.Format.Messages.{first_body}
+use Rattle.h5_model.specs.Format.Described.{Described}
 use Rattle.h5_model.specs.Tree.Objects.{Dataset}
 use Rattle.h5_space.specs.Lending.{with_bytes_at}
 use Rattle.h5_space.specs.Space.{Space}
-use Rattle.h5_layout.specs.Described.{Described}
 use Rattle.h5_layout.specs.Standing.{IsStandingAt}
 use Rattle.h5_layout.proofs.FillLaws.{type_sound}
 use Rattle.h5_open.specs.declared.opened.object.OpenedObject.{OpenedObject}
@@ -42,7 +43,7 @@ module _ (image : Space) (slots : List (Option OpenedObject)) (numbers : BTreeMa
   stand = subst (λ (g : FileState). AreStanding g number cells (length values)) (sym view) standing a described
 
   fixed : IsFixed a.fixed
-  fixed = option_and_then_some _ (first_body 3 (described).messages) a.fixed (described).described.type (λ body there is. type_sound body a.fixed is)
+  fixed = option_and_then_some _ (first_body datatype_kind (described).messages) a.fixed (described).described.type (λ body there is. type_sound body a.fixed is)
 
   all : take (length values) values ≡ values
   all = take_all (length values) values (omega arith)

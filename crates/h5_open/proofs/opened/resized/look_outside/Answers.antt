@@ -1,7 +1,7 @@
 use Rattle.std.proofs.Common.{◌≡◌, ◌≤◌, ℕ, List, length, sym, ap, ◌∙◌, subst, arith}
 use Rattle.std.proofs.lemmas.List.{length-take-le}
 use Rattle.h5_header.specs.Listed.{Listed, messages_in}
-use Rattle.h5_layout.specs.Described.{Described, HasArray}
+use Rattle.h5_model.specs.Format.Described.{Described, HasArray}
 use Rattle.h5_layout.proofs.KeptLaws.{length-smaller}
 use Rattle.h5_layout.specs.ArrayEdits.{described_in}
 use Rattle.h5_layout.specs.Kept.{smaller_sizes}

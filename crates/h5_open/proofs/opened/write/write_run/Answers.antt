@@ -4,9 +4,9 @@ use Rattle.std.proofs.lemmas.List.{append-nil, length-take-le, nil_from_length, 
 use Rattle.h5_header.specs.Listed.{messages_in}
 use Rattle.h5_header.specs.declared.message.Message.{Message}
 use Rattle.h5_layout.specs.CellPlaces.{IsStoredAmong}
-use Rattle.h5_layout.specs.Described.{Described}
 use Rattle.h5_layout.specs.Told.{array_told}
 use Rattle.h5_model.specs.Format.Fixed.{IsFixed}
+use Rattle.h5_model.specs.Format.Described.{Described}
 use Rattle.h5_open.specs.declared.opened.object.OpenedObject.{OpenedObject}
 use Rattle.h5_open.specs.WrittenRun.{IsRunMade, IsRunReady}
 use Rattle.h5_open.proofs.PieceWritten.{next_low, next_stored, none_made, piece_inside, piece_made, piece_of_type}

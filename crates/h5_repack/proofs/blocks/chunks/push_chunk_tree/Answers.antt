@@ -5,7 +5,7 @@ use Rattle.h5_model.specs.Format.PlainLength.{nodes_over}
 use Rattle.h5_chunks.specs.Keys.{chunk_key}
 use Rattle.h5_chunks.specs.declared.write.ChunkKey.{ChunkKey}
 use Rattle.h5_repack.specs.Bodies.Chunks.{chunk_children, chunk_nodes}
-use Rattle.h5_repack.specs.Blocks.StoredChunks.{key_bytes, keyed, part_length}
+use Rattle.h5_repack.specs.Blocks.StoredChunks.{key_bytes, with_key_bytes, part_length}
 use Rattle.h5_repack.specs.Blocks.Written.{part_offsets}
 use Rattle.h5_repack.proofs.BlockLaws.StoredChunks.{all_fit, as_many_children, chunks_many, first_fits, level_low, tree_is, tree_long}
 use Rattle.h5_repack.proofs.blocks.chunks.push_chunk_tree.Goals as goal
@@ -34,8 +34,8 @@ push_tree-requires-clause-few c =
     let h = c.args.held.now in
     let first : ChunkKey = record { bytes = c.key.result.bytes } in
     let begin : ℕ = c.args.place + c.nodes_length.result in
-    let are : map (keyed key_bytes) c.deref-2.result.now ≡ map (keyed chunk_key) (chunk_children (part_length h) h.chunk begin (part_offsets h))
-    = ap (map (keyed key_bytes)) c.deref-2.ensures.value ∙ c.in_ok-children.ensures in
+    let are : map (with_key_bytes key_bytes) c.deref-2.result.now ≡ map (with_key_bytes chunk_key) (chunk_children (part_length h) h.chunk begin (part_offsets h))
+    = ap (map (with_key_bytes key_bytes)) c.deref-2.ensures.value ∙ c.in_ok-children.ensures in
     let many = as_many_children c.args.chunk_k c.requires.low_k h c.kind_of-kind.ensures.ranked c.requires.some c.kind_of-kind.result c.kind_of-kind.ensures.kind first c.key.ensures begin c.deref-2.result.now are in
     let room = chunks_many h c.requires.whole c.kind_of-kind.ensures.ranked c.args.chunk_k c.requires.low_k (length h.parts) c.chunk_length-size.result refl c.requires.some c.chunk_length-size.ensures.exact
     c.chunk_length-size.ensures.some c.args.place in
@@ -46,8 +46,8 @@ push_tree-requires-clause-level c =
     let h = c.args.held.now in
     let first : ChunkKey = record { bytes = c.key.result.bytes } in
     let begin : ℕ = c.args.place + c.nodes_length.result in
-    let are : map (keyed key_bytes) c.deref-2.result.now ≡ map (keyed chunk_key) (chunk_children (part_length h) h.chunk begin (part_offsets h))
-    = ap (map (keyed key_bytes)) c.deref-2.ensures.value ∙ c.in_ok-children.ensures in
+    let are : map (with_key_bytes key_bytes) c.deref-2.result.now ≡ map (with_key_bytes chunk_key) (chunk_children (part_length h) h.chunk begin (part_offsets h))
+    = ap (map (with_key_bytes key_bytes)) c.deref-2.ensures.value ∙ c.in_ok-children.ensures in
     level_low c.args.chunk_k c.requires.low_k h c.kind_of-kind.ensures.ranked c.requires.some c.kind_of-kind.result c.kind_of-kind.ensures.kind first c.key.ensures begin c.deref-2.result.now are c.requires.level
 
 pub push_tree-requires-clause-first : goal.push_tree-requires-clause-first
@@ -59,8 +59,8 @@ push_tree-requires-clause-keys c =
     let h = c.args.held.now in
     let first : ChunkKey = record { bytes = c.key.result.bytes } in
     let begin : ℕ = c.args.place + c.nodes_length.result in
-    let are : map (keyed key_bytes) c.deref-2.result.now ≡ map (keyed chunk_key) (chunk_children (part_length h) h.chunk begin (part_offsets h))
-    = ap (map (keyed key_bytes)) c.deref-2.ensures.value ∙ c.in_ok-children.ensures in
+    let are : map (with_key_bytes key_bytes) c.deref-2.result.now ≡ map (with_key_bytes chunk_key) (chunk_children (part_length h) h.chunk begin (part_offsets h))
+    = ap (map (with_key_bytes key_bytes)) c.deref-2.ensures.value ∙ c.in_ok-children.ensures in
     all_fit c.args.chunk_k c.requires.low_k h c.kind_of-kind.ensures.ranked c.requires.some c.kind_of-kind.result c.kind_of-kind.ensures.kind first c.key.ensures begin c.deref-2.result.now are
 
 pub push_tree-requires-clause-room : goal.push_tree-requires-clause-room
@@ -69,8 +69,8 @@ push_tree-requires-clause-room c =
     let kind = c.kind_of-kind.result in
     let first : ChunkKey = record { bytes = c.key.result.bytes } in
     let begin : ℕ = c.args.place + c.nodes_length.result in
-    let are : map (keyed key_bytes) c.deref-2.result.now ≡ map (keyed chunk_key) (chunk_children (part_length h) h.chunk begin (part_offsets h))
-    = ap (map (keyed key_bytes)) c.deref-2.ensures.value ∙ c.in_ok-children.ensures in
+    let are : map (with_key_bytes key_bytes) c.deref-2.result.now ≡ map (with_key_bytes chunk_key) (chunk_children (part_length h) h.chunk begin (part_offsets h))
+    = ap (map (with_key_bytes key_bytes)) c.deref-2.ensures.value ∙ c.in_ok-children.ensures in
     let long = tree_long c.args.chunk_k c.requires.low_k h c.kind_of-kind.ensures.ranked c.requires.some kind c.kind_of-kind.ensures.kind first c.key.ensures begin c.deref-2.result.now are c.args.place c.nodes_length.result
     (c.nodes_length.ensures.exact ∙ ap (λ n. nodes_over 64 (2 * kind.k) n * node_length kind) c.len.ensures) in
     omega (arith, long, c.nodes_length.ensures.few, c.requires.low)
@@ -81,8 +81,8 @@ returns c =
     let kind = c.kind_of-kind.result in
     let first : ChunkKey = record { bytes = c.key.result.bytes } in
     let begin : ℕ = c.args.place + c.nodes_length.result in
-    let are : map (keyed key_bytes) c.deref-2.result.now ≡ map (keyed chunk_key) (chunk_children (part_length h) h.chunk begin (part_offsets h))
-    = ap (map (keyed key_bytes)) c.deref-2.ensures.value ∙ c.in_ok-children.ensures in
+    let are : map (with_key_bytes key_bytes) c.deref-2.result.now ≡ map (with_key_bytes chunk_key) (chunk_children (part_length h) h.chunk begin (part_offsets h))
+    = ap (map (with_key_bytes key_bytes)) c.deref-2.ensures.value ∙ c.in_ok-children.ensures in
     IfOk-weaker c.push_tree.result _
     (λ _. (head : List ℕ) (others : List (List ℕ)) → part_offsets h ≡ head ∷ others
     → c.push_tree.new.out.items ≡ c.args.out.now.items ++ chunk_nodes c.args.chunk_k (part_length h) h.chunk head (head ∷ others) c.args.place)

@@ -1,7 +1,7 @@
 use Rattle.std.proofs.Common.{◌≡◌, ◌++◌, rules, to_z, of_z, sym, ◌∙◌}
 use Rattle.std.specs.Int.{w128}
 use Rattle.std.specs.Prelude.{if◌then◌else◌}
-use Rattle.h5_model.specs.Format.Bodies.{fill_bytes, raised}
+use Rattle.h5_model.specs.Format.Bodies.{fill_bytes, padded_body}
 use Rattle.h5_model.specs.Format.Plain.{message_bytes}
 use Rattle.h5_msg.specs.Times.{time_number}
 use Rattle.h5_msg.proofs.FillLaws.{length-fill_bytes}
@@ -17,4 +17,4 @@ returns c =
     c.in_ok-at.ensures.room c.in_ok-at.ensures.place c.deref_mut.ensures.value c.deref_mut.ensures.len
     c.write_fill.new.bytes (fill_bytes (time_number c.allocation_time.result) t (to_z w128 (of_z w128 c.args.fill)))
     (length-fill_bytes (time_number c.allocation_time.result) t (to_z w128 (of_z w128 c.args.fill)) ∙ sym c.fill_length.ensures.exact) c.write_fill.ensures.written
-    ∙ (λ i. c.args.out.now.items ++ message_bytes (5, raised (fill_bytes (time i) t (value i))))
+    ∙ (λ i. c.args.out.now.items ++ message_bytes (5, padded_body (fill_bytes (time i) t (value i))))

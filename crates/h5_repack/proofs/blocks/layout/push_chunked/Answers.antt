@@ -1,5 +1,5 @@
 use Rattle.std.proofs.Common.{◌≡◌, ◌++◌, ◌∙◌, List, ℕ, ap, arith}
-use Rattle.h5_model.specs.Format.Bodies.{chunked_bytes, raised}
+use Rattle.h5_model.specs.Format.Bodies.{chunked_bytes, padded_body}
 use Rattle.h5_model.specs.Format.Plain.{message_bytes}
 use Rattle.h5_repack.proofs.BlockLaws.ArrayParts.{length-chunked}
 use Rattle.h5_repack.proofs.BlockLaws.Rooms.{body_written}
@@ -13,4 +13,4 @@ returns c =
     c.in_ok-at.ensures.room c.in_ok-at.ensures.place c.deref_mut.ensures.value c.deref_mut.ensures.len
     c.write_chunked_layout.new.bytes (chunked_bytes c.read_chunk.new.chunk c.args.tree t.size)
     (omega (arith, length-chunked c.read_chunk.new.chunk c.args.tree t.size, c.chunked_length.ensures)) c.write_chunked_layout.ensures.written
-    ∙ ap (λ (sizes : List ℕ). c.args.out.now.items ++ message_bytes (8, raised (chunked_bytes sizes c.args.tree t.size))) chunk
+    ∙ ap (λ (sizes : List ℕ). c.args.out.now.items ++ message_bytes (8, padded_body (chunked_bytes sizes c.args.tree t.size))) chunk

@@ -1,6 +1,6 @@
 use Rattle.std.proofs.Common.{◌≡◌, ◌+◌, ◌*◌, ◌≤◌, ◌++◌, ◌∙◌, ◌||◌, not, sym, ap, arith, length, true, false}
 use Rattle.std.specs.Prelude.{if◌then◌else◌}
-use Rattle.h5_model.specs.Format.Bodies.{raised, dataspace_bytes, bounded_bytes}
+use Rattle.h5_model.specs.Format.Bodies.{padded_body, dataspace_bytes, bounded_bytes}
 use Rattle.h5_model.specs.Format.Plain.{message_bytes}
 use Rattle.h5_model.specs.Format.Sizes.{dataspace_length}
 use Rattle.h5_model.specs.Tree.Objects.{are_sizes}
@@ -29,7 +29,7 @@ returns-then-has_maxima c =
     c.in_ok-at.ensures.room c.in_ok-at.ensures.place c.deref_mut.ensures.value c.deref_mut.ensures.len
     c.write_bounded_dataspace.new.bytes (bounded_bytes c.sizes-sizes.result.now c.read_maxima.new.maxima)
     (omega (arith, bounds_long c.sizes-sizes.result.now c.read_maxima.new.maxima long, size)) c.write_bounded_dataspace.ensures.written
-    ∙ ap (λ bytes. c.args.out.now.items ++ bytes) ((λ i. message_bytes (1, raised (bounded_bytes (sizes i) (c.read_maxima.ensures i))))
+    ∙ ap (λ bytes. c.args.out.now.items ++ bytes) ((λ i. message_bytes (1, padded_body (bounded_bytes (sizes i) (c.read_maxima.ensures i))))
     ∙ space_bounded (in_chunks a.layout) a.sizes a.maxima rank same written)
 
 pub returns-else-has_maxima : goal.returns-else-has_maxima
@@ -47,5 +47,5 @@ returns-else-has_maxima c =
     c.in_ok-at.ensures.room c.in_ok-at.ensures.place c.deref_mut-else-has_maxima.ensures.value c.deref_mut-else-has_maxima.ensures.len
     c.write_dataspace.new.bytes (dataspace_bytes c.sizes-sizes.result.now)
     (omega (arith, words_long c.sizes-sizes.result.now, size)) c.write_dataspace.ensures.written
-    ∙ ap (λ bytes. c.args.out.now.items ++ bytes) (ap (λ ds. message_bytes (1, raised (dataspace_bytes ds))) sizes
+    ∙ ap (λ bytes. c.args.out.now.items ++ bytes) (ap (λ ds. message_bytes (1, padded_body (dataspace_bytes ds))) sizes
     ∙ space_own (in_chunks a.layout) a.sizes a.maxima rank same written)

@@ -3,7 +3,7 @@ use Rattle.std.proofs.lemmas.Bool.Decides.{nat_tests}
 use Rattle.std.specs.Prelude.{◌==◌}
 use Rattle.h5_shape.specs.declared.runs.CellRun.{CellRun}
 use Rattle.h5_shape.specs.declared.runs.CellRuns.TheInside.{Inside}
-use Rattle.h5_shape.specs.Loops.{spaced, nest_ahead, ArePlacesBelow}
+use Rattle.h5_shape.specs.Loops.{spaced_places, nest_ahead, ArePlacesBelow}
 use Rattle.h5_shape.specs.Left.{cells_at, left_of, IsRoomy}
 use Rattle.h5_shape.specs.Runs.{cell_runs}
 use Rattle.h5_shape.proofs.LoopLaws.{below-left, below-right, last_below}
@@ -28,7 +28,7 @@ next_place-requires-clause-small c =
     let more : c.self.inside.has_more ≡ true = cc in
     let small : ArePlacesBelow (2 ^ 41) (cells_at o (p ∷ nest_ahead o)) = subst (λ (b : Bool). ArePlacesBelow (2 ^ 41) (left_of o p b)) more c.self.invariant.small in
     let rest : ArePlacesBelow (2 ^ 41) (cells_at o (nest_ahead now)) =
-    below-right (2 ^ 41) (spaced (c.loop-next.end - p) 1 (o.origin + p)) (cells_at o (nest_ahead now)) (subst (ArePlacesBelow (2 ^ 41)) c.loop-next.invariant.cells small) in
+    below-right (2 ^ 41) (spaced_places (c.loop-next.end - p) 1 (o.origin + p)) (cells_at o (nest_ahead now)) (subst (ArePlacesBelow (2 ^ 41)) c.loop-next.invariant.cells small) in
     places_small o (nest_ahead now) c.self.invariant.long rest
 
 pub overflow_add-end-in-Some : goal.overflow_add-end-in-Some
@@ -39,7 +39,7 @@ overflow_add-end-in-Some c =
     let more : c.self.inside.has_more ≡ true = cc in
     let small : ArePlacesBelow (2 ^ 41) (cells_at o (p ∷ nest_ahead o)) = subst (λ (b : Bool). ArePlacesBelow (2 ^ 41) (left_of o p b)) more c.self.invariant.small in
     let rest : ArePlacesBelow (2 ^ 41) (cells_at o (nest_ahead now)) =
-    below-right (2 ^ 41) (spaced (c.loop-next.end - p) 1 (o.origin + p)) (cells_at o (nest_ahead now)) (subst (ArePlacesBelow (2 ^ 41)) c.loop-next.invariant.cells small) in
+    below-right (2 ^ 41) (spaced_places (c.loop-next.end - p) 1 (o.origin + p)) (cells_at o (nest_ahead now)) (subst (ArePlacesBelow (2 ^ 41)) c.loop-next.invariant.cells small) in
     let next : ArePlacesBelow (2 ^ 41) (cells_at o (c.in-Some.next ∷ nest_ahead c.next_place.new.self)) = subst (λ (xs : List ℕ). ArePlacesBelow (2 ^ 41) (cells_at o xs)) c.in-Some.ensures.next rest in
     let long : c.next_place.new.self.length ≡ o.length = c.next_place.ensures.long ∙ c.loop-next.invariant.long in
     omega (arith, start_room (2 ^ 41) o c.in-Some.next (nest_ahead c.next_place.new.self) c.self.invariant.long next, long, c.if-next-end.false)
@@ -59,9 +59,9 @@ loop-next-preserved c =
       stands = c.in-Some.ensures.stands;
       some = omega (arith, i.some);
       cells = i.cells
-          ∙ ap (λ (xs : List ℕ). spaced (c.loop-next.end - p) 1 (o.origin + p) ++ cells_at o xs) (c.in-Some.ensures.next ∙ ap (λ (n : ℕ). n ∷ nest_ahead c.next_place.new.self) same)
+          ∙ ap (λ (xs : List ℕ). spaced_places (c.loop-next.end - p) 1 (o.origin + p) ++ cells_at o xs) (c.in-Some.ensures.next ∙ ap (λ (n : ℕ). n ∷ nest_ahead c.next_place.new.self) same)
           ∙ join_cells o p c.loop-next.end (nest_ahead c.next_place.new.self) (omega (arith, i.some))
-          ∙ ap (λ (n : ℕ). spaced ((c.loop-next.end + n) - p) 1 (o.origin + p) ++ cells_at o (nest_ahead c.next_place.new.self)) (sym long);
+          ∙ ap (λ (n : ℕ). spaced_places ((c.loop-next.end + n) - p) 1 (o.origin + p) ++ cells_at o (nest_ahead c.next_place.new.self)) (sym long);
     }
 
 pub overflow_add-result : goal.overflow_add-result
@@ -72,8 +72,8 @@ overflow_add-result c =
     let i = c.loop-next.invariant in
     let more : c.self.inside.has_more ≡ true = cc in
     let small : ArePlacesBelow (2 ^ 41) (cells_at o (p ∷ nest_ahead o)) = subst (λ (b : Bool). ArePlacesBelow (2 ^ 41) (left_of o p b)) more c.self.invariant.small in
-    let run : ArePlacesBelow (2 ^ 41) (spaced (c.loop-next.end - p) 1 (o.origin + p)) =
-    below-left (2 ^ 41) (spaced (c.loop-next.end - p) 1 (o.origin + p)) (cells_at o (nest_ahead now)) (subst (ArePlacesBelow (2 ^ 41)) i.cells small) in
+    let run : ArePlacesBelow (2 ^ 41) (spaced_places (c.loop-next.end - p) 1 (o.origin + p)) =
+    below-left (2 ^ 41) (spaced_places (c.loop-next.end - p) 1 (o.origin + p)) (cells_at o (nest_ahead now)) (subst (ArePlacesBelow (2 ^ 41)) i.cells small) in
     let room : (o.origin + p) + (c.loop-next.end - p) ≤ 2 ^ 41 = last_below (2 ^ 41) (c.loop-next.end - p) (o.origin + p) (omega (arith, i.some)) run in
     let origin : c.match-next_place.self-inside.nest.origin ≡ o.origin = elim c.match-next_place.branch [
       | in-Some+then-next-end w ↦ ap (λ (s : Inside). s.nest.origin) w.self-inside-is ∙ c.next_place.ensures.origin ∙ i.origin
@@ -94,7 +94,7 @@ invariant_of-self c =
     let depth : new.depth ≡ o.depth = c.next_place.ensures.depth ∙ i.depth in
     let small : ArePlacesBelow (2 ^ 41) (cells_at o (p ∷ nest_ahead o)) = subst (λ (b : Bool). ArePlacesBelow (2 ^ 41) (left_of o p b)) more c.self.invariant.small in
     let rest : ArePlacesBelow (2 ^ 41) (cells_at o (nest_ahead now)) =
-    below-right (2 ^ 41) (spaced (c.loop-next.end - p) 1 (o.origin + p)) (cells_at o (nest_ahead now)) (subst (ArePlacesBelow (2 ^ 41)) i.cells small) in
+    below-right (2 ^ 41) (spaced_places (c.loop-next.end - p) 1 (o.origin + p)) (cells_at o (nest_ahead now)) (subst (ArePlacesBelow (2 ^ 41)) i.cells small) in
     elim c.match-next_place.branch [
       | in-Some+then-next-end w ↦
           let next : ArePlacesBelow (2 ^ 41) (cells_at new (w.in-Some.next ∷ nest_ahead new)) =
@@ -118,7 +118,7 @@ returns-clause-steps c =
     let more : c.self.inside.has_more ≡ true = cc in
     let long : new.length ≡ o.length = c.next_place.ensures.long ∙ i.long in
     let origin : new.origin ≡ o.origin = c.next_place.ensures.origin ∙ i.origin in
-    let before : c.args.self.now ≡ cell_runs (spaced (e - p) 1 (o.origin + p) ++ cells_at o (nest_ahead now)) =
+    let before : c.args.self.now ≡ cell_runs (spaced_places (e - p) 1 (o.origin + p) ++ cells_at o (nest_ahead now)) =
     sym c.self.view_is ∙ ap (λ (b : Bool). cell_runs (left_of o p b)) more ∙ ap cell_runs i.cells in
     elim c.match-next_place.branch [
       | in-Some+then-next-end w ↦

@@ -1,5 +1,5 @@
 use Rattle.std.proofs.Common.{◌≡◌, ◌+◌, ◌-◌, ◌<◌, ◌++◌, ◌∷◌, length, take, false}
-use Rattle.h5_shape.specs.Loops.{spaced, nest_ahead, IsStanding}
+use Rattle.h5_shape.specs.Loops.{spaced_places, nest_ahead, IsStanding}
 use Rattle.h5_shape.specs.Left.{cells_at}
 use Rattle.h5_shape.proofs.runs.CellRunsIterator.next.Given as goal
 
@@ -16,7 +16,7 @@ invariant-loop-next l =
       stands : IsStanding (take nest.depth nest.loops) l.self-inside.place;
       some : l.initial.self-inside.place < l.end;
       cells : cells_at was (l.initial.self-inside.place ∷ nest_ahead was)
-          ≡ spaced (l.end - l.initial.self-inside.place) 1 (was.origin + l.initial.self-inside.place) ++ cells_at was (nest_ahead nest);
+          ≡ spaced_places (l.end - l.initial.self-inside.place) 1 (was.origin + l.initial.self-inside.place) ++ cells_at was (nest_ahead nest);
     }
 
 abbrev pub decreases-loop-next : goal.decreases-loop-next
