@@ -10,7 +10,8 @@ from dataclasses import dataclass
 from .source import HIDDEN
 
 PATH = os.path.join("tests", "wrong-bodies.judged")
-PARTS = ("src", "specs", "proofs", "wrong-bodies")
+# Proofs are no part of it: a wrong body is refused for what the contract says, and no proof makes it right.
+PARTS = ("src", "specs", "wrong-bodies")
 WORD = re.compile(r"\w+|[^\w\s]")
 # The comma that ends a list with a line for each part.
 LAST_COMMA = re.compile(r",(?=[ ]*\n\s*[)\]}>])")
@@ -53,8 +54,7 @@ def essence(path, data):
 
 
 def hash_of(folder, parts=PARTS):
-    """The hash of a crate's sources, definitions, proofs and wrong bodies, or of these parts: paths and what counts in them,
-    sorted."""
+    """The hash of a crate's sources, definitions and wrong bodies, or of these parts: paths and what counts in them, sorted."""
     paths = []
     for part in parts:
         for at, _, names in os.walk(os.path.join(folder, part)):

@@ -4,6 +4,7 @@ use Rattle.std.specs.Prelude.{if◌then◌else◌, nat_le}
 use Rattle.std.specs.Option.{option_or}
 use Rattle.std.specs.List.{AllByRecursion, AllZip, cons_option, filter, filter_map}
 use Rattle.std.proofs.lemmas.Bool.Decides.{nat_tests}
+use Rattle.h5_model.specs.Format.MessageTypes.{attribute_kind}
 use Rattle.h5_model.specs.Format.Messages.{Message}
 use Rattle.h5_model.specs.Tree.Places.{extent_cells}
 use Rattle.h5_model.specs.Format.AttributeBody.{attribute_of}
@@ -122,21 +123,21 @@ some_of : (o later : Option Cause) (cause : Cause) → option_or o later ≡ Som
 some_of None later cause e = inr e
 some_of (Some x) later cause e = inl e
 
-behind : (m : Message) (ms : List Message) (Fails : List ℕ → Type 0) → SomeBody 12 ms Fails → SomeBody 12 (m ∷ ms) Fails
+behind : (m : Message) (ms : List Message) (Fails : List ℕ → Type 0) → SomeBody attribute_kind ms Fails → SomeBody attribute_kind (m ∷ ms) Fails
 behind m ms Fails (x, there, kind, fails) = (x, (suc there.0, omega (arith, there.1), there.2), kind, fails)
 
-some_body : (ms : List Message) (cause : Cause) → first_fault ms ≡ Some cause → SomeBody 12 ms (BodyBreach cause)
+some_body : (ms : List Message) (cause : Cause) → first_fault ms ≡ Some cause → SomeBody attribute_kind ms (BodyBreach cause)
 some_body [] cause e = cc
 some_body (m ∷ ms) cause e =
-    elim (is_attribute_message m) as (λ b. is_attribute_message m ≡ b → option_or (if b then fault_of (attribute_of m.body) else None) (first_fault ms) ≡ Some cause → SomeBody 12 (m ∷ ms) (BodyBreach cause)) [
+    elim (is_attribute_message m) as (λ b. is_attribute_message m ≡ b → option_or (if b then fault_of (attribute_of m.body) else None) (first_fault ms) ≡ Some cause → SomeBody attribute_kind (m ∷ ms) (BodyBreach cause)) [
       | true ↦ λ is e. elim (some_of (fault_of (attribute_of m.body)) (first_fault ms) cause e) [
-        | inl here ↦ (m, (0, omega arith, refl), eqb-true m.kind 12 is, broken_by m cause (attribute_of m.body) refl here)
+        | inl here ↦ (m, (0, omega arith, refl), eqb-true m.kind attribute_kind is, broken_by m cause (attribute_of m.body) refl here)
         | inr later ↦ behind m ms (BodyBreach cause) (some_body ms cause later)
       ]
       | false ↦ λ is later. behind m ms (BodyBreach cause) (some_body ms cause later)
     ] refl e
 
-list_breach : (image : List ℕ) (header : ℕ) (ms : List Message) (cause : Cause) → SomeBody 12 ms (BodyBreach cause) → ListBreach image header ms cause
+list_breach : (image : List ℕ) (header : ℕ) (ms : List Message) (cause : Cause) → SomeBody attribute_kind ms (BodyBreach cause) → ListBreach image header ms cause
 list_breach image header ms AttributeForm some = some
 list_breach image header ms TooLarge some = inr (inl some)
 list_breach image header ms _ (m, there, kind, fails) = absurd fails

@@ -8,6 +8,7 @@ use Rattle.std.specs.List.{AllByRecursion, AllZip, filter, IsDistinct}
 use Rattle.std.specs.FinMap.{find as value_at, remove, from_entries, get-from_entries, get-remove, same_map, nat_cmp-IsAntisymmetric, slice_cmp-IsAntisymmetric}
 use Rattle.std.proofs.lemmas.List.Elements.{filter-append}
 use Rattle.h5_model.specs.Format.AttributeBody.{attribute_of}
+use Rattle.h5_model.specs.Format.MessageTypes.{nil_kind, attribute_kind}
 use Rattle.h5_model.specs.Format.Messages.{Message}
 use Rattle.h5_model.specs.Format.Reads.{HasAttributes, is_attribute_message}
 use Rattle.h5_model.specs.Tree.Objects.{Attribute, Attributes}
@@ -125,14 +126,14 @@ less_map es e more distinct =
       go q false is = ap (λ (b : Bool). cond b None (value_at (slice_cmp nat_cmp) q (es ++ e ∷ more))) is ∙ skips q es e more is
 
 -- a header one of whose attributes is NIL now has the others
-pub has_others : (front : List Message) (x y : Message) (back : List Message) (name : List ℕ) → is_attribute_named name x ≡ true → y.kind ≡ 0
+pub has_others : (front : List Message) (x y : Message) (back : List Message) (name : List ℕ) → is_attribute_named name x ≡ true → y.kind ≡ nil_kind
     → (attributes : Attributes) → HasAttributes (front ++ x ∷ back) attributes → HasAttributes (front ++ y ∷ back) (remove attributes name)
 has_others front x y back name holds nil attributes has =
     let is = named name x holds in
     let these : List Message → List Message = filter is_attribute_message in
     let before : these (front ++ x ∷ back) ≡ these front ++ x ∷ these back
     = filter-append is_attribute_message front (x ∷ back) ∙ ap (λ (b : Bool). these front ++ (if b then x ∷ these back else these back)) is.0 in
-    let out : is_attribute_message y ≡ false = ap (λ k. k == 12) nil in
+    let out : is_attribute_message y ≡ false = ap (λ k. k == attribute_kind) nil in
     let after : these (front ++ y ∷ back) ≡ these front ++ these back
     = filter-append is_attribute_message front (y ∷ back) ∙ ap (λ (b : Bool). these front ++ (if b then y ∷ these back else these back)) out in
     let cut = told_cut (these front) x (these back) has.listed (subst (λ (ms : List Message). AllZip Says ms has.listed) before has.each) in

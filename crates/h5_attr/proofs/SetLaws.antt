@@ -1,5 +1,6 @@
 -- The attributes of a header with one more.
 use Rattle.std.proofs.Common.{◌≡◌, ℕ, ◌^◌, ◌≤◌, ◌==◌, Bool, true, false, cond, if◌then◌else◌, List, [], ◌∷◌, ◌++◌, Option, Some, None, position, refl, sym, ap, ◌∙◌, subst, nat_eq}
+use Rattle.std.proofs.lemmas.Bool.{or_parts}
 use Rattle.std.specs.Ordering.{nat_cmp}
 use Rattle.std.specs.Cmp.{eq_by_cmp_equiv}
 use Rattle.std.specs.Cmp.Lexicographic.{slice_cmp, nat_list_cmp_total, pointwise, same_text, texts_ties}
@@ -7,11 +8,11 @@ use Rattle.std.specs.Option.{option_map_or}
 use Rattle.std.specs.List.{AllByRecursion, AllZip, filter, IsDistinct, list_any}
 use Rattle.std.specs.FinMap.{get, find as value_at, insert, remove, from_entries, get-from_entries, get-insert, get-remove, same_map, nat_cmp-IsAntisymmetric, slice_cmp-IsAntisymmetric}
 use Rattle.h5_model.specs.Format.AttributeBody.{attribute_of}
+use Rattle.h5_model.specs.Format.MessageTypes.{attribute_kind}
 use Rattle.h5_model.specs.Format.Messages.{Message}
 use Rattle.h5_model.specs.Format.Reads.{HasAttributes, is_attribute_message}
 use Rattle.h5_model.specs.Tree.Objects.{Attribute, Attributes}
 use Rattle.h5_model.specs.Tree.Places.{extent_cells}
-use Rattle.h5_msg.proofs.LayoutLaws.{or_left, or_right}
 use Rattle.h5_space.proofs.FitLaws.{any_missing}
 use Rattle.h5_header.specs.Added.{AddsMessage}
 use Rattle.h5_header.proofs.AddedLaws.{adds_among}
@@ -127,10 +128,10 @@ unnamed name [] [] none each = tt
 unnamed name [] (e ∷ listed) none each = absurd each
 unnamed name (m ∷ ms) listed none each = go (λ es told. unnamed name ms es rest told) (is_attribute_message m) refl listed each where
   rest : list_any (is_attribute_named name) ms ≡ false
-  rest = or_right (is_attribute_named name m) (list_any (is_attribute_named name) ms) none
+  rest = (or_parts (is_attribute_named name m) (list_any (is_attribute_named name) ms) none).1
 
   here : is_attribute_named name m ≡ false
-  here = or_left (is_attribute_named name m) (list_any (is_attribute_named name) ms) none
+  here = (or_parts (is_attribute_named name m) (list_any (is_attribute_named name) ms) none).0
 
   go : ((es : List Entry) → AllZip Says (filter is_attribute_message ms) es → Differs name es) → (b : Bool) → is_attribute_message m ≡ b → (es : List Entry)
       → AllZip Says (cond b (m ∷ filter is_attribute_message ms) (filter is_attribute_message ms)) es → Differs name es
@@ -169,11 +170,11 @@ none_removed name ms none attributes has = subst (HasAttributes ms) (sym same_wi
 -- ---- a message more
 
 -- where no attribute has the name, it is among those of the header afterwards
-adds_attribute : (ms ms' : List Message) (body name : List ℕ) (a : Attribute) → AddsMessage ms ms' 12 body → attribute_of body ≡ Some (name, a)
+adds_attribute : (ms ms' : List Message) (body name : List ℕ) (a : Attribute) → AddsMessage ms ms' attribute_kind body → attribute_of body ≡ Some (name, a)
     → extent_cells a.sizes ≤ 2 ^ 40 → (attributes : Attributes) → HasAttributes ms attributes → get attributes name ≡ None → HasAttributes ms' (insert attributes name a)
 adds_attribute ms ms' body name a adds says few attributes has none =
-    let among = adds_among (λ k. k == 12) ms ms' 12 body refl refl refl refl adds in
-    let put : Message = record { kind = 12; at = among.at; body = body } in
+    let among = adds_among (λ k. k == attribute_kind) ms ms' attribute_kind body refl refl refl refl adds in
+    let put : Message = record { kind = attribute_kind; at = among.at; body = body } in
     let split = told_split among.front among.back has.listed (subst (λ (these : List Message). AllZip Says these has.listed) among.before has.each) in
     let unnamed : value_at (slice_cmp nat_cmp) name has.listed ≡ None
     = sym (get-from_entries nat_list_cmp_total has.listed name) ∙ ap (λ (m : Attributes). get m name) (sym has.all) ∙ none in
@@ -190,7 +191,7 @@ adds_attribute ms ms' body name a adds says few attributes has none =
     }
 
 -- so it is where the one that had it before is out
-pub set_attribute : (next ms' : List Message) (body name : List ℕ) (a : Attribute) → AddsMessage next ms' 12 body → attribute_of body ≡ Some (name, a)
+pub set_attribute : (next ms' : List Message) (body name : List ℕ) (a : Attribute) → AddsMessage next ms' attribute_kind body → attribute_of body ≡ Some (name, a)
     → extent_cells a.sizes ≤ 2 ^ 40 → (attributes : Attributes) → HasAttributes next (remove attributes name) → HasAttributes ms' (insert attributes name a)
 set_attribute next ms' body name a adds says few attributes has =
     subst (HasAttributes ms') (insert-remove attributes name a)

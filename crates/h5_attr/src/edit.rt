@@ -11,13 +11,13 @@ ghost use Rattle.h5_model.specs.Tree.Places.{extent_cells};
 ghost use Rattle.h5_space.specs.Moves.{Moves, Spends};
 ghost use Rattle.h5_space.specs.Whole.{IsApart};
 ghost use Rattle.h5_header.specs.Added.{HasMovable};
-ghost use Rattle.h5_header.specs.Listed.{messages_in, IsWithin};
+ghost use Rattle.h5_header.specs.Listed.{messages_in};
 ghost use Rattle.h5_header.specs.Standing.{IsStanding, kept_at, none as nothing};
 ghost use Rattle.h5_attr.specs.Attributes.{is_attribute_named};
 ghost use Rattle.h5_attr.specs.Still.{IsSaidStill};
 
 use crate::find::find_named;
-use h5_header::Messages;
+use h5_header::{HeaderRef, Messages};
 use h5_model::message_type::ATTRIBUTE;
 use h5_msg::read_attribute;
 use h5_space::Image;
@@ -115,20 +115,19 @@ fn remove_same(image: &mut Image, messages: &mut Messages, body: &[u8])
     ensures moves { Moves image.old image.new messages.old.blocks messages.new.blocks }
     ensures spends { Spends image.old image.new 0 0 }
 {
-    let Some(k) = find_same(image, messages, body) else {
+    let Some(k) = find_same(&HeaderRef::new(image, messages), body) else {
         return;
     };
     remove_at(image, messages, k);
 }
 
 /// The place of the message whose attribute has the name of the one in this body, or `None` where there is none.
-fn find_same(image: &Image, messages: &Messages, body: &[u8]) -> Option<usize>
-    requires attribute { IsSome (attribute_of body.now) }
-    requires within { IsWithin (length image.now.bytes) messages.now.list }
+fn find_same(header: &HeaderRef<'_>, body: &[u8]) -> Option<usize>
+    requires { IsSome (attribute_of body.now) }
     ensures { (name : List ℕ) → (attribute : Attribute)
         → attribute_of body.now ≡ Some (name, attribute)
-        → result ≡ position (is_attribute_named name) (messages_in image.now.bytes messages.now.list) }
+        → result ≡ position (is_attribute_named name) header.now.messages }
 {
     let attribute = read_attribute(body).ok()?;
-    find_named(image, messages, attribute.name())
+    find_named(header, attribute.name())
 }

@@ -4,27 +4,24 @@ ghost use Rattle.std.specs.Prelude.{◌≡◌, ◌+◌, ◌≤◌, length, optio
 ghost use Rattle.std.specs.FinMap.{get as at_name};
 ghost use Rattle.h5_model.specs.Format.Reads.{HasAttributes};
 ghost use Rattle.h5_model.specs.Tree.Objects.{Attributes};
-ghost use Rattle.h5_header.specs.Listed.{message_in, messages_in, IsWithin};
+ghost use Rattle.h5_header.specs.Listed.{message_in};
 ghost use Rattle.h5_attr.specs.Attributes.{attribute_named, is_attribute_named};
 
 use crate::message::attribute;
-use h5_header::{Message, Messages};
+use h5_header::{HeaderRef, Message};
 use h5_msg::AttributeBody;
-use h5_space::Image;
 
 /// The attribute with this name, or `None` if there is none. Takes no memory.
 ///
-/// Attributes that have another form are passed over. Of two attributes with this name it is the first. That the
-/// bodies lie in the image is the caller's condition.
-pub fn get<'a>(image: &'a Image, messages: &Messages, name: &[u8]) -> Option<AttributeBody<'a>>
-    requires { IsWithin (length image.now.bytes) messages.now.list }
-    ensures first { result ≡ attribute_named name.now (messages_in image.now.bytes messages.now.list) }
+/// Attributes that have another form are passed over. Of two attributes with this name it is the first.
+pub fn get<'a>(header: &HeaderRef<'a>, name: &[u8]) -> Option<AttributeBody<'a>>
+    ensures first { result ≡ attribute_named name.now header.now.messages }
     ensures entry { (attributes : Attributes)
-        → HasAttributes (messages_in image.now.bytes messages.now.list) attributes
+        → HasAttributes header.now.messages attributes
         → result ≡ option_map (λ a. (name.now, a)) (at_name attributes name.now) }
 {
-    let bytes = image.bytes();
-    for message in messages.list() {
+    let bytes = header.bytes();
+    for message in header.list() {
         if let Some(found) = attribute(bytes, *message) {
             if name == found.name() {
                 return Some(found);
@@ -35,16 +32,12 @@ pub fn get<'a>(image: &'a Image, messages: &Messages, name: &[u8]) -> Option<Att
 }
 
 /// The index of the first message with an attribute of this name, or `None` if there is none. Takes no memory.
-///
-/// That the bodies lie in the image is the caller's condition.
-pub fn find_named(image: &Image, messages: &Messages, name: &[u8]) -> Option<usize>
-    requires { IsWithin (length image.now.bytes) messages.now.list }
-    ensures { result ≡ position (is_attribute_named name.now)
-        (messages_in image.now.bytes messages.now.list) }
+pub fn find_named(header: &HeaderRef<'_>, name: &[u8]) -> Option<usize>
+    ensures { result ≡ position (is_attribute_named name.now) header.now.messages }
 {
-    let bytes = image.bytes();
+    let bytes = header.bytes();
     let mut k = 0;
-    for message in messages.list() {
+    for message in header.list() {
         if is_named(bytes, *message, name) {
             return Some(k);
         }

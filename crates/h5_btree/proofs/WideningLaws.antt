@@ -138,7 +138,7 @@ module _ (old now new : List ℕ) (kind : Kind) (low high : List ℕ) where
 -- ---- blocks along a way
 
 -- with more blocks that are used before and after
-moves_wider : (s t : Space) (a b : List Block) → ((p : ℕ) → cover p b ≡ 0 → cover p a ≡ 0) → Moves s t a a → Moves s t b b
+pub moves_wider : (s t : Space) (a b : List Block) → ((p : ℕ) → cover p b ≡ 0 → cover p a ≡ 0) → Moves s t a a → Moves s t b b
 moves_wider s t a b wider m = record {
   grown = m.grown;
   kept = λ p low none free. m.kept p low (wider p none) free;

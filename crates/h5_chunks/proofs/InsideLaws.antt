@@ -1,31 +1,10 @@
--- Whether an index is inside an extent, as a test and as a fact.
-use Rattle.std.proofs.Common.{◌≡◌, ℕ, ◌+◌, ◌<◌, List, [], ◌∷◌, true, false, get_or, length, refl, subst, arith}
-use Rattle.std.proofs.lemmas.Bool.Decides.{nat_tests}
-use Rattle.std.specs.Prelude.{nat_lt}
-use Rattle.std.proofs.lemmas.Bool.{and_parts, false_from_ne_true}
+-- Whether the offsets of a key are inside an extent.
+use Rattle.std.proofs.Common.{◌≡◌, ℕ, ◌+◌, ◌<◌, List, true, false, get_or, length, subst, arith}
+use Rattle.std.proofs.lemmas.Bool.{false_from_ne_true}
 use Rattle.h5_model.specs.Format.Chunks.{offsets_in}
-use Rattle.h5_model.specs.Tree.Places.{IsInside, is_inside}
+use Rattle.h5_model.specs.Tree.Places.{is_inside}
+use Rattle.h5_model.proofs.PlaceLaws.{inside_of, is_inside_from}
 use Rattle.h5_chunks.proofs.OffsetLaws.{offset_at, zip_at, zip_from}
-
-pub is_inside_from : (sizes index : List ℕ) → IsInside sizes index → is_inside sizes index ≡ true
-is_inside_from [] [] h = refl
-is_inside_from [] (i ∷ is) h = absurd h
-is_inside_from (d ∷ ds) [] h = absurd h
-is_inside_from (d ∷ ds) (i ∷ is) h =
-    let low : i < d = h.0 in
-    let own : nat_lt i d ≡ true = grind (arith, nat_tests, low) in
-    rw own (is_inside_from ds is h.1)
-
-pub inside_of : (sizes index : List ℕ) → is_inside sizes index ≡ true → IsInside sizes index
-inside_of [] [] h = tt
-inside_of [] (i ∷ is) h = absurd (cc)
-inside_of (d ∷ ds) [] h = absurd (cc)
-inside_of (d ∷ ds) (i ∷ is) h =
-    let split = and_parts (nat_lt i d) (is_inside ds is) h in
-    let own : nat_lt i d ≡ true = split.0 in
-    (grind (arith, nat_tests), inside_of ds is split.1)
-
--- ---- the offsets of a key
 
 module _ (sizes key : List ℕ) where
   abbrev Below : ℕ → ℕ → Type 0

@@ -1,5 +1,5 @@
 -- The entries of a map of chunks, without one of them.
-use Rattle.std.proofs.Common.{◌≡◌, ℕ, List, [], ◌∷◌, ◌++◌, Bool, true, false, cond, not, ◌&&◌, refl, sym, ap, ◌∙◌, subst}
+use Rattle.std.proofs.Common.{◌≡◌, ℕ, List, [], ◌∷◌, ◌++◌, Bool, true, false, cond, not, refl, sym, ap, ◌∙◌, subst}
 use Rattle.std.specs.Prelude.{T}
 use Rattle.std.specs.Ordering.{eq_by_cmp, is_eq, is_lt, nat_cmp, ordering_reverse}
 use Rattle.std.specs.declared.cmp.Ordering.{Ordering}
@@ -9,6 +9,7 @@ use Rattle.std.specs.FinMap.{from_sorted, is_sorted, remove}
 use Rattle.std.specs.FinMap.Entries.{below_all, is_sorted-where_key, where_key}
 use Rattle.std.proofs.lemmas.Cmp.{tied_itself}
 use Rattle.h5_model.proofs.MapSteps.{remove_by_name}
+use Rattle.h5_model.proofs.ReachLaws.{halves}
 use Rattle.h5_laws.proofs.Ascending.{less_of}
 use Rattle.h5_laws.proofs.Maps.{true_of}
 use Rattle.h5_laws.specs.KeyEdits.{IsTaken}
@@ -20,14 +21,6 @@ by_offsets = slice_cmp nat_cmp
 abbrev is_other : List ℕ → List ℕ → Bool
 is_other offsets of = not (eq_by_cmp by_offsets offsets of)
 
-first : (a b : Bool) → T (a && b) → T a
-first true b both = tt
-first false b both = both
-
-second : (a b : Bool) → T (a && b) → T b
-second true b both = both
-second false b both = absurd both
-
 less : (a b : List ℕ) → T (is_lt (by_offsets a b)) → by_offsets a b ≡ Less
 less a b is = less_of (by_offsets a b) (true_of (is_lt (by_offsets a b)) is)
 
@@ -36,12 +29,12 @@ behind_stay : (offsets : List ℕ) (es : List (List ℕ × ℕ)) → T (below_al
 behind_stay offsets [] below = refl
 behind_stay offsets (e ∷ es) below =
     let rest : List (List ℕ × ℕ) = where_key by_offsets (is_other offsets) es in
-    let is : is_other offsets e.0 ≡ true = ap (λ (r : Ordering). not (is_eq r)) (less offsets e.0 (first _ _ below)) in
-    ap (λ (b : Bool). cond b (e ∷ rest) rest) is ∙ ap (λ (xs : List (List ℕ × ℕ)). e ∷ xs) (behind_stay offsets es (second _ _ below))
+    let is : is_other offsets e.0 ≡ true = ap (λ (r : Ordering). not (is_eq r)) (less offsets e.0 (halves _ _ below).0) in
+    ap (λ (b : Bool). cond b (e ∷ rest) rest) is ∙ ap (λ (xs : List (List ℕ × ℕ)). e ∷ xs) (behind_stay offsets es (halves _ _ below).1)
 
 before_it : (k : List ℕ) (x : List ℕ × ℕ) (front back : List (List ℕ × ℕ)) → T (below_all by_offsets k (front ++ x ∷ back)) → by_offsets k x.0 ≡ Less
-before_it k x [] back below = less k x.0 (first _ _ below)
-before_it k x (e ∷ front) back below = before_it k x front back (second _ _ below)
+before_it k x [] back below = less k x.0 (halves _ _ below).0
+before_it k x (e ∷ front) back below = before_it k x front back (halves _ _ below).1
 
 -- so it alone goes
 alone_goes : (x : List ℕ × ℕ) (front back : List (List ℕ × ℕ)) → T (is_sorted by_offsets (front ++ x ∷ back))
@@ -49,12 +42,12 @@ alone_goes : (x : List ℕ × ℕ) (front back : List (List ℕ × ℕ)) → T (
 alone_goes x [] back sorted =
     let rest : List (List ℕ × ℕ) = where_key by_offsets (is_other x.0) back in
     let is : is_other x.0 x.0 ≡ false = ap (λ (r : Ordering). not (is_eq r)) (tied_itself nat_list_cmp_total x.0) in
-    ap (λ (b : Bool). cond b (x ∷ rest) rest) is ∙ behind_stay x.0 back (first _ _ sorted)
+    ap (λ (b : Bool). cond b (x ∷ rest) rest) is ∙ behind_stay x.0 back (halves _ _ sorted).0
 alone_goes x (e ∷ front) back sorted =
     let rest : List (List ℕ × ℕ) = where_key by_offsets (is_other x.0) (front ++ x ∷ back) in
-    let over : by_offsets x.0 e.0 ≡ Greater = nat_list_cmp_total.antisymm x.0 e.0 ∙ ap ordering_reverse (before_it e.0 x front back (first _ _ sorted)) in
+    let over : by_offsets x.0 e.0 ≡ Greater = nat_list_cmp_total.antisymm x.0 e.0 ∙ ap ordering_reverse (before_it e.0 x front back (halves _ _ sorted).0) in
     let is : is_other x.0 e.0 ≡ true = ap (λ (r : Ordering). not (is_eq r)) over in
-    ap (λ (b : Bool). cond b (e ∷ rest) rest) is ∙ ap (λ (xs : List (List ℕ × ℕ)). e ∷ xs) (alone_goes x front back (second _ _ sorted))
+    ap (λ (b : Bool). cond b (e ∷ rest) rest) is ∙ ap (λ (xs : List (List ℕ × ℕ)). e ∷ xs) (alone_goes x front back (halves _ _ sorted).1)
 
 module _ (x : List ℕ × ℕ) (old new : List (List ℕ × ℕ)) (taken : IsTaken x old new) (sorted : T (is_sorted by_offsets old)) where
   goes : where_key by_offsets (is_other x.0) old ≡ new

@@ -21,6 +21,7 @@ use Rattle.h5_model.specs.Format.Bodies.{padded_body, fill_bytes}
 use Rattle.h5_model.specs.Format.Chunks.{Chunks, HasChunks}
 use Rattle.h5_model.specs.Format.Fixed.{Fixed, IsFixed}
 use Rattle.h5_model.specs.Format.Layout.{Layout, InMessage, InBlock, InChunks}
+use Rattle.h5_model.specs.Format.MessageTypes.{dataspace_kind, data_layout_kind}
 use Rattle.h5_model.specs.Format.Messages.{Message, HasMessages, prefix_at, reference_count, first_size, continuations}
 use Rattle.h5_model.specs.Format.Nodes.{Kind, chunk_kind, node_block, node_length, reading_of, tree_blocks}
 use Rattle.h5_model.specs.Format.Plain.{header_bytes, messages_bytes, message_bytes, cells_bytes}
@@ -90,7 +91,7 @@ few_bytes (m ∷ ms) all =
     omega (arith, own, all.0.low, few_bytes ms all.1, length-append (message_bytes m) (messages_bytes ms))
 
 module _ (d : Dataset) (is : IsPlainArray d 0) (address : Option ℕ) where
-  plain_space : IsPlain (1, space_body (is_chunked d.storage) d.sizes d.maxima)
+  plain_space : IsPlain (dataspace_kind, space_body (is_chunked d.storage) d.sizes d.maxima)
   plain_space =
       let long = space_padded (is_chunked d.storage) d.sizes d.maxima is.ranked (AllZip-long IsBound d.sizes d.maxima is.bounded) in
       record { kind = omega arith; own = refl; padded = long.0; low = long.1 }
@@ -112,7 +113,7 @@ module _ (d : Dataset) (is : IsPlainArray d 0) (address : Option ℕ) where
   short_layout (Contiguous held) e stored = omega arith
   short_layout (Chunked chunk) e stored = let ranked = (is.sound).boxed chunk e in omega (arith, ranked, is.ranked)
 
-  plain_layout : IsPlain (8, padded_body (array_layout d address))
+  plain_layout : IsPlain (data_layout_kind, padded_body (array_layout d address))
   plain_layout =
       let long = length-raised (array_layout d address) in
       let counted : length (cells_bytes d.fixed d.cells) ≡ cells d.sizes * (d.fixed).size = length-cells_bytes d.fixed d.cells ∙ ap (λ n. n * (d.fixed).size) (is.sound).counted in

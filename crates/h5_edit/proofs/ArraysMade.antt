@@ -12,6 +12,7 @@ use Rattle.h5_model.specs.Tree.Objects.{Object, Array}
 use Rattle.h5_model.specs.Tree.Places.{cells}
 use Rattle.h5_model.specs.declared.dataset.Spec.{Spec}
 use Rattle.h5_model.specs.declared.edits.Edit.TheVariants.{CreateDataset}
+use Rattle.h5_model.proofs.EditLaws.{length-are_maxima}
 use Rattle.h5_query.specs.ContentBytesType.TheVariants as bytes
 use Rattle.h5_query.specs.ObjectAdded.{IsToBeMade, object_bytes, place_in, tree_with}
 use Rattle.h5_query.specs.ObjectBytesType.{ObjectBytes}
@@ -32,7 +33,7 @@ use Rattle.h5_edit.specs.Edited.{IsEdited}
 use Rattle.h5_edit.specs.Refusals.Allowed.{IsPlaceAllowed}
 use Rattle.h5_edit.specs.declared.rules.place.NewPlace.{NewPlace}
 use Rattle.h5_edit.proofs.ArrayToMake.{array_to_make}
-use Rattle.h5_edit.proofs.FitLaws.NewArrays.{IsSoundSpec, accepted_spec, maxima_long, plain_new_array}
+use Rattle.h5_edit.proofs.FitLaws.NewArrays.{IsSoundSpec, accepted_spec, plain_new_array}
 use Rattle.h5_edit.proofs.LinkFacts.{array_edit}
 use Rattle.h5_edit.proofs.NewObjects.{filled_data, new_data_length, new_header_length, new_held, new_object_length, new_stored}
 use Rattle.h5_edit.proofs.ObjectsMade.{IsObjectAdded, object_asked, object_made}
@@ -55,7 +56,7 @@ module _ (f : FileState) {path : List ℕ} {spec : Spec} {place : NewPlace} (pla
   -- it can be written
   module _ (array : Described) (new : IsNewArray array Filled (new_dataset spec)) (others : OthersBytes) (none : AreOthers [] others) where
     pub array_same : length array.maxima ≡ length array.sizes
-    array_same = maxima_long array.sizes array.maxima (array_bounded array Filled others (new_stored spec) (new_held spec formed fixed bounds array new others none))
+    array_same = length-are_maxima array.sizes array.maxima (array_bounded array Filled others (new_stored spec) (new_held spec formed fixed bounds array new others none))
 
     pub array_room : FitsLayout (cells array.sizes * (array.fixed).size) array.layout
     array_room = array_fits array Filled others (new_stored spec) (new_held spec formed fixed bounds array new others none)

@@ -1,6 +1,7 @@
 -- Other sizes given in place: what decides whether they are refused, and what they make of an opened image (File Format Specification 3.0,
 -- sections IV.A.1.a and IV.A.2.b).
 use Rattle.std.proofs.Common.{◌≡◌, ℕ, Bool, ◌+◌, ◌*◌, ◌<◌, ◌^◌, ◌&&◌, List, [], ◌∷◌, length, refl, sym, ap, ◌∙◌, subst, true, false, Option, Some, nat_lt, arith}
+use Rattle.std.proofs.Math.Bool.{not-not}
 use Rattle.std.proofs.lemmas.Bool.Decides.{nat_tests}
 use Rattle.std.specs.Option.{option_and_then, option_map, option_map_or}
 use Rattle.std.specs.FinMap.{get}
@@ -27,10 +28,6 @@ use Rattle.h5_edit.specs.Edited.{IsEdited}
 use Rattle.h5_edit.specs.Refusals.Allowed.{IsAt}
 use Rattle.h5_edit.proofs.AttributeFacts.{full_at}
 
-twice_not : (b : Bool) → not (not b) ≡ b
-twice_not true = refl
-twice_not false = refl
-
 module _ (f : FileState) (path dims : List ℕ) (number : ℕ) (at : IsAt f.tree f.next path (Resize path dims) number) (lacks : Bool)
     (told : LacksMaxima f.image (get f.table number) lacks) where
   abbrev edit : Edit
@@ -50,7 +47,7 @@ module _ (f : FileState) (path dims : List ℕ) (number : ℕ) (at : IsAt f.tree
   are_facts = record {
     header = record { long = refl; total = refl; leaf = refl; internal = refl; chunk = refl };
     maxima = subst (λ (found : Option ℕ). LacksMaxima f.image (option_and_then (get f.table) found) (not (not lacks))) (sym at.object)
-        (subst (LacksMaxima f.image (get f.table number)) (sym (twice_not lacks)) told);
+        (subst (LacksMaxima f.image (get f.table number)) (sym (not-not lacks)) told);
   }
 
   -- what they may add
@@ -62,7 +59,7 @@ module _ (f : FileState) (path dims : List ℕ) (number : ℕ) (at : IsAt f.tree
     by_maxima false = refl
 
   header_is : is_header_full facts_of edit ≡ (lacks && has_full_header f number)
-  header_is = λ i. twice_not lacks i && sym (full_at f path number at.object) i
+  header_is = λ i. not-not lacks i && sym (full_at f path number at.object) i
 
   -- ---- what the answer of the call says
 

@@ -6,6 +6,7 @@ use Rattle.std.specs.List.{Contains, list_all, range_with_len}
 use Rattle.std.proofs.lemmas.List.{append-nil}
 use Rattle.std.proofs.lemmas.List.FromFn.{length-range_with_len}
 use Rattle.h5_laws.proofs.Lists.{contains_in, in_range}
+use Rattle.h5_layout.proofs.ChosenPlaces.{place_low}
 use Rattle.h5_model.specs.Edits.Refusal.{first_holding}
 use Rattle.h5_model.specs.Format.Fixed.{Fixed, fits}
 use Rattle.h5_model.specs.Format.Described.{Described}
@@ -22,7 +23,6 @@ use Rattle.h5_shape.specs.declared.runs.CellRun.{CellRun}
 use Rattle.h5_shape.proofs.RunLaws.{places_of_runs, runs-maximal}
 use Rattle.h5_edit.specs.Refusals.Allowed.{AreValuesOfRun}
 use Rattle.h5_edit.specs.Refusals.Rules.{counted_rules, value_rules}
-use Rattle.h5_edit.proofs.SelectedStored.{place_low}
 
 module _ (sizes : List ℕ) (hyper : Hyper) (run : CellRun) (is : IsOneRun sizes hyper run) where
   abbrev slab : Slab

@@ -29,7 +29,7 @@ use Rattle.h5_edit.specs.declared.target.MissingRun.{MissingRun}
 use Rattle.h5_edit.specs.declared.target.TargetCells.TheVariants as target
 use Rattle.h5_edit.proofs.AttributeFacts.{short_image}
 use Rattle.h5_edit.proofs.ArraysThere.{array_there}
-use Rattle.h5_edit.proofs.ChangedTwice.{dataset_changed}
+use Rattle.h5_query.proofs.RunsWritten.{array_changed}
 use Rattle.h5_edit.proofs.FoundStanding.{places_are}
 use Rattle.h5_edit.proofs.WriteSteps.{has_made, selected_ready}
 use Rattle.h5_edit.proofs.WrittenTrees.{told_is}
@@ -72,7 +72,7 @@ module _ {f : FileState} {path : List ℕ} {hyper : Hyper} {values : List ℤ} {
     before = run_has.before
 
     array_now : dataset_of now.tree number ≡ Some (stored_all before)
-    array_now = ap (λ (t : Tree). dataset_of t number) changed.state.0 ∙ dataset_changed f.tree number before run_has.was stored_all
+    array_now = ap (λ (t : Tree). dataset_of t number) changed.state.0 ∙ array_changed f.tree number stored_all before run_has.was
 
     there : (b : Described) × IsArrayThere now number b
     there = array_there now sound_now number (stored_all before) array_now

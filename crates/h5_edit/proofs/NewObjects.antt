@@ -25,6 +25,7 @@ use Rattle.h5_model.specs.declared.dataset.Store.TheVariants as store
 use Rattle.h5_model.specs.declared.edits.Edit.TheVariants.{CreateGroup, CreateDataset}
 use Rattle.h5_model.proofs.MapSteps.{entries-empty}
 use Rattle.h5_model.proofs.RefusalLaws.{has_number}
+use Rattle.h5_model.proofs.SizeLaws.{header_size-new_dataset}
 use Rattle.h5_query.specs.ContentBytesType.{ContentBytes}
 use Rattle.h5_query.specs.ContentBytesType.TheVariants as bytes
 use Rattle.h5_query.specs.ObjectAdded.{stored_content, object_bytes}
@@ -64,15 +65,6 @@ new_data a = by_layout a.layout where
 
 -- ---- how many bytes it has
 
-header_counted : (spec : Spec) → header_size (new_object (Array (new_dataset spec))) ≡ new_header spec
-header_counted spec =
-    let others : len (empty {X = Attribute} {R = slice_cmp nat_cmp}) ≡ 0 = len-empty (slice_cmp nat_cmp) Attribute in
-    let none : entries (empty {X = Attribute} {R = slice_cmp nat_cmp}) ≡ [] = entries-empty {X = Attribute} (slice_cmp nat_cmp) in
-    let counted : header_size (new_object (Array (new_dataset spec))) ≡ 16 + array_messages_size 0 spec.dims spec.maxima (new_storage spec.dims spec.store) (spec.fixed).size + 0 + 0
-    = ap₂ (λ (n : ℕ) (es : List (List ℕ × Attribute)). 16 + array_messages_size (n + 0) spec.dims spec.maxima (new_storage spec.dims spec.store) (spec.fixed).size + sum_by attribute_message_size es + 0)
-    others none in
-    omega (arith, counted)
-
 -- no chunk of it is stored, whatever chunk K is
 data_counted : (k : ℕ) (spec : Spec) → data_bytes k 0 (new_dataset spec) ≡ contiguous_data spec
 data_counted k spec = by_store spec.store where
@@ -107,7 +99,7 @@ module _ (spec : Spec) (is : IsSoundSpec spec) (fixed : IsFixed spec.fixed) (bou
 
   -- its header and its data, wherever they stand
   pub new_header_length : (count : ℕ) (address : Option ℕ) → length (header_written count array Filled others address) ≡ new_header spec
-  new_header_length count address = array_header_size array Filled others (new_stored spec) new_held count address ∙ header_counted spec
+  new_header_length count address = array_header_size array Filled others (new_stored spec) new_held count address ∙ header_size-new_dataset spec
 
   pub new_data_length : length (filled_data array) ≡ contiguous_data spec
   new_data_length = array_bytes array Filled others (new_stored spec) new_held 1 (omega arith) 0 ∙ data_counted 1 spec

@@ -16,8 +16,8 @@ use Rattle.h5_query.specs.Written.{AreRunsStored, IsArrayThere}
 use Rattle.h5_shape.specs.Runs.{AreMaximal, places_in}
 use Rattle.h5_shape.specs.declared.runs.CellRun.{CellRun}
 use Rattle.h5_edit.specs.Stored.{AreSelectedReady, AreSelectedRuns, AreSelectedStored}
-use Rattle.h5_edit.proofs.SelectedStored.{place_low}
 use Rattle.h5_edit.proofs.WrittenTrees.{sizes_are}
+use Rattle.h5_layout.proofs.ChosenPlaces.{place_low}
 
 each_some : (runs : List CellRun) → AreMaximal runs → AllByRecursion (λ (r : CellRun). 0 < r.length) runs
 each_some [] maximal = tt

@@ -7,11 +7,10 @@ use Rattle.std.specs.FinMap.{get}
 use Rattle.std.specs.List.{list_any}
 use Rattle.h5_bytes.specs.declared.Block.{Block}
 use Rattle.h5_header.proofs.FoundLaws.{among_some}
-use Rattle.h5_laws.proofs.Lists as laws
 use Rattle.h5_layout.specs.HeldChunks.{IsChunkMet}
 use Rattle.h5_layout.specs.NewChunks.{AreMissing, ChunkOffsets}
 use Rattle.h5_layout.specs.Standing.{is_stored_in}
-use Rattle.h5_layout.proofs.RisingLaws as layout
+use Rattle.h5_layout.proofs.RisingLaws.{rising_once, rising_rises}
 use Rattle.h5_layout.proofs.RoomLaws.{is_array}
 use Rattle.h5_layout.proofs.StandingLaws.{HasBoxes, boxes_of}
 use Rattle.h5_model.specs.Edits.Bounds.{Room, chunks_bound, new_boxes, write_bound}
@@ -33,16 +32,14 @@ use Rattle.h5_model.specs.declared.edits.Edit.TheVariants.{Write}
 use Rattle.h5_model.specs.declared.hyperslab.Hyper.{Hyper}
 use Rattle.h5_model.proofs.PlaceLaws.{index-place}
 use Rattle.h5_query.specs.Data.{dataset_told, stored_chunks}
-use Rattle.h5_shape.proofs.Members as shape
-use Rattle.h5_shape.proofs.RisingBoxes as boxes
+use Rattle.h5_model.proofs.Members.{contains_in, in_contains}
 use Rattle.h5_layout.specs.Storage.{IsDeepFor, IsDeepIn, IsFullInNewTree, IsFullInTurn, chunks_room_in, storage_bytes}
 use Rattle.h5_layout.specs.Lacking.{IsMissing, IsMissingIn}
 use Rattle.h5_layout.specs.Lacking.{lacks_cells}
 use Rattle.h5_layout.specs.declared.lacking.Missing.{Missing}
 use Rattle.h5_layout.specs.declared.lacking.Missing.TheVariants as missing
-use Rattle.h5_edit.proofs.SelectedStored.{none_passes}
 use Rattle.h5_layout.proofs.ChosenPlaces.{selected_place}
-use Rattle.h5_layout.proofs.LackingLaws.{lacking_some}
+use Rattle.h5_layout.proofs.LackingLaws.{lacking_some, none_passes}
 use Rattle.h5_edit.proofs.WriteBound.{new_counted}
 use Rattle.h5_edit.proofs.WrittenTrees.{some_of, storage_kept}
 
@@ -63,10 +60,6 @@ module _ (ms : List Message) (a : Described) (has : HasArray ms a) (chunk : List
       subst HasBoxes is (boxes_of a.sizes a.fixed.size (found.0).body a.layout found.3)
 
 -- ---- lists and numbers
-
-same_rises : (xs : List (List ℕ)) → layout.Rises xs → boxes.Rises xs
-same_rises [] rise = tt
-same_rises (x ∷ xs) rise = ((λ y at. rise.0 y (laws.in_contains y xs (shape.contains_in y xs at))), same_rises xs rise.1)
 
 none_there : (found : Option ℕ) → is_some found ≡ false → found ≡ None
 none_there None is = refl
@@ -128,9 +121,9 @@ module _ (image : List ℕ) (ms : List Message) (a : Described) (has : HasArray 
     missing_counted : (new : ChunkOffsets) → AreMissing image a chunk slab new → new_there ≡ length new.offsets
     missing_counted new are =
         new_counted room path hyper values a.sizes chunk (ranked ms a has chunk root is) (some_cells ms a has chunk root is) within new.offsets
-        (same_rises new.offsets (layout.rising_rises new.offsets are.rising))
-        (λ first at. let of = (are.each first).0 (shape.contains_in first new.offsets at) in (of.0, ap (λ (found : Option ℕ). is_some found) of.1))
-        (λ first met unstored. shape.in_contains first new.offsets ((are.each first).1 (met, none_there _ unstored)))
+        (rising_rises new.offsets are.rising)
+        (λ first at. let of = (are.each first).0 (contains_in first new.offsets at) in (of.0, ap (λ (found : Option ℕ). is_some found) of.1))
+        (λ first met unstored. in_contains first new.offsets ((are.each first).1 (met, none_there _ unstored)))
 
     none_counted : lacks_cells image a slab ≡ false → new_there ≡ 0
     none_counted none =
@@ -228,7 +221,7 @@ alike_in image a chosen (missing.Chunks own_array own) (missing.Chunks array new
 alike_in image a chosen (missing.Chunks own_array own) (missing.Chunks array new) n (InBlock b) missed others deep = absurd others
 alike_in image a chosen (missing.Chunks own_array own) (missing.Chunks array new) n (InChunks chunk root) missed others deep =
     subst (λ (all : List (List ℕ)). IsDeepIn image a all n a.layout)
-    (layout.rising_once new.offsets own.offsets (others.0).rising (missed.0).rising (λ x. (
+    (rising_once new.offsets own.offsets (others.0).rising (missed.0).rising (λ x. (
       (λ there. ((missed.0).each x).1 (((others.0).each x).0 there)),
       (λ there. ((others.0).each x).1 (((missed.0).each x).0 there)),
     ))) deep

@@ -4,7 +4,6 @@ use Rattle.std.proofs.Common.{◌≡◌, ℕ, ◌<◌, ◌&&◌, List, [], ◌�
 use Rattle.std.proofs.lemmas.List.{length-map}
 use Rattle.std.specs.Prelude.{ℤ}
 use Rattle.std.proofs.lemmas.Bool.{not-true, and_parts}
-use Rattle.h5_layout.proofs.InsideLaws.{is_inside_from}
 use Rattle.h5_repack.proofs.ChunkLaws.ChunkCells.{long_index}
 use Rattle.h5_model.specs.Edits.Bounds.{Room, new_boxes}
 use Rattle.h5_model.specs.Tree.Grid.{boxes_of, corner_of, in_box, some_in_box}
@@ -15,10 +14,11 @@ use Rattle.h5_model.specs.declared.edits.Edit.{Edit}
 use Rattle.h5_model.specs.declared.edits.Edit.TheVariants.{Write}
 use Rattle.h5_model.specs.declared.hyperslab.Hyper.{Hyper}
 use Rattle.h5_model.proofs.SelectionLaws.{from_is_selected, to_is_selected}
+use Rattle.h5_model.proofs.PlaceLaws.{is_inside_from}
+use Rattle.h5_model.proofs.Members.{In, filter_in, from_map, in_filter, in_map}
 use Rattle.h5_shape.specs.MetFirsts.{first_of_box}
 use Rattle.h5_shape.proofs.GridBoxes.{box_among, box_long, boxes_rise, held_some, some_held}
-use Rattle.h5_shape.proofs.Members.{In, from_map, in_map}
-use Rattle.h5_shape.proofs.RisingBoxes.{Rises, filter_in, in_filter, same_members}
+use Rattle.h5_shape.proofs.RisingBoxes.{Rises, same_members}
 
 -- the index of a box at which it begins
 begins_at : (box at : List ℕ) → length at ≡ length box → in_box at box (map (λ n. 0) box) ≡ first_of_box box at

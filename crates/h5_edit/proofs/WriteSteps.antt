@@ -27,7 +27,7 @@ use Rattle.h5_edit.specs.Edited.{IsGrowth}
 use Rattle.h5_edit.specs.Refusals.Allowed.{IsWriteAt}
 use Rattle.h5_edit.specs.Stored.{AreSelectedReady, AreSelectedWritten, HasStorage, IsStoring, IsWriteMade}
 use Rattle.h5_layout.specs.declared.lacking.Missing.{Missing}
-use Rattle.h5_edit.proofs.ChangedTwice.{dataset_changed}
+use Rattle.h5_query.proofs.RunsWritten.{array_changed}
 use Rattle.h5_edit.proofs.SelectedStored.{none_lacking}
 use Rattle.h5_edit.proofs.RuleLaws.Writes.{path_allowed, slab_refused, write_left}
 use Rattle.h5_edit.proofs.StorageGiven.{nothing_accepted, nothing_grows, written_array}
@@ -98,7 +98,7 @@ module _ {f : FileState} {path : List ℕ} {hyper : Hyper} {values : List ℤ} {
         let d = (accepted is.write).0 in
         let array = written_array is.write in
         let tree = changed.state.0 in
-        let there : dataset_of now.tree number ≡ Some (stored_all d) = ap (λ (t : Tree). dataset_of t number) tree ∙ dataset_changed f.tree number d array stored_all in
+        let there : dataset_of now.tree number ≡ Some (stored_all d) = ap (λ (t : Tree). dataset_of t number) tree ∙ array_changed f.tree number stored_all d array in
         record {
           accepted = allowed;
           bytes = storage_bytes f.image is.write.array m;

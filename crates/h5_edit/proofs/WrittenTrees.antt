@@ -1,5 +1,6 @@
 -- The tree that a write gives: with the values in the selected cells, and with storage for them; and the image that it leaves.
 use Rattle.std.proofs.Common.{◌≡◌, ℕ, zero, suc, ◌+◌, ◌≤◌, ◌&&◌, ◌||◌, Bool, List, [], ◌∷◌, length, refl, sym, ap, ◌∙◌, subst, not, Option, Some, true, false, nat_lt, arith}
+use Rattle.std.proofs.Math.Bool.{or-false}
 use Rattle.std.proofs.lemmas.Bool.Decides.{nat_tests}
 use Rattle.std.proofs.lemmas.Option.{same_Some}
 use Rattle.std.specs.Prelude.{ℤ, filter, is_some}
@@ -36,9 +37,8 @@ use Rattle.h5_edit.specs.Refusals.Allowed.{IsAt}
 use Rattle.h5_edit.specs.Stored.{AreValuesWritten, HasStorage}
 use Rattle.h5_layout.specs.declared.lacking.Missing.{Missing}
 use Rattle.h5_layout.specs.declared.lacking.Missing.TheVariants as missing
-use Rattle.h5_edit.proofs.ChangedTwice.{changed_alike, changed_twice}
+use Rattle.h5_edit.proofs.ChangedTwice.{changed_alike, dataset_changed_twice}
 use Rattle.h5_query.proofs.ChangedThen.{changed_then}
-use Rattle.h5_edit.proofs.RuleLaws.TableLaws.{or_false}
 
 -- ---- lists
 
@@ -85,7 +85,7 @@ module _ (sizes : List ℕ) (slab : Slab) where
   storage_kept (InChunks chunk root) chunks none = refl
   storage_kept (InBlock b) chunks none = by_places places refl where
     by_places : (ps : List ℕ) → places ≡ ps → Contiguous ((is_some b && nat_lt 0 (cells sizes)) || nat_lt 0 (length places)) ≡ Contiguous (is_some b && nat_lt 0 (cells sizes))
-    by_places [] is = ap Contiguous (ap (λ (ps : List ℕ). (is_some b && nat_lt 0 (cells sizes)) || nat_lt 0 (length ps)) is ∙ or_false (is_some b && nat_lt 0 (cells sizes)))
+    by_places [] is = ap Contiguous (ap (λ (ps : List ℕ). (is_some b && nat_lt 0 (cells sizes)) || nat_lt 0 (length ps)) is ∙ or-false (is_some b && nat_lt 0 (cells sizes)))
     by_places (p ∷ ps) is =
         let first = or_parts (not (is_some b)) (list_any (λ place. not (is_some b)) ps) (sym (ap (list_any (λ place. not (is_some b))) is) ∙ none) in
         let block : is_some b ≡ true = not-false (is_some b) first.0 in
@@ -157,7 +157,7 @@ module _ (f : FileState) (path : List ℕ) (hyper : Hyper) (values : List ℤ) (
       -- the cells of the tree with the storage that was missing
       pub tree_made : with_object (with_object f.tree number (with_dataset stored_all)) number (with_dataset (with_places chosen values)) ≡ tree_after f edit
       tree_made =
-          changed_twice f.tree number stored_all (with_places chosen values)
+          dataset_changed_twice f.tree number stored_all (with_places chosen values)
           ∙ changed_alike f.tree number d array (λ e. with_places chosen values (stored_all e)) (with_selection slab values) written_is
           ∙ sym write_gives
 

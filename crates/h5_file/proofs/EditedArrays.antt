@@ -1,5 +1,5 @@
 -- What an accepted edit makes of an array: a write or a resize of it changes it, and every other edit leaves it.
-use Rattle.std.proofs.Common.{◌≡◌, ℕ, ◌<◌, ◌⊎◌, inl, inr, Bool, true, false, cond, ◌==◌, ◌&&◌, not, List, [], ◌∷◌, ℤ, map, get_or, set, refl, sym, ap, ◌∙◌, subst, Option, Some, None, arith, ◌≢◌, nat_lt}
+use Rattle.std.proofs.Common.{◌≡◌, ℕ, ◌<◌, ◌⊎◌, inl, inr, Bool, true, false, cond, ◌==◌, ◌&&◌, not, List, [], ◌∷◌, ℤ, map, get_or, set, refl, sym, ap, ◌∙◌, subst, Option, Some, None, arith, ◌≢◌}
 use Rattle.std.proofs.lemmas.Bool.Decides.{nat_tests}
 use Rattle.std.proofs.lemmas.List.{get_or-set_other}
 use Rattle.std.proofs.lemmas.List.FromFn.{get_or-map-range_with_len}
@@ -9,17 +9,16 @@ use Rattle.std.specs.FinMap.{get, insert, remove, empty, get-insert, get-retain_
 use Rattle.std.specs.declared.cmp.Ordering.TheVariants.{Equal}
 use Rattle.std.specs.List.{AllByRecursion, filter, range_with_len}
 use Rattle.std.specs.Option.{option_and_then, option_map, option_map_or}
-use Rattle.std.proofs.lemmas.Bool.{and_parts}
 use Rattle.h5_model.specs.Edits.Applied.{State, state_after, with_edit, with_link_at, without_link_at, with_hard_link, with_links, with_dataset, with_attributes, new_object, attribute_from, new_dataset, with_cells, with_selection, with_sizes, cell_or_fill}
 use Rattle.h5_model.specs.Tree.Objects.{Tree, Link, ToObject, Soft, Links, Object, Content, Group, Array, Dataset, dataset_in, dataset_of, with_object, only_reached, is_reached}
 use Rattle.h5_model.specs.Tree.Paths.{parent_at, object_at}
-use Rattle.h5_model.specs.Tree.Places.{IsInside, cells, index_of, is_inside, place_of}
+use Rattle.h5_model.specs.Tree.Places.{cells, index_of, is_inside, place_of}
 use Rattle.h5_model.specs.Views.Selection.{Slab, axes_of, is_selected, selection_of}
 use Rattle.h5_model.specs.Views.Shown.{is_touched}
 use Rattle.h5_model.specs.declared.edits.Edit.{Edit}
 use Rattle.h5_model.specs.declared.edits.Edit.TheVariants.{CreateGroup, CreateDataset, HardLink, SoftLink, Unlink, SetAttr, RemoveAttr, Write, Resize}
 use Rattle.h5_model.proofs.StateLaws.{same_number}
-use Rattle.h5_model.proofs.PlaceLaws.{index-place, place_below}
+use Rattle.h5_model.proofs.PlaceLaws.{index-place, place_below, inside_of}
 use Rattle.h5_edit.proofs.ChangedLaws.NumberedLaws.{at_place, get-with_object}
 
 -- the number of the array that a write or a resize changes
@@ -198,12 +197,6 @@ selected_all : (sizes : List ℕ) (slab : Slab) → AllByRecursion (λ place. is
 unfolding selection_of
 selected_all sizes slab = passes_all (λ place. is_selected slab (index_of sizes place)) (range_with_len 0 (cells sizes))
 
-pub is_inside_sound : (sizes index : List ℕ) → is_inside sizes index ≡ true → IsInside sizes index
-is_inside_sound [] [] is = tt
-is_inside_sound [] (i ∷ is) wrong = absurd (let none : false ≡ true = wrong in cc)
-is_inside_sound (d ∷ ds) [] wrong = absurd (let none : false ≡ true = wrong in cc)
-is_inside_sound (d ∷ ds) (i ∷ is) all = let parts = and_parts (nat_lt i d) (is_inside ds is) all in let low : i < d = grind (arith, nat_tests) in (low, is_inside_sound ds is parts.1)
-
 -- what a write does not select stays
 written_cell : (slab : Slab) (values : List ℤ) (d : Dataset) (index : List ℕ) → (is_inside d.sizes index && is_selected slab index) ≡ false
     → cell_or_fill (with_selection slab values d) index ≡ cell_or_fill d index
@@ -212,7 +205,7 @@ written_cell slab values d index other = by_test (is_inside d.sizes index) refl 
       → cond b (get_or (with_cells d.cells (selection_of d.sizes slab) values) (place_of d.sizes index) d.fill) d.fill ≡ cond b (get_or d.cells (place_of d.sizes index) d.fill) d.fill
   by_test false is = refl
   by_test true is =
-      let back : index_of d.sizes (place_of d.sizes index) ≡ index = index-place d.sizes index (is_inside_sound d.sizes index is) in
+      let back : index_of d.sizes (place_of d.sizes index) ≡ index = index-place d.sizes index (inside_of d.sizes index is) in
       let unselected : is_selected slab index ≡ false = sym (ap (λ b. b && is_selected slab index) is) ∙ other in
       cells_else (λ place. is_selected slab (index_of d.sizes place)) d.cells (selection_of d.sizes slab) values (place_of d.sizes index) d.fill (ap (is_selected slab) back ∙ unselected)
       (selected_all d.sizes slab)
@@ -223,7 +216,7 @@ resized_cell sizes d index other = by_test (is_inside sizes index) refl where
   by_test : (b : Bool) → is_inside sizes index ≡ b
       → cond b (get_or (map (λ place. cell_or_fill d (index_of sizes place)) (range_with_len 0 (cells sizes))) (place_of sizes index) d.fill) d.fill ≡ cell_or_fill d index
   by_test true is =
-      let inside = is_inside_sound sizes index is in
+      let inside = inside_of sizes index is in
       get_or-map-range_with_len (λ n. cell_or_fill d (index_of sizes n)) 0 (cells sizes) (place_of sizes index) (place_of sizes index) d.fill (place_below sizes index inside) (omega arith)
       ∙ ap (cell_or_fill d) (index-place sizes index inside)
   by_test false is =

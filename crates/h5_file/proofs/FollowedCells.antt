@@ -16,10 +16,10 @@ use Rattle.h5_model.specs.Tree.Grid.{corner_of}
 use Rattle.h5_model.specs.declared.hyperslab.Hyper.{Hyper}
 use Rattle.h5_model.specs.declared.edits.Edit.{Edit}
 use Rattle.h5_model.specs.declared.edits.Edit.TheVariants.{CreateGroup, CreateDataset, HardLink, SoftLink, Unlink, SetAttr, RemoveAttr, Write, Resize}
-use Rattle.h5_model.proofs.PlaceLaws.{place_below}
+use Rattle.h5_model.proofs.PlaceLaws.{place_below, inside_of}
+use Rattle.h5_model.proofs.Members.{In, in_contains}
 use Rattle.h5_shape.specs.MetFirsts.{first_of_box, met_firsts}
 use Rattle.h5_shape.specs.PartCells.{selected_index}
-use Rattle.h5_shape.proofs.Members.{In, in_contains}
 use Rattle.h5_shape.proofs.MetLaws.{none_met}
 use Rattle.h5_file.specs.OpenViews.{IsKeptAfter, IsKeptOf, IsMetPatched, patches_in}
 use Rattle.h5_file.specs.Patched.{AreKeptCells, ArePatched, KeptState, kept_cell}
@@ -27,7 +27,7 @@ use Rattle.h5_file.specs.Touched.{HasBoxes, IsTouching, IsTouchOf, met_with, siz
 use Rattle.h5_file.specs.declared.touched.Touched.{Touched}
 use Rattle.h5_file.specs.declared.touched.Touched.TheVariants.{Written, Lost}
 use Rattle.h5_file.proofs.AcceptedEdits.{resize_chunked, resize_rank, write_allowed}
-use Rattle.h5_file.proofs.EditedArrays.{change_of, changed_array, is_inside_sound, untouched_cell}
+use Rattle.h5_file.proofs.EditedArrays.{change_of, changed_array, untouched_cell}
 use Rattle.h5_file.proofs.FollowLaws.{length-box}
 use Rattle.h5_file.proofs.Refreshed.{kept_refreshed, touched_inside}
 
@@ -188,7 +188,7 @@ module _ (edit : Edit) (old new : Dataset) (touched : Touched) (is : IsChange ed
         by_test : (b : Bool) → is_touched edit old.sizes index ≡ b → b ≡ false
         by_test false differs = refl
         by_test true holds =
-            let below = place_below old.sizes index (is_inside_sound old.sizes index (touched_inside edit old.sizes index holds)) in absurd (omega (arith, below, empty))
+            let below = place_below old.sizes index (inside_of old.sizes index (touched_inside edit old.sizes index holds)) in absurd (omega (arith, below, empty))
 
   pub kept_followed : (k : ℕ) (before after : Option KeptState) → IsKeptOf old slab before → IsKeptAfter new touched slab before k after → IsKeptOf new slab after
   kept_followed k None None kept then = is.stays slab kept

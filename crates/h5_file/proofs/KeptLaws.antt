@@ -1,5 +1,5 @@
 -- Kept cells, each at its position, are the selected cells in row-major order where all of them are inside.
-use Rattle.std.proofs.Common.{◌≡◌, ℕ, zero, suc, ◌+◌, ◌*◌, ◌<◌, ℤ, List, [], ◌∷◌, ◌++◌, true, false, cond, length, take, drop, get_or, refl, sym, ap, ◌∙◌, subst, arith}
+use Rattle.std.proofs.Common.{◌≡◌, ℕ, zero, suc, ◌+◌, ◌*◌, ◌<◌, ℤ, List, [], ◌∷◌, ◌++◌, true, false, cond, length, take, drop, get_or, sym, ap, ◌∙◌, subst, arith}
 use Rattle.std.proofs.lemmas.List.{length-map, length-take, length-drop, take-append-drop, nil_from_length, get_or-map}
 use Rattle.std.specs.List.{list_any}
 use Rattle.h5_bytes.specs.Bytes.{part}
@@ -12,14 +12,13 @@ use Rattle.h5_model.specs.Tree.Places.{IsInside, cells, index_of, is_inside, pla
 use Rattle.h5_model.specs.Views.Selection.{Slab, Selected, Within, overlaps, selected_cells, selection_of, selects_none}
 use Rattle.h5_model.specs.Views.Shown.{selected_values}
 use Rattle.h5_model.proofs.FixedLaws.{length-bytes_of}
-use Rattle.h5_model.proofs.PlaceLaws.{inside-index, place-index, place_below}
+use Rattle.h5_model.proofs.PlaceLaws.{inside-index, place-index, place_below, is_inside_from}
 use Rattle.h5_model.proofs.PlainValues.{length-cells_bytes}
 use Rattle.h5_model.proofs.WithinLaws.{no_cell}
 use Rattle.h5_shape.specs.PartCells.{selection_shape, selected_index}
 use Rattle.h5_shape.proofs.InBoxLaws.{shape_cells}
 use Rattle.h5_shape.proofs.PositionLaws.{position-selected, selection-position}
 use Rattle.h5_file.specs.Patched.{AreKeptCells}
-use Rattle.std.proofs.lemmas.Bool.Decides.{nat_tests}
 
 -- ---- the cells of a list, one by one
 
@@ -52,12 +51,6 @@ module _ (t : Fixed) where
 
 -- ---- the selected cells
 
-inside_is : (sizes index : List ℕ) → IsInside sizes index → is_inside sizes index ≡ true
-inside_is [] [] inside = refl
-inside_is [] (i ∷ is) inside = absurd inside
-inside_is (d ∷ ds) [] inside = absurd inside
-inside_is (d ∷ ds) (i ∷ is) inside = let rest = inside_is ds is inside.1 in grind (arith, nat_tests)
-
 module _ (d : Dataset) (slab : Slab) (rank : length slab ≡ length d.sizes) (within : Within d.sizes slab) (apart : list_any overlaps slab ≡ false)
     (counted : length (selection_of d.sizes slab) ≡ selected_cells slab) where
   many : length (selected_values d slab) ≡ cells (selection_shape slab)
@@ -68,7 +61,7 @@ module _ (d : Dataset) (slab : Slab) (rank : length slab ≡ length d.sizes) (wi
       let selected : Selected slab (selected_index slab at) = position-selected slab at inside in
       let some : selects_none slab ≡ false = no_cell slab (selected_index slab at) selected in
       let below : place_of (selection_shape slab) at < length (selection_of d.sizes slab) = omega (arith, place_below (selection_shape slab) at inside, counted, shape_cells slab) in
-      let there : is_inside d.sizes (selected_index slab at) ≡ true = inside_is d.sizes (selected_index slab at) (within (selected_index slab at) selected) in
+      let there : is_inside d.sizes (selected_index slab at) ≡ true = is_inside_from d.sizes (selected_index slab at) (within (selected_index slab at) selected) in
       get_or-map (λ place. get_or d.cells place d.fill) (selection_of d.sizes slab) (place_of (selection_shape slab) at) 0 d.fill below
       ∙ ap (λ place. get_or d.cells place d.fill) (selection-position d.sizes slab at (sym rank) within some apart inside)
       ∙ sym (ap (λ b. cond b (get_or d.cells (place_of d.sizes (selected_index slab at)) d.fill) d.fill) there)

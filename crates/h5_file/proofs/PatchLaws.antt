@@ -5,6 +5,7 @@ use Rattle.std.proofs.Math.Nat.{mul-le-mul_right}
 use Rattle.std.specs.List.{AllByRecursion, flat_map, range_with_len}
 use Rattle.h5_bytes.specs.Bytes.{part, with_part}
 use Rattle.h5_bytes.proofs.PartLaws.{length-with_part}
+use Rattle.h5_bytes.proofs.BlockLaws.{all_append}
 use Rattle.h5_model.specs.Edits.Applied.{cell_or_fill}
 use Rattle.h5_model.specs.Format.Fixed.{Fixed, bytes_of}
 use Rattle.h5_model.specs.Tree.Objects.{Dataset}
@@ -21,10 +22,6 @@ use Rattle.h5_file.proofs.PartWritten.{part_else, part_here}
 use Rattle.h5_file.proofs.Writes.{with_writes-append}
 
 -- ---- lists of writes
-
-all_append : {X : Type 0} (P : X → Type 0) (xs ys : List X) → AllByRecursion P xs → AllByRecursion P ys → AllByRecursion P (xs ++ ys)
-all_append P [] ys front back = back
-all_append P (x ∷ xs) ys front back = (front.0, all_append P xs ys front.1 back)
 
 all_flat : {X : Type 0} (P : X → Type 0) (g : ℕ → List X) (from n : ℕ) → ((u : ℕ) → from ≤ u → u < from + n → AllByRecursion P (g u)) → AllByRecursion P (flat_map g (range_with_len from n))
 all_flat P g from zero each = tt

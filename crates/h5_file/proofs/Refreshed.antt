@@ -1,6 +1,6 @@
 -- Kept cells of which all boxes are patched that an edit and the selection both meet are the array's again.
-use Rattle.std.proofs.Common.{◌≡◌, ◌≢◌, ◌⊎◌, ℕ, suc, ◌+◌, ◌-◌, ◌*◌, ◌/◌, ◌<◌, ◌≤◌, ◌&&◌, inl, inr, Bool, true, false, cond, List, [], ◌∷◌, ◌++◌, length, refl, sym, ap, ◌∙◌, subst, arith}
-use Rattle.std.proofs.lemmas.Bool.{cases_order, and_parts}
+use Rattle.std.proofs.Common.{◌≡◌, ℕ, suc, ◌+◌, ◌-◌, ◌*◌, ◌/◌, ◌<◌, ◌≤◌, ◌&&◌, inl, inr, Bool, true, false, cond, List, [], ◌∷◌, ◌++◌, length, refl, sym, ap, ◌∙◌, subst, arith}
+use Rattle.std.proofs.lemmas.Bool.{and_parts}
 use Rattle.std.proofs.Math.Nat.{mul-le-mul_left, mul-le-mul_right}
 use Rattle.std.proofs.lemmas.List.FromFn.{length-map-range_with_len}
 use Rattle.std.proofs.lemmas.Nat.{div-mul-add, div_below}
@@ -19,50 +19,13 @@ use Rattle.h5_shape.specs.InBox.{IsCorner}
 use Rattle.h5_shape.specs.MetFirsts.{met_firsts}
 use Rattle.h5_shape.specs.PartCells.{selection_shape, selected_index}
 use Rattle.h5_shape.proofs.GridBoxes.{factors}
-use Rattle.h5_shape.proofs.Members.{In, all_in, contains_in, in_contains}
 use Rattle.h5_shape.proofs.MetLaws.{held_met, met_held}
 use Rattle.h5_shape.proofs.PositionLaws.{position-selected}
 use Rattle.h5_file.specs.Patched.{AreCorners, AreKeptCells, ArePatched, IsPatched, kept_cell}
 use Rattle.h5_file.proofs.EditedArrays.{change_of, untouched_cell}
-
--- ---- members
-
-pub same_or_not : (xs ys : List ℕ) → (xs ≡ ys) ⊎ (xs ≢ ys)
-same_or_not [] [] = inl refl
-same_or_not [] (y ∷ ys) = inr (λ e. let wrong : [] ≡ y ∷ ys = e in cc)
-same_or_not (x ∷ xs) [] = inr (λ e. let wrong : x ∷ xs ≡ [] = e in cc)
-same_or_not (x ∷ xs) (y ∷ ys) = elim (cases_order x y) [
-  | inl equal ↦ elim (same_or_not xs ys) [
-    | inl rest ↦ inl (λ i. equal i ∷ rest i)
-    | inr other ↦ inr (λ e. other (let tails : xs ≡ ys = let whole : x ∷ xs ≡ y ∷ ys = e in cc in tails))
-  ]
-  | inr other ↦ inr (λ e. let heads : x ≡ y = let whole : x ∷ xs ≡ y ∷ ys = e in cc in elim other [ inl less ↦ omega (arith, heads, less) | inr more ↦ omega (arith, heads, more) ])
-]
-
-pub in_or_not : (x : List ℕ) (xs : List (List ℕ)) → In x xs ⊎ (In x xs → ⊥)
-in_or_not x [] = inr (λ at. at)
-in_or_not x (y ∷ ys) = elim (same_or_not y x) [
-  | inl equal ↦ inl (inl equal)
-  | inr other ↦ elim (in_or_not x ys) [
-    | inl there ↦ inl (inr there)
-    | inr none ↦ inr (λ at. elim at [ inl equal ↦ other equal | inr there ↦ none there ])
-  ]
-]
-
-in_more : (x c : List ℕ) (done : List (List ℕ)) → In x (done ++ c ∷ []) → In x done ⊎ (c ≡ x)
-in_more x c [] (inl equal) = inr equal
-in_more x c [] (inr none) = absurd none
-in_more x c (d ∷ done) (inl equal) = inl (inl equal)
-in_more x c (d ∷ done) (inr there) = elim (in_more x c done there) [ inl before ↦ inl (inr before) | inr last ↦ inr last ]
-
-in_front : (x c : List ℕ) (done : List (List ℕ)) → In x done → In x (done ++ c ∷ [])
-in_front x c [] at = absurd at
-in_front x c (d ∷ done) (inl equal) = inl equal
-in_front x c (d ∷ done) (inr there) = inr (in_front x c done there)
-
-in_last : (c : List ℕ) (done : List (List ℕ)) → In c (done ++ c ∷ [])
-in_last c [] = inl refl
-in_last c (d ∷ done) = inr (in_last c done)
+use Rattle.h5_laws.proofs.Lists.{In, all_in, contains_in, in_contains, in_either, in_left, in_right}
+use Rattle.h5_laws.proofs.SoundLaws.Inserted.{same_name_or_other}
+use Rattle.h5_laws.proofs.SoundLaws.Lost.{in_or_out}
 
 -- ---- one box more
 
@@ -79,15 +42,18 @@ module _ (d : Dataset) (slab : Slab) (box : List ℕ) where
     long = step.long ∙ before.long;
     inside = λ at inside there.
         let c = corner_of box (selected_index slab at) in
-        elim (same_or_not c corner) [
+        elim (same_name_or_other c corner) [
           | inl equal ↦ step.inside at inside equal
           | inr other ↦ step.outside at inside other ∙ before.inside at inside (contains_in c done
-              (elim (in_more c corner done (in_contains c (done ++ corner ∷ []) there)) [ inl first ↦ first | inr last ↦ absurd (other (sym last)) ]))
+              (elim (in_either c done (corner ∷ []) (in_contains c (done ++ corner ∷ []) there)) [
+                | inl first ↦ first
+                | inr last ↦ absurd (elim last [ inl same ↦ other (sym same) | inr never ↦ never ])
+              ]))
         ];
     outside = λ at inside none.
         let c = corner_of box (selected_index slab at) in
-        step.outside at inside (λ equal. none (subst (λ x. Contains (done ++ corner ∷ []) x) (sym equal) (contains_in corner (done ++ corner ∷ []) (in_last corner done))))
-        ∙ before.outside at inside (λ there. none (contains_in c (done ++ corner ∷ []) (in_front c corner done (in_contains c done there))));
+        step.outside at inside (λ equal. none (subst (λ x. Contains (done ++ corner ∷ []) x) (sym equal) (contains_in corner (done ++ corner ∷ []) (in_right corner done (corner ∷ []) (inl refl)))))
+        ∙ before.outside at inside (λ there. none (contains_in c (done ++ corner ∷ []) (in_left c done (corner ∷ []) (in_contains c done there))));
   }
 
 -- ---- an edit
@@ -135,7 +101,7 @@ module _ (edit : Edit) (old new : Dataset) (slab : Slab) (box before after : Lis
         ∙ (λ i. bytes_of (sym type_is i) (same i))
 
     value_after : kept_cell slab new.fixed.size after at ≡ bytes_of new.fixed (cell_or_fill new index)
-    value_after = elim (in_or_not (corner_of box index) firsts) [
+    value_after = elim (in_or_out same_name_or_other (corner_of box index) firsts) [
       | inl there ↦ patched.inside at inside (contains_in (corner_of box index) firsts there)
       | inr none ↦ by_test (is_touched edit old.sizes index) refl none
     ] where

@@ -80,92 +80,64 @@ some_cells (a ∷ rest) (s ∷ ss) are =
     let all : 1 * cells (selection_shape rest) ≤ a.count * a.block * cells (selection_shape rest) = mul-le-mul_right (cells (selection_shape rest)) one in
     omega (arith, more, all)
 
-module _ (axes : Slab) (spans : List Span) (a : Axis) (s : Span) (there : 1 ≤ length axes) (have : 1 ≤ length spans) (are : AreSpans axes spans) where
-  pub first_span : IsSpan (get_or axes 0 a) (get_or spans 0 s)
-  first_span = first axes spans there have are where
-    first : (axes : Slab) (spans : List Span) → 1 ≤ length axes → 1 ≤ length spans → AreSpans axes spans → IsSpan (get_or axes 0 a) (get_or spans 0 s)
-    first [] spans there have are = absurd (omega (arith, there))
-    first (x ∷ xs) [] there have are = absurd are
-    first (x ∷ xs) (y ∷ ys) there have are = are.0
-
-  pub rest_spans : AreSpans (drop 1 axes) (drop 1 spans)
-  rest_spans = rest axes spans there have are where
-    rest : (axes : Slab) (spans : List Span) → 1 ≤ length axes → 1 ≤ length spans → AreSpans axes spans → AreSpans (drop 1 axes) (drop 1 spans)
-    rest [] spans there have are = absurd (omega (arith, there))
-    rest (x ∷ xs) [] there have are = absurd are
-    rest (x ∷ xs) (y ∷ ys) there have are = are.1
-
-  abbrev width : ℕ
-  width = (get_or axes 0 a).count * (get_or axes 0 a).block
-
-  cells_are : cells (selection_shape axes) ≡ width * cells (selection_shape (drop 1 axes))
-  cells_are = all axes there where
-    all : (axes : Slab) → 1 ≤ length axes → cells (selection_shape axes) ≡ (get_or axes 0 a).count * (get_or axes 0 a).block * cells (selection_shape (drop 1 axes))
-    all [] there = absurd (omega (arith, there))
-    all (x ∷ xs) there = refl
-
-  pub width_low : width < 2 ^ 64
-  width_low =
-      let is = first_span in
-      let some : 0 < (get_or axes 0 a).count = counted (get_or axes 0 a).count (get_or axes 0 a).block (omega (arith, is.some, is.inside)) in
-      few_cells (get_or axes 0 a) is.apart is.top some where
-        counted : (n m : ℕ) → 0 < n * m → 0 < n
-        counted zero m some = absurd (omega (arith, some))
-        counted (suc n) m some = omega arith
-
-  module _ (place t size room : ℕ) (inside : t < width) (fits : (place + 1) * cells (selection_shape axes) * size ≤ room) where
-    pub room_left : (place * width + t + 1) * cells (selection_shape (drop 1 axes)) * size ≤ room
-    room_left =
-        let c = cells (selection_shape (drop 1 axes)) in
-        let grown : (place + 1) * cells (selection_shape axes) ≡ (place + 1) * width * c = ap (λ n. (place + 1) * n) cells_are ∙ omega arith in
-        let less : (place * width + t + 1) * c ≤ (place + 1) * width * c = mul-le-mul_right c (omega (arith, inside)) in
-        let bytes : (place * width + t + 1) * c * size ≤ (place + 1) * width * c * size = mul-le-mul_right size less in
-        let same : (place + 1) * cells (selection_shape axes) * size ≡ (place + 1) * width * c * size = ap (λ n. n * size) grown in
-        omega (arith, bytes, same, fits)
-
-    pub place_low : 1 ≤ size → place * width + t < room
-    place_low sized =
-        let c = cells (selection_shape (drop 1 axes)) in
-        let some : 1 ≤ c = some_cells (drop 1 axes) (drop 1 spans) rest_spans in
-        let p = place * width + t + 1 in
-        let more : p * 1 ≤ p * c = mul-le (p) some in
-        let all : p * c * 1 ≤ p * c * size = mul-le (p * c) sized in
-        omega (arith, more, all, room_left) where
-          mul-le : (n : ℕ) {x y : ℕ} → x ≤ y → n * x ≤ n * y
-          mul-le n {x} {y} h = let right : x * n ≤ y * n = mul-le-mul_right n h in omega (arith, right)
-
-  pub all_writes : (d : Dataset) (place : ℕ) (front : List ℕ) → writes_in d axes spans place front
-      ≡ flat_map (λ u. writes_in d (drop 1 axes) (drop 1 spans) (place * width + u) (front ++ number_along (get_or axes 0 a) u ∷ []))
-      (range_with_len (get_or spans 0 s).from (get_or spans 0 s).length)
-  all_writes d place front = all axes spans there have where
-    all : (axes : Slab) (spans : List Span) → 1 ≤ length axes → 1 ≤ length spans → writes_in d axes spans place front
-        ≡ flat_map (λ u. writes_in d (drop 1 axes) (drop 1 spans) (place * ((get_or axes 0 a).count * (get_or axes 0 a).block) + u) (front ++ number_along (get_or axes 0 a) u ∷ []))
-        (range_with_len (get_or spans 0 s).from (get_or spans 0 s).length)
-    all [] spans there have = absurd (omega (arith, there))
-    all (x ∷ xs) [] there have = absurd (omega (arith, have))
-    all (x ∷ xs) (y ∷ ys) there have = refl
-
--- ---- what is left behind the first
-
 tail : {X : Type 0} (xs : List X) → take (length xs - 1) (drop 1 xs) ≡ drop 1 xs
 tail [] = refl
 tail (x ∷ xs) = let less : length (x ∷ xs) - 1 ≡ length xs = omega arith in ap (λ n. take n xs) less ∙ take_all (length xs) xs (omega arith)
 
-pub length-tail : {X : Type 0} (xs : List X) → length (take (length xs - 1) (drop 1 xs)) ≡ length xs - 1
-length-tail [] = refl
-length-tail (x ∷ xs) = ap length (tail (x ∷ xs)) ∙ omega arith
+module _ (a : Axis) (rest : Slab) (spans : List Span) (s : Span) (have : 1 ≤ length spans) (are : AreSpans (a ∷ rest) spans) where
+  pub first_span : IsSpan a (get_or spans 0 s)
+  first_span = first spans have are where
+    first : (spans : List Span) → 1 ≤ length spans → AreSpans (a ∷ rest) spans → IsSpan a (get_or spans 0 s)
+    first [] have are = absurd are
+    first (y ∷ ys) have are = are.0
 
-module _ (axes : Slab) (spans : List Span) (a : Axis) (s : Span) (there : 1 ≤ length axes) (have : 1 ≤ length spans) (are : AreSpans axes spans) where
-  pub spans_left : AreSpans (take (length axes - 1) (drop 1 axes)) (take (length spans - 1) (drop 1 spans))
-  spans_left = rw (tail axes, tail spans) (rest_spans axes spans a s there have are)
+  rest_spans : AreSpans rest (drop 1 spans)
+  rest_spans = others spans have are where
+    others : (spans : List Span) → 1 ≤ length spans → AreSpans (a ∷ rest) spans → AreSpans rest (drop 1 spans)
+    others [] have are = absurd are
+    others (y ∷ ys) have are = are.1
 
-  pub room_behind : (place t size room : ℕ) → t < (get_or axes 0 a).count * (get_or axes 0 a).block → (place + 1) * cells (selection_shape axes) * size ≤ room
-      → (place * ((get_or axes 0 a).count * (get_or axes 0 a).block) + t + 1) * cells (selection_shape (take (length axes - 1) (drop 1 axes))) * size ≤ room
-  room_behind place t size room inside fits = rw (tail axes) (room_left axes spans a s there have are place t size room inside fits)
+  pub spans_left : AreSpans rest (take (length spans - 1) (drop 1 spans))
+  spans_left = rw (tail spans) rest_spans
 
-  pub writes_behind : (d : Dataset) (place : ℕ) (front : List ℕ) → writes_in d axes spans place front
-      ≡ flat_map (λ u. writes_in d (take (length axes - 1) (drop 1 axes)) (take (length spans - 1) (drop 1 spans)) (place * ((get_or axes 0 a).count * (get_or axes 0 a).block) + u) (front ++ number_along (get_or axes 0 a) u ∷ []))
-      (range_with_len (get_or spans 0 s).from (get_or spans 0 s).length)
-  writes_behind d place front = all_writes axes spans a s there have are d place front
-      ∙ (λ i. flat_map (λ u. writes_in d (sym (tail axes) i) (sym (tail spans) i) (place * ((get_or axes 0 a).count * (get_or axes 0 a).block) + u) (front ++ number_along (get_or axes 0 a) u ∷ []))
-      (range_with_len (get_or spans 0 s).from (get_or spans 0 s).length))
+  abbrev width : ℕ
+  width = a.count * a.block
+
+  pub width_low : width < 2 ^ 64
+  width_low =
+      let is = first_span in
+      let some : 0 < a.count = counted a.count a.block (omega (arith, is.some, is.inside)) in
+      few_cells a is.apart is.top some where
+        counted : (n m : ℕ) → 0 < n * m → 0 < n
+        counted zero m some = absurd (omega (arith, some))
+        counted (suc n) m some = omega arith
+
+  module _ (place t size room : ℕ) (inside : t < width) (fits : (place + 1) * cells (selection_shape (a ∷ rest)) * size ≤ room) where
+    pub room_behind : (place * width + t + 1) * cells (selection_shape rest) * size ≤ room
+    room_behind =
+        let c = cells (selection_shape rest) in
+        let grown : (place + 1) * cells (selection_shape (a ∷ rest)) ≡ (place + 1) * width * c = omega arith in
+        let less : (place * width + t + 1) * c ≤ (place + 1) * width * c = mul-le-mul_right c (omega (arith, inside)) in
+        let bytes : (place * width + t + 1) * c * size ≤ (place + 1) * width * c * size = mul-le-mul_right size less in
+        let same : (place + 1) * cells (selection_shape (a ∷ rest)) * size ≡ (place + 1) * width * c * size = ap (λ n. n * size) grown in
+        omega (arith, bytes, same, fits)
+
+    pub place_low : 1 ≤ size → place * width + t < room
+    place_low sized =
+        let c = cells (selection_shape rest) in
+        let some : 1 ≤ c = some_cells rest (drop 1 spans) rest_spans in
+        let p = place * width + t + 1 in
+        let more : p * 1 ≤ p * c = mul-le (p) some in
+        let all : p * c * 1 ≤ p * c * size = mul-le (p * c) sized in
+        omega (arith, more, all, room_behind) where
+          mul-le : (n : ℕ) {x y : ℕ} → x ≤ y → n * x ≤ n * y
+          mul-le n {x} {y} h = let right : x * n ≤ y * n = mul-le-mul_right n h in omega (arith, right)
+
+  pub writes_behind : (d : Dataset) (place : ℕ) (front : List ℕ) → writes_in d (a ∷ rest) spans place front
+      ≡ flat_map (λ u. writes_in d rest (take (length spans - 1) (drop 1 spans)) (place * width + u) (front ++ number_along a u ∷ [])) (range_with_len (get_or spans 0 s).from (get_or spans 0 s).length)
+  writes_behind d place front = all spans have ∙ (λ i. flat_map (λ u. writes_in d rest (sym (tail spans) i) (place * width + u) (front ++ number_along a u ∷ [])) (range_with_len (get_or spans 0 s).from (get_or spans 0 s).length))
+    where
+      all : (spans : List Span) → 1 ≤ length spans → writes_in d (a ∷ rest) spans place front
+          ≡ flat_map (λ u. writes_in d rest (drop 1 spans) (place * width + u) (front ++ number_along a u ∷ [])) (range_with_len (get_or spans 0 s).from (get_or spans 0 s).length)
+      all [] have = absurd (omega (arith, have))
+      all (y ∷ ys) have = refl

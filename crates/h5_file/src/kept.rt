@@ -15,8 +15,7 @@ use crate::patch::patch_from;
 use crate::selected::gather;
 use count::Count;
 use h5_edit::{Dims, MAX_RANK, Slab, StoredArray};
-use h5_model::Axis;
-use h5_shape::{MetBoxes, Span, spans_in};
+use h5_shape::{Axes, MetBoxes, Span, spans_in};
 use std::alloc::{AllocError, Global};
 use std::marker::Model;
 
@@ -54,7 +53,11 @@ impl Kept {
     /// # Errors
     ///
     /// `AllocError` if memory is refused.
-    pub fn gather(alloc: Global, array: &StoredArray<'_>, slab: &Slab) -> Result<Kept, AllocError>
+    pub fn gather(
+        alloc: Global,
+        array: &StoredArray<'_>,
+        slab: &Slab<'_>,
+    ) -> Result<Kept, AllocError>
         requires { IsSlabOf array.now.sizes slab.now }
         ensures { IfOk result (λ kept. (kept.patches ≡ 0)
             × (kept.bytes ≡ cells_bytes array.now.fixed (selected_values array.now slab.now))) }
@@ -81,7 +84,7 @@ impl Kept {
     ///
     /// That the kept bytes are of this selection and of this array's type, and that this is a box of its grid, are
     /// the caller's conditions.
-    pub fn patch(&mut self, array: &StoredArray<'_>, slab: &Slab, corner: &[u64], sizes: &[u64])
+    pub fn patch(&mut self, array: &StoredArray<'_>, slab: &Slab<'_>, corner: &[u64], sizes: &[u64])
         requires sound { IsDataset array.now }
         requires rank { length slab.now ≡ length array.now.sizes }
         requires apart { AreApart slab.now }
@@ -102,7 +105,7 @@ impl Kept {
     pub fn patch_boxes(
         &mut self,
         array: &StoredArray<'_>,
-        slab: &Slab,
+        slab: &Slab<'_>,
         grid: &Dims,
         boxes: MetBoxes<'_>,
     ) -> u64
@@ -128,7 +131,7 @@ impl Kept {
 /// The same of bytes.
 fn patch_bytes(
     array: &StoredArray<'_>,
-    slab: &Slab,
+    slab: &Slab<'_>,
     corner: &[u64],
     sizes: &[u64],
     bytes: &mut [u8],
@@ -149,7 +152,7 @@ fn patch_bytes(
 /// The same, with room for the spans of the axes in the box.
 fn patch_box(
     array: &StoredArray<'_>,
-    axes: &[Axis],
+    axes: &Axes<'_>,
     corner: &[u64],
     sizes: &[u64],
     spans: &mut [Span],

@@ -92,7 +92,7 @@ impl OpenViews {
 
     /// Lets the views of the array of this number follow it, of which cells were touched, and says how many boxes were patched in all. Any
     /// other view stays, and costs nothing.
-    pub(crate) fn follow(&mut self, file: &File, number: ObjectNo, touched: &Touched) -> u64
+    pub(crate) fn follow(&mut self, file: &File, number: ObjectNo, touched: &Touched<'_>) -> u64
         requires rise { (end : ℕ) × AreNumbered self.old end }
         requires fit { AllByRecursion (IsViewFit file.now.tree file.now.next) self.old }
         requires few { length self.old ≤ 1024 }

@@ -12,13 +12,13 @@ ghost use Rattle.h5_file.specs.Patched.{with_writes, writes_in};
 
 use h5_edit::{StoredArray, encode};
 use h5_model::{Axis, Fixed};
-use h5_shape::Span;
+use h5_shape::{Axes, Span};
 
 /// Sets the kept cells at these positions to the array's, the fill outside its sizes. The positions begin with those that led to the index
 /// so far and to this place. It takes no memory, and one step for each cell.
 pub(crate) fn patch_from(
     array: &StoredArray<'_>,
-    axes: &[Axis],
+    axes: &Axes<'_>,
     spans: &[Span],
     index: &mut [u64],
     k: usize,
@@ -35,17 +35,18 @@ pub(crate) fn patch_from(
         (writes_in array.now axes.now spans.now place (take k index.old)) bytes.old }
     ensures index { take k index.new ≡ take k index.old }
 {
-    let [axis, axes @ ..] = axes else {
+    let Some(axis) = axes.first() else {
         write_at(array, index, place, bytes);
         return;
     };
+    let inner = axes.rest();
     let [span, spans @ ..] = spans else {
         return;
     };
     let cells = axis.count * axis.block;
     for t in span.from..span.from + span.length {
-        index[k] = number_at(axis, t);
-        patch_from(array, axes, spans, index, k + 1, place * cells + t, bytes);
+        index[k] = number_at(&axis, t);
+        patch_from(array, &inner, spans, index, k + 1, place * cells + t, bytes);
     }
 }
 

@@ -15,7 +15,7 @@ use h5_model::Fixed;
 ///
 /// That the selection is within the array's sizes, of as many dimensions, and that there is room for just its cells, are the caller's
 /// conditions.
-pub fn gather(array: &StoredArray<'_>, slab: &Slab, room: &mut [u8])
+pub fn gather(array: &StoredArray<'_>, slab: &Slab<'_>, room: &mut [u8])
     requires rank { length slab.now ≡ length array.now.sizes }
     requires within { Within array.now.sizes slab.now }
     requires room { length room.old

@@ -13,16 +13,16 @@ use h5_shape::{MetBoxes, lie_apart, lost_boxes, written_boxes};
 
 /// The cells of an array that an edit touches.
 #[derive(Drop)]
-pub(crate) enum Touched {
+pub(crate) enum Touched<'a> {
     /// Those that are written.
-    Written(Slab),
+    Written(Slab<'a>),
     /// Those inside the sizes before that are not inside the ones that it keeps.
     Lost { before: Dims, kept: Dims },
 }
 
-impl Touched {
+impl<'a> Touched<'a> {
     /// What an edit touches, or `None` where this is no cell of an array or a rule refuses the edit. It takes no memory.
-    pub(crate) fn of(file: &File, edit: &Edit) -> Option<Touched>
+    pub(crate) fn of(file: &File, edit: &'a Edit) -> Option<Touched<'a>>
         ensures { IsTouchedBy file.now edit.now result }
     {
         match edit {
@@ -39,7 +39,7 @@ impl Touched {
     }
 
     /// The cells that a write selects, or `None` where the lists are no selection.
-    pub(crate) fn written(file: &File, hyper: &HyperRef<'_>) -> Option<Touched>
+    pub(crate) fn written(file: &File, hyper: &HyperRef<'a>) -> Option<Touched<'a>>
         ensures { (path : List ℕ) (values : List ℤ)
             → IsTouchedBy file.now (Write path hyper.now values) result }
     {
@@ -50,7 +50,7 @@ impl Touched {
     }
 
     /// The cells that the array at the path may lose where it gets these sizes, or `None` where it can't get them.
-    pub(crate) fn lost(file: &File, path: &[u8], dims: &[u64]) -> Option<Touched>
+    pub(crate) fn lost(file: &File, path: &[u8], dims: &[u64]) -> Option<Touched<'a>>
         ensures { IsTouchedBy file.now (Resize path.now dims.now) result }
     {
         // Its arrays are sound.
@@ -63,7 +63,7 @@ impl Touched {
 
     /// Whether a few comparisons tell that no box of an array's grid holds a cell touched and a cell of the selection. Where it says
     /// `false`, `boxes` tells which do, if any.
-    pub(crate) fn misses(&self, grid: &Dims, slab: &Slab) -> bool
+    pub(crate) fn misses(&self, grid: &Dims, slab: &Slab<'_>) -> bool
         requires { (d : Dataset) × HasGrid d self.now grid.now }
         ensures { IsTrue result → (d : Dataset) → HasGrid d self.now grid.now
             → met_with d self.now slab.now ≡ [] }
@@ -76,7 +76,7 @@ impl Touched {
 
     /// The boxes of an array's grid that hold a cell touched and a cell of the selection. `None` where it is clear at once that there is
     /// none. It takes no memory.
-    pub(crate) fn boxes<'a>(&'a self, grid: &'a Dims, slab: &'a Slab) -> Option<MetBoxes<'a>>
+    pub(crate) fn boxes<'b>(&'b self, grid: &'b Dims, slab: &'b Slab<'b>) -> Option<MetBoxes<'b>>
         requires { (d : Dataset) × IsGridOf d self.now grid.now slab.now }
         ensures { (d : Dataset) → IsGridOf d self.now grid.now slab.now
             → let met = met_with d self.now slab.now in

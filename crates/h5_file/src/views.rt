@@ -24,6 +24,7 @@ use crate::session::Shown;
 use crate::touched::Touched;
 use h5_edit::{Dims, HyperRef, Slab, StoredArray, selected_at};
 use h5_model::{ObjectNo, ViewFault};
+use h5_shape::OwnedSlab;
 use std::alloc::{AllocError, Global};
 
 /// An open view.
@@ -33,7 +34,7 @@ pub(crate) struct KeptView {
     pub(crate) number: u32,
     /// The number of the object of which it selects cells.
     pub(crate) object: u32,
-    pub(crate) slab: Slab,
+    pub(crate) slab: OwnedSlab,
     /// The selected cells as the array has them, the fill for those outside its sizes; `None` where they are lent from the image.
     pub(crate) kept: Option<Kept>,
 }
@@ -42,7 +43,7 @@ impl KeptView {
     /// A view, of this number, of the selected cells of the array at the path.
     ///
     /// Refused as `Path` with the refusal of [`File::runs`], else as `TooManyViews` where no more views may be open, else as `NoMemory`. It
-    /// takes memory for the bytes of cells that are not lent, and no more.
+    /// takes memory for the four lists and for the bytes of cells that are not lent, and no more.
     pub(crate) fn open(
         file: &File,
         path: &[u8],
@@ -69,6 +70,7 @@ impl KeptView {
         let _image = file.image();
         let _axes = slab.axes();
         let kept = kept_cells(file.alloc, &array, &slab)?;
+        let slab = OwnedSlab::of(file.alloc, &slab)?;
         Ok(KeptView {
             number,
             object,
@@ -89,11 +91,12 @@ impl KeptView {
         let Some(array) = file.array(ObjectNo(self.object)) else {
             return Err(ViewFault::Gone);
         };
-        if !self.slab.within(array.dims()) {
+        let slab = self.slab.slab();
+        if !slab.within(array.dims()) {
             return Err(ViewFault::OutsideNow);
         }
         // Its blocks share no cell.
-        let _axes = self.slab.axes();
+        let _axes = slab.axes();
         let fixed = array.fixed();
         match &self.kept {
             Some(kept) => Ok(Shown {
@@ -102,7 +105,7 @@ impl KeptView {
                 lent: false,
             }),
             None => {
-                let bytes = array.lent(&self.slab).unwrap();
+                let bytes = array.lent(&slab).unwrap();
                 Ok(Shown {
                     fixed,
                     bytes,
@@ -114,7 +117,7 @@ impl KeptView {
 
     /// Follows its array, of which cells were touched: of the kept cells those in each box that is met are set to the array's. Says how many
     /// boxes these are. Where the cells can be lent by now, none is kept any more.
-    fn follow(&mut self, array: &StoredArray<'_>, grid: &Dims, touched: &Touched) -> u64
+    fn follow(&mut self, array: &StoredArray<'_>, grid: &Dims, touched: &Touched<'_>) -> u64
         requires array { IsArrayLeft array.now touched.now grid.now }
         requires rank { length self.old.slab ≡ length array.now.sizes }
         requires apart { selects_none self.old.slab ≡ false → AreApart self.old.slab }
@@ -126,11 +129,12 @@ impl KeptView {
         let Some(kept) = &mut self.kept else {
             return 0;
         };
-        if is_lent(array, &self.slab) {
+        let slab = self.slab.slab();
+        if is_lent(array, &slab) {
             self.kept = None;
             return 0;
         }
-        patch_met(kept, array, &self.slab, grid, touched)
+        patch_met(kept, array, &slab, grid, touched)
     }
 }
 
@@ -140,7 +144,7 @@ impl KeptView {
 fn kept_cells(
     alloc: Global,
     array: &StoredArray<'_>,
-    slab: &Slab,
+    slab: &Slab<'_>,
 ) -> Result<Option<Kept>, AllocError>
     requires within { IsSlabOf array.now.sizes slab.now }
     requires apart { list_any overlaps slab.now ≡ false }
@@ -154,7 +158,7 @@ fn kept_cells(
 }
 
 /// Whether the selected cells are lent from the image.
-fn is_lent(array: &StoredArray<'_>, slab: &Slab) -> bool
+fn is_lent(array: &StoredArray<'_>, slab: &Slab<'_>) -> bool
     requires { length slab.now ≡ length array.now.sizes }
     ensures { result ≡ can_lend array.now slab.now }
 {
@@ -169,9 +173,9 @@ fn is_lent(array: &StoredArray<'_>, slab: &Slab) -> bool
 fn patch_met(
     kept: &mut Kept,
     array: &StoredArray<'_>,
-    slab: &Slab,
+    slab: &Slab<'_>,
     grid: &Dims,
-    touched: &Touched,
+    touched: &Touched<'_>,
 ) -> u64
     requires array { IsArrayLeft array.now touched.now grid.now }
     requires rank { length slab.now ≡ length array.now.sizes }
@@ -193,9 +197,9 @@ fn patch_met(
 fn patch_each(
     kept: &mut Kept,
     array: &StoredArray<'_>,
-    slab: &Slab,
+    slab: &Slab<'_>,
     grid: &Dims,
-    touched: &Touched,
+    touched: &Touched<'_>,
 ) -> u64
     requires array { IsArrayLeft array.now touched.now grid.now }
     requires rank { length slab.now ≡ length array.now.sizes }
@@ -238,7 +242,7 @@ pub(crate) fn follow_all(
     views: &mut [KeptView],
     by_array: &[ArrayView],
     number: ObjectNo,
-    touched: &Touched,
+    touched: &Touched<'_>,
 ) -> u64
     requires rise { (end : ℕ) × AreNumbered views.old end }
     requires listed { AreByArray by_array.now views.old }
@@ -282,7 +286,7 @@ fn follow_each(
     number: ObjectNo,
     array: &StoredArray<'_>,
     grid: &Dims,
-    touched: &Touched,
+    touched: &Touched<'_>,
 ) -> u64
     requires rise { (end : ℕ) × AreNumbered views.old end }
     requires listed { AreByArray by_array.now views.old }
@@ -319,7 +323,7 @@ fn follow_one(
     number: u32,
     array: &StoredArray<'_>,
     grid: &Dims,
-    touched: &Touched,
+    touched: &Touched<'_>,
 ) -> u64
     requires rise { (end : ℕ) × AreNumbered views.old end }
     requires there { (at : ℕ) × IsViewAt views.old number at }

@@ -29,7 +29,7 @@ use Rattle.h5_group.proofs.ToldLaws.{symbol_nodes_are_told}
 use Rattle.h5_group.proofs.Ways.{cover_parts}
 
 -- the first byte of a symbol node is one of the symbol nodes
-begins_in : (leaf x : ℕ) (xs : List ℕ) → In x xs → 1 ≤ cover x (map (symbol_block leaf) xs)
+pub begins_in : (leaf x : ℕ) (xs : List ℕ) → In x xs → 1 ≤ cover x (map (symbol_block leaf) xs)
 begins_in leaf x [] at = absurd at
 begins_in leaf x (y ∷ xs) (inl e) =
     let here : holds x y (8 + 80 * leaf) ≡ 1 = subst (λ (z : ℕ). holds z y (8 + 80 * leaf) ≡ 1) e (holds_in y y (8 + 80 * leaf) (omega arith) (omega arith)) in omega (arith, here)

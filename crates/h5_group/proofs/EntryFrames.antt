@@ -1,6 +1,6 @@
 -- One symbol node of a group is written, and nothing else: the group's other blocks keep their bytes, so its tree, its heap and its other
 -- symbol nodes read as before (File Format Specification 3.0, sections III.A.1, III.B and III.D).
-use Rattle.std.proofs.Common.{◌≡◌, inl, inr, ℕ, ◌+◌, ◌*◌, ◌≤◌, List, [], ◌∷◌, ◌++◌, map, length, sym, ap, ◌∙◌, subst, arith}
+use Rattle.std.proofs.Common.{◌≡◌, ℕ, ◌+◌, ◌*◌, ◌≤◌, List, [], ◌∷◌, ◌++◌, map, length, sym, ap, ◌∙◌, subst, arith}
 use Rattle.std.proofs.lemmas.List.{map-append}
 use Rattle.std.proofs.lemmas.Grind.{flat_map-append}
 use Rattle.std.specs.List.{AllByRecursion, flat_map}
@@ -15,7 +15,6 @@ use Rattle.h5_model.specs.Format.Symbols.{IsSymbolNode, Target, entries_of, symb
 use Rattle.h5_model.proofs.Frames.{heap-same, reading-same, tree-same}
 use Rattle.h5_model.proofs.RowLaws.{only_here}
 use Rattle.h5_laws.proofs.Entries.{flat-same}
-use Rattle.h5_laws.proofs.Lists.{In}
 use Rattle.h5_space.specs.Space.{Space}
 use Rattle.h5_space.specs.Moves.{Moves}
 use Rattle.h5_btree.proofs.BlocksInside.{inside_held, made_long}
@@ -23,14 +22,6 @@ use Rattle.h5_group.specs.Edited.{IsGroupIn}
 use Rattle.h5_group.specs.Nodes.Trees.{kind_in}
 use Rattle.h5_group.proofs.BlockFrames.{fact_kept, read_kept}
 use Rattle.h5_group.proofs.EditFrames.{internal_kept, leaf_kept, rest_kept}
-
--- ---- lists and blocks
-
--- a list is cut at each thing that is in it
-pub cut_in : {X : Type 0} (x : X) (xs : List X) → In x xs → (front : List X) × (back : List X) × (xs ≡ front ++ x ∷ back)
-cut_in x [] at = absurd at
-cut_in {X} x (y ∷ xs) (inl e) = ([], xs, ap (λ (z : X). z ∷ xs) e)
-cut_in {X} x (y ∷ xs) (inr at) = let rest = cut_in x xs at in (y ∷ rest.0, rest.1, ap (λ (zs : List X). y ∷ zs) rest.2)
 
 -- ---- the group's symbol node at this place among its symbol nodes
 

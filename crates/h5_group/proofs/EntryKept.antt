@@ -14,6 +14,7 @@ use Rattle.h5_model.specs.Format.Rows.{Node}
 use Rattle.h5_model.specs.Format.Symbols.{Entry, IsSymbolNode, Target, link_of, symbol_bytes, symbols_at, target_of}
 use Rattle.h5_model.specs.Faults.TreeFaults.{all_entries}
 use Rattle.h5_laws.proofs.Lists.{In, contains_in, from_map, in_all, in_at, in_contains, in_flat, in_map}
+use Rattle.h5_laws.proofs.Pigeonhole.{split_in}
 use Rattle.h5_space.specs.Space.{Space}
 use Rattle.h5_btree.specs.Removal.{EndsInTree}
 use Rattle.h5_btree.specs.declared.way.Step.{Step}
@@ -24,7 +25,7 @@ use Rattle.h5_group.specs.Nodes.Stands.{IsSymbolsAt}
 use Rattle.h5_group.specs.Nodes.Trees.{kind_in}
 use Rattle.h5_group.specs.SymbolEdits.{IsSymbolsRewritten}
 use Rattle.h5_group.specs.Told.{links_told, symbol_nodes_told}
-use Rattle.h5_group.proofs.EntryFrames.{cut_in, internal_same, leaf_same, node_within, segment_same, trees_kept}
+use Rattle.h5_group.proofs.EntryFrames.{internal_same, leaf_same, node_within, segment_same, trees_kept}
 use Rattle.h5_group.proofs.EntryWays.{below_kept, ends_kept, owned_same}
 use Rattle.h5_group.proofs.ToldLaws.{links_are_told, symbol_nodes_are_told}
 
@@ -36,13 +37,13 @@ module _ (s : Space) (table : SymbolTable) (links : List (List ℕ × Target)) (
   listed = subst (In node) (sym (symbol_nodes_are_told s.bytes table links blocks group.linked)) (in_contains node (symbol_nodes_told s.bytes table) told)
 
   abbrev front : List ℕ
-  front = (cut_in node (group.linked).symbol_nodes listed).0
+  front = (split_in node (group.linked).symbol_nodes listed).0
 
   abbrev back : List ℕ
-  back = (cut_in node (group.linked).symbol_nodes listed).1
+  back = (split_in node (group.linked).symbol_nodes listed).1
 
   cut : (group.linked).symbol_nodes ≡ front ++ node ∷ back
-  cut = (cut_in node (group.linked).symbol_nodes listed).2
+  cut = (split_in node (group.linked).symbol_nodes listed).2
 
   pub symbols_stand : IsSymbolsAt s.bytes node
   symbols_stand = record {

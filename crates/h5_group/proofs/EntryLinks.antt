@@ -20,11 +20,11 @@ use Rattle.h5_space.specs.Space.{Space}
 use Rattle.h5_space.specs.Moves.{Moves}
 use Rattle.h5_group.specs.Edited.{HasGroupMoved, IsGroupIn, IsLinkPut, offsets_of}
 use Rattle.h5_group.specs.Nodes.Trees.{group_nodes_blocks, kind_in}
-use Rattle.h5_group.proofs.BlockFrames.{moves_wider}
 use Rattle.h5_group.proofs.GrownGroup.{entry_grown, group_grown}
 use Rattle.h5_group.proofs.LinkLists.{all_taken, fewer_ordered, links_less}
 use Rattle.h5_group.proofs.MovedNames.{entry_loosened, names_of}
 use Rattle.h5_group.proofs.EntryFrames.{backs_same, entries_cut, formed_still, fronts_same, kind, rows_same, symbols_parted, tree_still, written}
+use Rattle.h5_btree.proofs.WideningLaws.{moves_wider}
 
 -- ---- the group
 

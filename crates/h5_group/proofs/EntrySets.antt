@@ -21,6 +21,7 @@ use Rattle.h5_laws.specs.KeyEdits.{LetIn}
 use Rattle.h5_laws.specs.NameLadders.{key_text, name_sides}
 use Rattle.h5_laws.proofs.KeyInstances.{name_let_in}
 use Rattle.h5_laws.proofs.Lists.{In, in_all, in_contains, in_right}
+use Rattle.h5_laws.proofs.Pigeonhole.{split_in}
 use Rattle.h5_heap.proofs.RefusedLaws.{empty_text}
 use Rattle.h5_space.specs.Space.{Space}
 use Rattle.h5_btree.specs.Removal.{EndsInTree}
@@ -30,7 +31,7 @@ use Rattle.h5_group.specs.Edited.{HasEntryPut, HasEntryTaken, HasGroupMoved, IsG
 use Rattle.h5_group.specs.Nodes.Trees.{kind_in}
 use Rattle.h5_group.specs.SymbolEdits.{IsSymbolsRewritten}
 use Rattle.h5_group.specs.Told.{symbol_nodes_told}
-use Rattle.h5_group.proofs.EntryFrames.{backs_same, cut_in, fronts_same}
+use Rattle.h5_group.proofs.EntryFrames.{backs_same, fronts_same}
 use Rattle.h5_group.proofs.EntryLinks.{entry_put, entry_taken}
 use Rattle.h5_group.proofs.EntryOrder.{above_empty, names_put, put_ordered}
 use Rattle.h5_group.proofs.EntryWays.{end_cut, ends_own}
@@ -154,6 +155,6 @@ module _ (s t : Space) (table : SymbolTable) (node k : ℕ) (set : IsSymbolsRewr
       let entries = symbols_at s.bytes (leaf_k s.bytes) node in
       let listed : In node (group.linked).symbol_nodes
       = subst (In node) (sym (symbol_nodes_are_told s.bytes table links blocks group.linked)) (in_contains node (symbol_nodes_told s.bytes table) told) in
-      let cut = cut_in node (group.linked).symbol_nodes listed in
+      let cut = split_in node (group.linked).symbol_nodes listed in
       entry_taken s t table links spare blocks group node cut.0 cut.1 cut.2 set.moves set.size set.form e (take k entries) (drop (suc k) entries)
       (got_cut entries k e got) set.says

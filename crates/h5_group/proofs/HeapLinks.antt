@@ -1,8 +1,7 @@
 -- Links stay where the texts that they and the keys of their tree name do.
-use Rattle.std.proofs.Common.{◌≡◌, ℕ, zero, suc, ◌+◌, ◌<◌, inl, inr, Bool, true, false, List, [], ◌∷◌, ◌++◌, map, length, refl, sym, ◌∙◌, ap₂, subst, arith}
+use Rattle.std.proofs.Common.{◌≡◌, ℕ, zero, suc, ◌+◌, ◌<◌, inl, inr, Bool, true, false, List, [], ◌∷◌, ◌++◌, map, length, refl, sym, ◌∙◌, ap₂, subst}
 use Rattle.std.specs.Prelude.{◌==◌, if◌then◌else◌, slice_index_or}
 use Rattle.std.specs.List.{AllByRecursion, flat_map, list_any}
-use Rattle.std.proofs.lemmas.Bool.Decides.{nat_tests}
 use Rattle.h5_bytes.specs.Bytes.{byte_at, number_at}
 use Rattle.h5_bytes.specs.Texts.{text_at}
 use Rattle.h5_bytes.specs.declared.Block.{Block}
@@ -13,12 +12,7 @@ use Rattle.h5_model.specs.Format.Symbols.{Entry, Target, Text, Header, link_of, 
 use Rattle.h5_model.specs.Format.Links.{AreLinks, IsOrdered, IsBetween, Symbols, Before, NotAfter, names_in, offset_in, key_name, symbol_nodes_below, key_offsets}
 use Rattle.h5_model.proofs.RowLaws.{at_listed}
 use Rattle.h5_heap.proofs.NameLaws.{each_of}
-
--- the empty name
-empty_text : (segment : List ℕ) → byte_at segment 0 ≡ 0 → text_at segment 0 ≡ []
-unfolding text_at
-empty_text [] is = refl
-empty_text (b ∷ bs) is = let first : (b == 0) ≡ true = grind (arith, nat_tests, is) in rw first refl
+use Rattle.h5_heap.proofs.RefusedLaws.{empty_text}
 
 number_of_none : offset_in [] ≡ 0
 unfolding number_at

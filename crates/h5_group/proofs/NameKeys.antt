@@ -2,7 +2,7 @@
 use Rattle.std.proofs.Common.{◌≡◌, inl, inr, ℕ, ◌+◌, ◌^◌, ◌<◌, ◌≤◌, List, [], ◌∷◌, ◌++◌, length, map, refl, sym, ap, ◌∙◌, subst, arith, append-nil}
 use Rattle.std.specs.Bool.{⊤}
 use Rattle.std.specs.List.{AllByRecursion, flat_map}
-use Rattle.h5_bytes.specs.Bytes.{byte_at, number_at}
+use Rattle.h5_bytes.specs.Bytes.{number_at}
 use Rattle.h5_bytes.specs.Numbers.{word}
 use Rattle.h5_bytes.specs.Texts.{text_at}
 use Rattle.h5_bytes.specs.declared.Block.{Block}
@@ -26,6 +26,7 @@ use Rattle.h5_group.specs.Nodes.Trees.{kind_in}
 use Rattle.h5_group.specs.Retired.{entry_keys, name_keys}
 use Rattle.h5_group.proofs.MovedNames.{all_spans, names_of}
 use Rattle.h5_group.proofs.Ways.{heap_inside}
+use Rattle.h5_heap.proofs.RefusedLaws.{empty_text}
 
 -- ---- keys of eight bytes
 
@@ -35,11 +36,6 @@ offset_is n low = ap (λ (bytes : List ℕ). number_at bytes 0 8) (sym (append-n
 pub lowest_is : offset_in lowest_key ≡ 0
 unfolding number_at
 lowest_is = refl
-
-pub begins_empty : (segment : List ℕ) → byte_at segment 0 ≡ 0 → text_at segment 0 ≡ []
-unfolding text_at
-begins_empty [] is = refl
-begins_empty (b ∷ bs) is = rw is refl
 
 -- ---- a group
 
@@ -95,7 +91,7 @@ module _ (s : Space) (table : SymbolTable) (links : List (List ℕ × Target)) (
       ap (map (λ (e : Entry). text_at segment e.name)) (append-nil (S c) ∙ sym own) ∙ texts_of_keys (symbols_at s.bytes leaf c) (name_low c in_list))
 
   pub lowest_empty : key_text segment lowest_key ≡ []
-  lowest_empty = ap (text_at segment) lowest_is ∙ begins_empty segment (group.linked).listed.spans.empty
+  lowest_empty = ap (text_at segment) lowest_is ∙ empty_text segment (group.linked).listed.spans.empty
 
   -- THE KEYS OF ITS TREE ARE IN ORDER with those of its names
   pub keys_in_order : IsInOrder (key_sides (key_text segment)) (λ (b : List (List ℕ)). b) (λ (b : List (List ℕ)). ⊤) s.bytes (kind_in s.bytes) (λ key c. entry_keys leaf s.bytes c)

@@ -1,11 +1,7 @@
 -- The names of a symbol node that is cut in two, with a new one in its place: the key between the halves is the last name on the left, and lies
 -- between the keys around the symbol node (File Format Specification 3.0, sections III.A.1 and III.B).
-use Rattle.std.proofs.Common.{◌≡◌, ◌⊎◌, inl, inr, ℕ, ◌≤◌, List, [], ◌∷◌, ◌++◌, map, length, refl, sym, ap, ◌∙◌, subst, arith}
+use Rattle.std.proofs.Common.{◌≡◌, inl, inr, ℕ, ◌≤◌, List, [], ◌∷◌, ◌++◌, map, length, refl, sym, ap, ◌∙◌, subst, arith}
 use Rattle.std.specs.Prelude.{slice_index_or}
-use Rattle.std.specs.Ordering.{nat_cmp, is_lt, is_le, ordering_reverse}
-use Rattle.std.specs.declared.cmp.Ordering.{Ordering}
-use Rattle.std.specs.declared.cmp.Ordering.TheVariants.{Less, Equal, Greater}
-use Rattle.std.specs.Cmp.Lexicographic.{slice_cmp, nat_list_cmp_total}
 use Rattle.std.specs.List.{AllByRecursion}
 use Rattle.std.proofs.lemmas.List.{map-append}
 use Rattle.h5_bytes.specs.Texts.{text_at}
@@ -17,15 +13,8 @@ use Rattle.h5_model.proofs.TextOrder.{before_le, not_after_trans}
 use Rattle.h5_laws.specs.KeyEdits.{IsPut, LetIn, Two}
 use Rattle.h5_laws.specs.NameLadders.{key_text, name_sides}
 use Rattle.h5_laws.proofs.KeyInserts.{put_all}
+use Rattle.h5_laws.proofs.KeyInstances.{not_after_or}
 use Rattle.h5_btree.proofs.KeyedNames.{AreAscending, IsNameGrown, name_cut}
-
--- of two names one is not after the other, or the other is before it
-not_after_or : (a b : List ℕ) → NotAfter a b ⊎ Before b a
-not_after_or a b = by_order (slice_cmp nat_cmp a b) refl where
-  by_order : (o : Ordering) → slice_cmp nat_cmp a b ≡ o → NotAfter a b ⊎ Before b a
-  by_order Less is = inl (ap is_le is)
-  by_order Equal is = inl (ap is_le is)
-  by_order Greater is = inr (ap is_lt (nat_list_cmp_total.antisymm b a ∙ ap ordering_reverse is))
 
 -- keys between which a name lies let it in
 pub lets_between : (text : List ℕ → List ℕ) (name low high : List ℕ) → Before (text low) name → NotAfter name (text high) → LetIn (name_sides text) name low high

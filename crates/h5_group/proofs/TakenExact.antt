@@ -20,6 +20,7 @@ use Rattle.h5_model.proofs.RowLaws.{at_listed}
 use Rattle.h5_laws.specs.KeyEdits.{IsTaken}
 use Rattle.h5_laws.proofs.KeyInserts.{all_both}
 use Rattle.h5_laws.proofs.Lists.{In, all_in, in_contains}
+use Rattle.h5_laws.proofs.Pigeonhole.{split_in}
 use Rattle.h5_space.specs.Space.{Space}
 use Rattle.h5_btree.specs.Exact.{AreKeysExact}
 use Rattle.h5_btree.specs.Insertion.{KeepsEntries, Owns}
@@ -37,7 +38,7 @@ use Rattle.h5_group.specs.SymbolEdits.{IsSymbolsRewritten}
 use Rattle.h5_group.specs.Told.{symbol_nodes_told}
 use Rattle.h5_group.proofs.BlockFrames.{read_kept}
 use Rattle.h5_group.proofs.EditSteps.{first_spare}
-use Rattle.h5_group.proofs.EntryFrames.{backs_same, cut_in, fronts_same, internal_same, leaf_same, trees_kept}
+use Rattle.h5_group.proofs.EntryFrames.{backs_same, fronts_same, internal_same, leaf_same, trees_kept}
 use Rattle.h5_group.proofs.EntrySets.{got_cut, loose_low, taken_all}
 use Rattle.h5_group.proofs.EntryWays.{end_cut, ends_kept, ends_own}
 use Rattle.h5_group.proofs.ExactTrees.{keys_so, root_level_kept, told_kept}
@@ -74,13 +75,13 @@ module _ (s t : Space) (table : SymbolTable) (node k : ℕ) (set : IsSymbolsRewr
   listed = subst (In node) (sym (symbol_nodes_are_told s.bytes table links blocks group.linked)) (in_contains node (symbol_nodes_told s.bytes table) told)
 
   abbrev front : List ℕ
-  front = (cut_in node list listed).0
+  front = (split_in node list listed).0
 
   abbrev back : List ℕ
-  back = (cut_in node list listed).1
+  back = (split_in node list listed).1
 
   cut : list ≡ front ++ node ∷ back
-  cut = (cut_in node list listed).2
+  cut = (split_in node list listed).2
 
   leaf_is : leaf_k t.bytes ≡ leaf
   leaf_is = leaf_same s t table links spare blocks group node front back cut set.moves

@@ -34,10 +34,10 @@ use Rattle.h5_btree.proofs.KeyedOwn.{keys_count}
 use Rattle.h5_btree.proofs.TreeReadings.{Listed}
 use Rattle.h5_btree.proofs.WaySteps.{way_owned}
 use Rattle.h5_btree.proofs.WaysDown.{IsChosen, first_ends, way_chosen}
+use Rattle.h5_btree.proofs.WideningLaws.{moves_wider}
 use Rattle.h5_group.specs.Edited.{HasGroupMoved, IsGroupIn, IsWayFor, entries_below, heap_text, node_below}
 use Rattle.h5_group.specs.Nodes.Trees.{kind_in}
 use Rattle.h5_group.specs.Ways.{IsWayOf, behind_of}
-use Rattle.h5_group.proofs.BlockFrames.{moves_wider}
 use Rattle.h5_group.proofs.EntryWays.{ends_own}
 use Rattle.h5_group.proofs.HeapMoves.{keys_there}
 use Rattle.h5_group.proofs.KeyOffsets.{offsets_joined, offsets_parts}
@@ -45,7 +45,8 @@ use Rattle.h5_group.proofs.ToldLaws.{symbol_nodes_are_told}
 use Rattle.h5_group.proofs.TreeMoves.{entries_kept, heap_kept, keys_moved, kind_now, leaf_now}
 use Rattle.h5_group.proofs.Way.{leaf_listed}
 use Rattle.h5_group.proofs.Ways.{group_read}
-use Rattle.h5_group.proofs.WidenedKeys.{between_now, empty_text, gives_way, high_now, keys_now, low_now}
+use Rattle.h5_group.proofs.WidenedKeys.{between_now, gives_way, high_now, keys_now, low_now}
+use Rattle.h5_heap.proofs.RefusedLaws.{empty_text}
 
 -- ---- lists
 

@@ -4,8 +4,6 @@ use Rattle.std.proofs.Common.{◌≡◌, ◌⊎◌, inl, inr, ℕ, suc, ◌+◌,
 use Rattle.std.specs.Prelude.{IsTrue, if◌then◌else◌}
 use Rattle.std.specs.Ordering.{nat_cmp, is_lt, is_le, ordering_reverse}
 use Rattle.std.specs.Cmp.Lexicographic.{slice_cmp, nat_list_cmp_total}
-use Rattle.h5_bytes.specs.Bytes.{byte_at}
-use Rattle.h5_bytes.specs.Texts.{text_at}
 use Rattle.h5_model.specs.Format.Links.{Before, NotAfter, IsBetween}
 use Rattle.h5_model.specs.Format.Rows.{Node}
 use Rattle.h5_model.specs.Tree.Paths.{is_name}
@@ -38,12 +36,6 @@ empty_before (n ∷ name) named = refl
 empty_not_after : (name : List ℕ) → NotAfter [] name
 empty_not_after [] = refl
 empty_not_after (n ∷ name) = refl
-
--- a text that begins with a zero is empty
-pub empty_text : (segment : List ℕ) → byte_at segment 0 ≡ 0 → text_at segment 0 ≡ []
-unfolding text_at
-empty_text [] is = refl
-empty_text (b ∷ bs) is = rw is refl
 
 -- ---- one node
 

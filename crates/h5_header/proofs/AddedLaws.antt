@@ -4,6 +4,7 @@ use Rattle.std.proofs.Common.{◌≡◌, ℕ, ◌+◌, ◌==◌, Bool, false, if
 use Rattle.std.specs.List.{AllByRecursion, filter}
 use Rattle.std.proofs.lemmas.List.Elements.{filter-append}
 use Rattle.h5_bytes.specs.Bytes.{part}
+use Rattle.h5_model.specs.Format.MessageTypes.{nil_kind, continuation_kind, datatype_kind, symbol_table_kind}
 use Rattle.h5_model.specs.Format.Messages.{Message, count_of}
 use Rattle.h5_header.specs.Added.{AddsMessage, IsPutInBlock, IsPutInNil}
 
@@ -19,7 +20,7 @@ module _ (p : ℕ → Bool) where
   abbrev these : List Message → List Message
   these ms = filter (λ (m : Message). p m.kind) ms
 
-  none_of : p 0 ≡ false → (ms : List Message) → AllByRecursion (λ (m : Message). m.kind ≡ 0) ms → these ms ≡ []
+  none_of : p nil_kind ≡ false → (ms : List Message) → AllByRecursion (λ (m : Message). m.kind ≡ nil_kind) ms → these ms ≡ []
   none_of out [] all = refl
   none_of out (m ∷ ms) all = rw (all.0, out) (none_of out ms all.1)
 
@@ -29,7 +30,7 @@ module _ (p : ℕ → Bool) where
   one_more : (m : Message) (ms : List Message) → these (m ∷ ms) ≡ these (m ∷ []) ++ these ms
   one_more m ms = filter-append (λ (y : Message). p y.kind) (m ∷ []) ms
 
-  module _ (ms ms' : List Message) (kind : ℕ) (body : List ℕ) (out : p 0 ≡ false) where
+  module _ (ms ms' : List Message) (kind : ℕ) (body : List ℕ) (out : p nil_kind ≡ false) where
     nil_among : IsPutInNil ms ms' kind body → IsAmong p ms ms' kind body
     nil_among is =
         let said : Message = record { kind = kind; at = (is.nil).at; body = body } in
@@ -44,7 +45,7 @@ module _ (p : ℕ → Bool) where
               ∙ ap (λ (ys : List Message). these (said ∷ []) ++ ys) (filter-append _ is.rest is.back ∙ ap (λ (ys : List Message). ys ++ these is.back) (none_of out is.rest is.left)));
         }
 
-    block_among : p 16 ≡ false → p 17 ≡ false → p 3 ≡ false → IsPutInBlock ms ms' kind body → IsAmong p ms ms' kind body
+    block_among : p continuation_kind ≡ false → p symbol_table_kind ≡ false → p datatype_kind ≡ false → IsPutInBlock ms ms' kind body → IsAmong p ms ms' kind body
     block_among no_16 no_17 no_3 is =
         let said : Message = record { kind = kind; at = is.place + 32; body = body } in
         let moved : Message = record { kind = (is.moved).kind; at = is.place + 8; body = part 0 16 (is.moved).body } in
@@ -64,7 +65,7 @@ module _ (p : ℕ → Bool) where
         }
 
     -- of types that are neither NIL nor Continuation, nor one that may move
-    pub adds_among : p 16 ≡ false → p 17 ≡ false → p 3 ≡ false → AddsMessage ms ms' kind body → IsAmong p ms ms' kind body
+    pub adds_among : p continuation_kind ≡ false → p symbol_table_kind ≡ false → p datatype_kind ≡ false → AddsMessage ms ms' kind body → IsAmong p ms ms' kind body
     adds_among no_16 no_17 no_3 adds = elim adds [
       | inl nil ↦ nil_among nil
       | inr made ↦ block_among no_16 no_17 no_3 made
@@ -76,7 +77,7 @@ pub count_append : (k : ℕ) (xs ys : List Message) → count_of k (xs ++ ys) �
 count_append k [] ys = omega arith
 count_append k (x ∷ xs) ys = omega (arith, count_append k xs ys)
 
-none_counted : (k : ℕ) (other : (0 == k) ≡ false) (ms : List Message) → AllByRecursion (λ (m : Message). m.kind ≡ 0) ms → count_of k ms ≡ 0
+none_counted : (k : ℕ) (other : (nil_kind == k) ≡ false) (ms : List Message) → AllByRecursion (λ (m : Message). m.kind ≡ nil_kind) ms → count_of k ms ≡ 0
 none_counted k other [] all = refl
 none_counted k other (m ∷ ms) all = rw (all.0, other) (omega (arith, none_counted k other ms all.1))
 
@@ -84,7 +85,7 @@ one_counted : (k : ℕ) (m : Message) (ms : List Message) (t : Bool) → (m.kind
 one_counted k m ms t is = rw is refl
 
 -- one more of its type, and of other types as many; the types themselves aside that make room
-pub adds_count : (k : ℕ) (ms ms' : List Message) (kind : ℕ) (body : List ℕ) → (0 == k) ≡ false → (16 == k) ≡ false → AddsMessage ms ms' kind body
+pub adds_count : (k : ℕ) (ms ms' : List Message) (kind : ℕ) (body : List ℕ) → (nil_kind == k) ≡ false → (continuation_kind == k) ≡ false → AddsMessage ms ms' kind body
     → count_of k ms' ≡ count_of k ms + (if kind == k then 1 else 0)
 adds_count k ms ms' kind body out no_16 adds = elim adds [
   | inl is ↦

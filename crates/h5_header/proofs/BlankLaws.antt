@@ -8,6 +8,7 @@ use Rattle.h5_bytes.proofs.BlockLaws.{all_append, all_left, all_right, holds-inn
 use Rattle.h5_bytes.proofs.PartLaws.{length-part, length-with_part, part-with_part_other}
 use Rattle.h5_bytes.proofs.FieldLaws.{number_at-with_field, number_at-with_part_other}
 use Rattle.h5_space.proofs.MovesLaws.{byte-with_part}
+use Rattle.h5_model.specs.Format.MessageTypes.{nil_kind, continuation_kind}
 use Rattle.h5_model.specs.Format.Messages.{Message, IsMessage, HasMessages, prefix_at, reference_count}
 use Rattle.h5_header.specs.Listed.{Listed, message_in, messages_in, IsWithin}
 use Rattle.h5_header.specs.Standing.{IsStanding, kept_at, nowhere, with_nil, none}
@@ -47,15 +48,15 @@ module _ (old : List ℕ) (at : ℕ) (m : Message) (is : IsMessage 0 old at m) (
         omega (arith, same, len, is.place),
       )
 
-module _ (old : List ℕ) (m : Listed) (is : IsStanding old m) (k : ℕ) (low : k < length m.list) (own : (kept_at m.list k).kind ≢ 16) where
+module _ (old : List ℕ) (m : Listed) (is : IsStanding old m) (k : ℕ) (low : k < length m.list) (own : (kept_at m.list k).kind ≢ continuation_kind) where
   abbrev pub x : Placed
   x = kept_at m.list k
 
   abbrev pub new : List ℕ
-  new = with_part (x.at - 8) (little_bytes 2 0) old
+  new = with_part (x.at - 8) (little_bytes 2 nil_kind) old
 
   abbrev pub nil : Placed
-  nil = record x { kind = 0 }
+  nil = record x { kind = nil_kind }
 
   unfoldable pub cut : IsCut m.list k x
   cut = cut_by_place m.list k nowhere low
@@ -96,18 +97,18 @@ module _ (old : List ℕ) (m : Listed) (is : IsStanding old m) (k : ℕ) (low : 
       let long : x.size ≡ number_at old (here.0 + 2) 2 = sym (length-part x.at x.size old body_inside) ∙ message_long old here.0 (message_in old x) here.1 in
       rw long ((here.1).padded)
 
-  two : length (little_bytes 2 0) ≡ 2
+  two : length (little_bytes 2 nil_kind) ≡ 2
   two = refl
 
-  high : x.at - 8 + length (little_bytes 2 0) ≤ x.at - 8 + (8 + length (message_in old x).body)
+  high : x.at - 8 + length (little_bytes 2 nil_kind) ≤ x.at - 8 + (8 + length (message_in old x).body)
   high = omega (arith, two)
 
   begin : x.at - 8 ≡ here.0
   begin = omega (arith, (here.1).place)
 
-  pub stands : HasMessages new m.header (front ++ record (message_in old x) { kind = 0 } ∷ back) m.blocks
-  stands = message_rewritten old m is front (message_in old x) back cut_messages (little_bytes 2 0) (x.at - 8) (omega arith) high (record (message_in old x) { kind = 0 })
-      (rw begin (kind_stands old here.0 (message_in old x) here.1 0 (lit≤ tt)))
+  pub stands : HasMessages new m.header (front ++ record (message_in old x) { kind = nil_kind } ∷ back) m.blocks
+  stands = message_rewritten old m is front (message_in old x) back cut_messages (little_bytes 2 nil_kind) (x.at - 8) (omega arith) high (record (message_in old x) { kind = nil_kind })
+      (rw begin (kind_stands old here.0 (message_in old x) here.1 nil_kind (lit≤ tt)))
       (elim (continuation_cases (message_in old x)) [
         | inl blank ↦ sym blank
         | inr (b, is_16, says, names) ↦ absurd (own is_16)
@@ -115,33 +116,33 @@ module _ (old : List ℕ) (m : Listed) (is : IsStanding old m) (k : ℕ) (low : 
       (λ (e : 0 ≡ 16). absurd (omega (arith, e)))
 
   same_long : length new ≡ length old
-  same_long = same_length old m is front (message_in old x) back cut_messages (little_bytes 2 0) (x.at - 8) (omega arith) high
+  same_long = same_length old m is front (message_in old x) back cut_messages (little_bytes 2 nil_kind) (x.at - 8) (omega arith) high
 
   grown : length old ≤ length new
   grown = omega (arith, same_long)
 
   same_front : messages_in new cut.front ≡ front
   same_front = same_messages old new grown cut.front within_front (all_left (IsHeaded old) front (message_in old x ∷ back) all_headed)
-      (front_stays old m is front (message_in old x) back cut_messages (little_bytes 2 0) (x.at - 8) (omega arith) high)
+      (front_stays old m is front (message_in old x) back cut_messages (little_bytes 2 nil_kind) (x.at - 8) (omega arith) high)
 
   same_back : messages_in new cut.back ≡ back
   same_back = same_messages old new grown cut.back within_back.1 (all_right (IsHeaded old) front (message_in old x ∷ back) all_headed).1
-      (back_stays old m is front (message_in old x) back cut_messages (little_bytes 2 0) (x.at - 8) (omega arith) high)
+      (back_stays old m is front (message_in old x) back cut_messages (little_bytes 2 nil_kind) (x.at - 8) (omega arith) high)
 
   same_body : part x.at x.size new ≡ part x.at x.size old
-  same_body = part-with_part_other (x.at - 8) (little_bytes 2 0) old x.at x.size (omega (arith, two, behind_head, body_inside)) (inr (omega (arith, two, behind_head)))
+  same_body = part-with_part_other (x.at - 8) (little_bytes 2 nil_kind) old x.at x.size (omega (arith, two, behind_head, body_inside)) (inr (omega (arith, two, behind_head)))
 
-  listed : messages_in new (set m.list k nil) ≡ front ++ record (message_in old x) { kind = 0 } ∷ back
+  listed : messages_in new (set m.list k nil) ≡ front ++ record (message_in old x) { kind = nil_kind } ∷ back
   listed = ap (messages_in new) (cut.put nil) ∙ map-append (message_in new) cut.front (nil ∷ cut.back)
-      ∙ ap₂ (λ (a : List Message) (b : List Message). a ++ record { kind = 0; at = x.at; body = part x.at x.size new } ∷ b) same_front same_back
-      ∙ ap (λ (bs : List ℕ). front ++ record { kind = 0; at = x.at; body = bs } ∷ back) same_body
+      ∙ ap₂ (λ (a : List Message) (b : List Message). a ++ record { kind = nil_kind; at = x.at; body = part x.at x.size new } ∷ b) same_front same_back
+      ∙ ap (λ (bs : List ℕ). front ++ record { kind = nil_kind; at = x.at; body = bs } ∷ back) same_body
 
   pub blank_messages : messages_in new (set m.list k nil) ≡ with_nil (messages_in old m.list) k
   blank_messages =
-      let set_old : set (messages_in old m.list) k (record (message_in old x) { kind = 0 }) ≡ front ++ record (message_in old x) { kind = 0 } ∷ back
+      let set_old : set (messages_in old m.list) k (record (message_in old x) { kind = nil_kind }) ≡ front ++ record (message_in old x) { kind = nil_kind } ∷ back
       = sym (map-set (message_in old) m.list k nil) ∙ ap (messages_in old) (cut.put nil) ∙ map-append (message_in old) cut.front (nil ∷ cut.back) in
       let at_k : get_or (messages_in old m.list) k none ≡ message_in old x = get_or-map (message_in old) m.list k nowhere none low in
-      listed ∙ sym set_old ∙ ap (λ (y : Message). set (messages_in old m.list) k (record y { kind = 0 })) (sym at_k)
+      listed ∙ sym set_old ∙ ap (λ (y : Message). set (messages_in old m.list) k (record y { kind = nil_kind })) (sym at_k)
 
   pub blank_standing : IsStanding new (record m { list = set m.list k nil })
   blank_standing =
@@ -152,12 +153,12 @@ module _ (old : List ℕ) (m : Listed) (is : IsStanding old m) (k : ℕ) (low : 
         separate = is.separate;
       }
 
-  pub blank_covered : (p : ℕ) → holds p (x.at - 8) (length (little_bytes 2 0)) ≤ cover p m.blocks
+  pub blank_covered : (p : ℕ) → holds p (x.at - 8) (length (little_bytes 2 nil_kind)) ≤ cover p m.blocks
   blank_covered p = omega (
     arith,
     stretch_covered old m is front (message_in old x) back cut_messages p,
-    holds-inner p (x.at - 8) (length (little_bytes 2 0)) (x.at - 8) (8 + length (message_in old x).body) (omega arith) high,
+    holds-inner p (x.at - 8) (length (little_bytes 2 nil_kind)) (x.at - 8) (8 + length (message_in old x).body) (omega arith) high,
   )
 
   pub blank_count : reference_count (prefix_at new m.header) ≡ reference_count (prefix_at old m.header)
-  blank_count = ap reference_count (prefix_stays old m is front (message_in old x) back cut_messages (little_bytes 2 0) (x.at - 8) (omega arith) high)
+  blank_count = ap reference_count (prefix_stays old m is front (message_in old x) back cut_messages (little_bytes 2 nil_kind) (x.at - 8) (omega arith) high)

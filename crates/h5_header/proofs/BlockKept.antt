@@ -14,6 +14,7 @@ use Rattle.h5_bytes.proofs.PartLaws.{length-part, part-part}
 use Rattle.h5_bytes.proofs.FieldLaws.{number_at-with_field}
 use Rattle.h5_space.specs.Moves.{Moves}
 use Rattle.h5_space.specs.Space.{Space}
+use Rattle.h5_model.specs.Format.MessageTypes.{datatype_kind, continuation_kind, symbol_table_kind}
 use Rattle.h5_model.specs.Format.Messages.{Message, IsContinued, continuations, first_block, first_size, prefix_at, reference_count}
 use Rattle.h5_model.specs.Format.Plain.{messages_bytes}
 use Rattle.h5_model.proofs.PlainMessages.{IsPlain}
@@ -57,17 +58,17 @@ named_len b low =
     ap (λ (bs : List ℕ). number_at bs 8 8) is ∙ number_at-with_field (word b.at ++ zeros 8) 8 8 b.len (omega arith) (omega (arith, low))
 
 module _ (old : List ℕ) (m : Listed) (is : IsStanding old m) (k : ℕ) (low : k < length m.list)
-    (may : ((kept_at m.list k).kind ≡ 17) ⊎ ((kept_at m.list k).kind ≡ 3)) (wide : 16 ≤ (kept_at m.list k).size)
+    (may : ((kept_at m.list k).kind ≡ symbol_table_kind) ⊎ ((kept_at m.list k).kind ≡ datatype_kind)) (wide : 16 ≤ (kept_at m.list k).size)
     (b : Block) (there : b.at + b.len ≤ length old) (apart : (p : ℕ) → cover p m.blocks + holds p b.at b.len ≤ 1) (at_low : b.at < 2 ^ 64)
-    (kind : ℕ) (kind_low : kind < 65536) (own : kind ≢ 16) (body : List ℕ) (body_padded : length body % 8 ≡ 0) (body_low : length body < 65536)
+    (kind : ℕ) (kind_low : kind < 65536) (own : kind ≢ continuation_kind) (body : List ℕ) (body_padded : length body % 8 ≡ 0) (body_low : length body < 65536)
     (sized : b.len ≡ 32 + length body) (total_low : length m.list < 65534) where
   abbrev pub x : Placed
   x = kept_at m.list k
 
-  pub no_name : x.kind ≢ 16
-  no_name sixteen = elim may [
-    | inl table ↦ absurd (omega (arith, table, sixteen))
-    | inr datatype ↦ absurd (omega (arith, datatype, sixteen))
+  pub no_name : x.kind ≢ continuation_kind
+  no_name same = elim may [
+    | inl table ↦ absurd (omega (arith, table, same))
+    | inr datatype ↦ absurd (omega (arith, datatype, same))
   ]
 
   pub x_inside : x.at + x.size ≤ length old
@@ -143,7 +144,7 @@ module _ (old : List ℕ) (m : Listed) (is : IsStanding old m) (k : ℕ) (low : 
 
   -- so many blocks are named before theirs
   abbrev pub named : ℕ
-  named = 1 + count_by (λ (y : Placed). y.kind == 16) (take k m.list)
+  named = 1 + count_by (λ (y : Placed). y.kind == continuation_kind) (take k m.list)
 
   front_list : cutting.front ≡ take k m.list
   front_list = sym (ap (take k) cutting.whole ∙ ap (λ (n : ℕ). take n (cutting.front ++ x ∷ cutting.back)) (sym cutting.long)
@@ -175,8 +176,8 @@ module _ (old : List ℕ) (m : Listed) (is : IsStanding old m) (k : ℕ) (low : 
   front_continued : AllByRecursion IsContinued front
   front_continued = all_left IsContinued front (message_in two x ∷ back) (subst (AllByRecursion IsContinued) (puts.cut_messages old m is k low no_name wide b there apart said plain long name sixteen at_said len_said small) ((puts.is_two old m is k low no_name wide b there apart said plain long name sixteen at_said len_said small).has).continued)
 
-  front_counted : length (continuations front) ≡ count_by (λ (y : Placed). y.kind == 16) (take k m.list)
-  front_counted = names_counted two cutting.front front_continued ∙ ap (count_by (λ (y : Placed). y.kind == 16)) front_list
+  front_counted : length (continuations front) ≡ count_by (λ (y : Placed). y.kind == continuation_kind) (take k m.list)
+  front_counted = names_counted two cutting.front front_continued ∙ ap (count_by (λ (y : Placed). y.kind == continuation_kind)) front_list
 
   abbrev header_block : Block
   header_block = block m.header (16 + first_size (prefix_at two m.header))
@@ -198,7 +199,7 @@ module _ (old : List ℕ) (m : Listed) (is : IsStanding old m) (k : ℕ) (low : 
   -- ---- what is kept then
 
   abbrev pub continues : Placed
-  continues = record x { kind = 16 }
+  continues = record x { kind = continuation_kind }
 
   abbrev pub moved : Placed
   moved = record { kind = x.kind; at = b.at + 8; size = 16 }
@@ -213,7 +214,7 @@ module _ (old : List ℕ) (m : Listed) (is : IsStanding old m) (k : ℕ) (low : 
   blocks' = insert m.blocks named b
 
   continues_is : continues ≡ placed (puts.c old m is k low no_name wide b there apart said plain long name sixteen at_said len_said small)
-  continues_is = ap (λ (n : ℕ). record { kind = 16; at = x.at; size = n }) (sym (length-part x.at x.size two (omega (arith, x_inside, puts.two_long old m is k low no_name wide b there apart said plain long name sixteen at_said len_said small))))
+  continues_is = ap (λ (n : ℕ). record { kind = continuation_kind; at = x.at; size = n }) (sym (length-part x.at x.size two (omega (arith, x_inside, puts.two_long old m is k low no_name wide b there apart said plain long name sixteen at_said len_said small))))
 
   both_are : moved ∷ put ∷ [] ≡ map placed (puts.ws old m is k low no_name wide b there apart said plain long name sixteen at_said len_said small)
   both_are =

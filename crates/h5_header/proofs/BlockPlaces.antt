@@ -9,6 +9,7 @@ use Rattle.h5_bytes.specs.declared.Block.{Block}
 use Rattle.h5_bytes.proofs.PartLaws.{length-part}
 use Rattle.h5_space.proofs.Unheld.{unheld, unheld-claim, unheld-le}
 use Rattle.h5_model.specs.Format.Addresses.{continuation_of}
+use Rattle.h5_model.specs.Format.MessageTypes.{continuation_kind}
 use Rattle.h5_model.specs.Format.Messages.{Message, IsContinued, continuation, continuations}
 use Rattle.h5_header.specs.Added.{lengths, spans}
 use Rattle.h5_header.specs.Listed.{Listed, message_in, messages_in, IsWithin}
@@ -87,23 +88,23 @@ spans-le xs i j low high = elim (cases_order i j) [
 
 -- ---- each Continuation names one block, and no other message does
 
-one_named : (m : Message) → IsContinued m → length (continuation m) ≡ cond (m.kind == 16) 1 0
-one_named m continued = go (m.kind == 16) refl where
-  names : (o : Option Block) → continuation_of m.body ≡ o → IsSome o → (m.kind == 16) ≡ true → length (continuation m) ≡ 1
+one_named : (m : Message) → IsContinued m → length (continuation m) ≡ cond (m.kind == continuation_kind) 1 0
+one_named m continued = go (m.kind == continuation_kind) refl where
+  names : (o : Option Block) → continuation_of m.body ≡ o → IsSome o → (m.kind == continuation_kind) ≡ true → length (continuation m) ≡ 1
   names None says some same = absurd (cc)
   names (Some b) says some same = rw (same, says) refl
 
-  go : (t : Bool) → (m.kind == 16) ≡ t → length (continuation m) ≡ cond (m.kind == 16) 1 0
+  go : (t : Bool) → (m.kind == continuation_kind) ≡ t → length (continuation m) ≡ cond (m.kind == continuation_kind) 1 0
   go false other = rw other refl
-  go true same = names (continuation_of m.body) refl (continued (eqb-true m.kind 16 same)) same ∙ sym (rw same refl)
+  go true same = names (continuation_of m.body) refl (continued (eqb-true m.kind continuation_kind same)) same ∙ sym (rw same refl)
 
 pub names_counted : (image : List ℕ) (xs : List Placed) → AllByRecursion IsContinued (messages_in image xs)
-    → length (continuations (messages_in image xs)) ≡ count_by (λ (m : Placed). m.kind == 16) xs
+    → length (continuations (messages_in image xs)) ≡ count_by (λ (m : Placed). m.kind == continuation_kind) xs
 names_counted image [] all = refl
 names_counted image (x ∷ xs) all = omega (
   arith,
   one_named (message_in image x) all.0,
   names_counted image xs all.1,
   length-append (continuation (message_in image x)) (continuations (messages_in image xs)),
-  sum_by-cons (λ (m : Placed). cond (m.kind == 16) 1 0) x xs,
+  sum_by-cons (λ (m : Placed). cond (m.kind == continuation_kind) 1 0) x xs,
 )

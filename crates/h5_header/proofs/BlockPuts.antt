@@ -15,6 +15,7 @@ use Rattle.h5_space.specs.Moves.{Moves}
 use Rattle.h5_space.specs.Space.{Space}
 use Rattle.h5_space.specs.Whole.{IsApart}
 use Rattle.h5_space.proofs.MovesLaws.{byte-with_part, moves_apart, moves_beside, moves_kept, moves_same, moves_then}
+use Rattle.h5_model.specs.Format.MessageTypes.{datatype_kind, continuation_kind, symbol_table_kind}
 use Rattle.h5_model.specs.Format.Messages.{Message, Fills, IsContinued, HasMessages, continuation, continuations, first_block, first_size, prefix_at, reference_count, total_in}
 use Rattle.h5_model.specs.Format.Addresses.{continuation_of}
 use Rattle.h5_model.specs.Format.Plain.{messages_bytes}
@@ -92,7 +93,7 @@ module _ (s t : Space) (m : Listed) (b : Block) (taken : Moves s t [] (b ∷ [])
   pub apart_taken : (p : ℕ) → cover p m.blocks + holds p b.at b.len ≤ 1
   apart_taken p = omega (arith, moves_apart s t [] (b ∷ []) m.blocks taken apart p, holds-le p 0 (length t.bytes))
 
-module _ (old : List ℕ) (m : Listed) (is : IsStanding old m) (k : ℕ) (low : k < length m.list) (own : (kept_at m.list k).kind ≢ 16) (wide : 16 ≤ (kept_at m.list k).size)
+module _ (old : List ℕ) (m : Listed) (is : IsStanding old m) (k : ℕ) (low : k < length m.list) (own : (kept_at m.list k).kind ≢ continuation_kind) (wide : 16 ≤ (kept_at m.list k).size)
     (b : Block) (there : b.at + b.len ≤ length old) (apart : (p : ℕ) → cover p m.blocks + holds p b.at b.len ≤ 1)
     (ms : List (ℕ × List ℕ)) (plain : AllByRecursion IsPlain ms) (long : length (messages_bytes ms) ≡ b.len)
     (name : List ℕ) (sixteen : length name ≡ 16) (at_said : number_at name 0 8 ≡ b.at) (len_said : number_at name 8 8 ≡ b.len)
@@ -152,7 +153,7 @@ module _ (old : List ℕ) (m : Listed) (is : IsStanding old m) (k : ℕ) (low : 
   -- ---- it becomes a Continuation
 
   abbrev pub kind_bytes : List ℕ
-  kind_bytes = little_bytes 2 16
+  kind_bytes = little_bytes 2 continuation_kind
 
   abbrev pub at : ℕ
   at = x.at - 8
@@ -177,12 +178,12 @@ module _ (old : List ℕ) (m : Listed) (is : IsStanding old m) (k : ℕ) (low : 
 
   -- the Continuation
   abbrev pub c : Message
-  c = record (message_in two x) { kind = 16 }
+  c = record (message_in two x) { kind = continuation_kind }
 
   made_three : Follow three at (c ∷ []) (x.at + length (message_in two x).body)
   made_three =
       let begin : at ≡ here.0 = omega (arith, (here.1).place) in
-      rw begin (kind_stands two here.0 (message_in two x) here.1 16 (omega arith))
+      rw begin (kind_stands two here.0 (message_in two x) here.1 continuation_kind (omega arith))
 
   -- ---- the total
 
@@ -480,7 +481,7 @@ module _ (old : List ℕ) (m : Listed) (is : IsStanding old m) (k : ℕ) (low : 
 
   -- ---- what a caller is told
 
-  pub block_added : (kind : ℕ) (body : List ℕ) → (x.kind ≡ 17) ⊎ (x.kind ≡ 3) → ms ≡ (x.kind, part 0 16 (message_in old x).body) ∷ (kind, body) ∷ []
+  pub block_added : (kind : ℕ) (body : List ℕ) → (x.kind ≡ symbol_table_kind) ⊎ (x.kind ≡ datatype_kind) → ms ≡ (x.kind, part 0 16 (message_in old x).body) ∷ (kind, body) ∷ []
       → IsPutInBlock (messages_in old m.list) (messages_in four after_list) kind body
   block_added kind body may are =
       let first : List ℕ = part 0 16 (message_in old x).body in

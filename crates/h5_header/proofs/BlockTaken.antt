@@ -8,6 +8,7 @@ use Rattle.h5_space.specs.Moves.{Moves, Spends}
 use Rattle.h5_space.specs.Space.{Space}
 use Rattle.h5_space.specs.Whole.{IsApart}
 use Rattle.h5_space.proofs.MovesLaws.{moves_kept}
+use Rattle.h5_model.specs.Format.MessageTypes.{datatype_kind, continuation_kind, symbol_table_kind}
 use Rattle.h5_model.specs.Format.Messages.{Message, prefix_at, reference_count}
 use Rattle.h5_header.specs.Added.{IsPutInBlock, lengths, named_in, spans}
 use Rattle.h5_header.specs.Listed.{Listed, messages_in}
@@ -21,7 +22,7 @@ use Rattle.h5_header.proofs.BlockKept as kept
 pub record IsTaken (s t : Space) (m : Listed) (k : ℕ) (b : Block) (kind : ℕ) (body : List ℕ) : Type 0 where
   pub standing : IsStanding s.bytes m
   pub known : k < length m.list
-  pub may : ((kept_at m.list k).kind ≡ 17) ⊎ ((kept_at m.list k).kind ≡ 3)
+  pub may : ((kept_at m.list k).kind ≡ symbol_table_kind) ⊎ ((kept_at m.list k).kind ≡ datatype_kind)
   pub wide : 16 ≤ (kept_at m.list k).size
   pub taken : Moves s t [] (b ∷ [])
   pub free : IsApart m.blocks s.free (length s.bytes)
@@ -29,7 +30,7 @@ pub record IsTaken (s t : Space) (m : Listed) (k : ℕ) (b : Block) (kind : ℕ)
   pub at_low : b.at < 2 ^ 64
   pub sized : b.len ≡ 32 + length body
   pub kind_low : kind < 65536
-  pub own : kind ≢ 16
+  pub own : kind ≢ continuation_kind
   pub padded : length body % 8 ≡ 0
   pub low : length body < 65536
   pub total : length m.list < 65534
@@ -59,7 +60,7 @@ module _ {s t : Space} {m : Listed} {k : ℕ} {b : Block} {kind : ℕ} {body : L
 
   -- so many blocks are named before the new one, and so many messages stand in them
   abbrev pub named : ℕ
-  named = 1 + count_by (λ (y : Placed). y.kind == 16) (take k m.list)
+  named = 1 + count_by (λ (y : Placed). y.kind == continuation_kind) (take k m.list)
 
   pub named_le : named ≤ length m.blocks
   named_le = kept.named_le t.bytes m is_t k can.known can.may can.wide b can.there apart can.at_low kind can.kind_low can.own body can.padded can.low can.sized can.total
@@ -72,7 +73,7 @@ module _ {s t : Space} {m : Listed} {k : ℕ} {b : Block} {kind : ℕ} {body : L
 
   -- what is kept where the new messages stand at a place of the list
   abbrev pub list' : ℕ → List Placed
-  list' at = insert (insert (set m.list k (record x { kind = 16 })) at (record { kind = x.kind; at = b.at + 8; size = 16 }))
+  list' at = insert (insert (set m.list k (record x { kind = continuation_kind })) at (record { kind = x.kind; at = b.at + 8; size = 16 }))
       (at + 1) (record { kind = kind; at = b.at + 32; size = length body })
 
   abbrev pub blocks' : List Block

@@ -9,6 +9,7 @@ use Rattle.h5_bytes.specs.declared.Block.{Block}
 use Rattle.h5_bytes.proofs.BlockLaws.{all_append, all_left, all_right}
 use Rattle.h5_bytes.proofs.FieldLaws.{number_at-same}
 use Rattle.h5_bytes.proofs.PartLaws.{length-part}
+use Rattle.h5_model.specs.Format.MessageTypes.{continuation_kind}
 use Rattle.h5_model.specs.Format.Messages.{Message, IsMessage, Fills, FillBlocks, IsContinued, continuation, continuations, HasMessages, first_block, first_size, prefix_at}
 use Rattle.h5_model.proofs.Frames.{front-same, rest-same}
 use Rattle.h5_header.specs.Listed.{messages_in, IsWithin}
@@ -23,7 +24,7 @@ module _ (old new : List ℕ) (grown : length old ≤ length new) where
 
   -- its head stays, and of a Continuation the body
   abbrev pub Stays : Message → Type 0
-  Stays m = IsKept old new (block (m.at - 8) 8) × (m.kind ≡ 16 → part m.at (length m.body) new ≡ m.body)
+  Stays m = IsKept old new (block (m.at - 8) 8) × (m.kind ≡ continuation_kind → part m.at (length m.body) new ≡ m.body)
 
   message_now : (at : ℕ) (m : Message) → IsMessage 0 old at m → IsKept old new (block (m.at - 8) 8) → IsMessage 0 new at (now m)
   message_now at m is kept =
@@ -62,9 +63,9 @@ module _ (old new : List ℕ) (grown : length old ≤ length new) where
 
   -- the same blocks are named
   names_now : (m : Message) → Stays m → continuation (now m) ≡ continuation m
-  names_now m stays = go (m.kind == 16) refl where
-    go : (t : Bool) → (m.kind == 16) ≡ t → continuation (now m) ≡ continuation m
-    go true same = ap (λ (bs : List ℕ). continuation (record m { body = bs })) (stays.1 (eqb-true m.kind 16 same))
+  names_now m stays = go (m.kind == continuation_kind) refl where
+    go : (t : Bool) → (m.kind == continuation_kind) ≡ t → continuation (now m) ≡ continuation m
+    go true same = ap (λ (bs : List ℕ). continuation (record m { body = bs })) (stays.1 (eqb-true m.kind continuation_kind same))
     go false other = rw other refl
 
   all_names_now : (ms : List Message) → AllByRecursion Stays ms → continuations (map now ms) ≡ continuations ms

@@ -6,6 +6,7 @@ use Rattle.h5_bytes.specs.Bytes.{part, with_part}
 use Rattle.h5_bytes.specs.Blocks.{holds, cover, Inside, Keeps}
 use Rattle.h5_bytes.proofs.BlockLaws.{holds-inner, all_append, all_left, all_right}
 use Rattle.h5_bytes.proofs.PartLaws.{length-part, part-with_part_other}
+use Rattle.h5_model.specs.Format.MessageTypes.{continuation_kind}
 use Rattle.h5_model.specs.Format.Messages.{Message, HasMessages, prefix_at}
 use Rattle.h5_header.specs.Listed.{Listed, message_in, messages_in, IsWithin}
 use Rattle.h5_header.specs.Standing.{IsStanding}
@@ -43,7 +44,7 @@ module _ (old : List ℕ) (m : Listed) (is : IsStanding old m) (front : List Pla
   pub behind_head : 8 ≤ x.at
   behind_head = omega (arith, ((headed_behind.0).1).place)
 
-  module _ (own : x.kind ≢ 16) (w : List ℕ) (at : ℕ) (low : x.at ≤ at) (high : at + length w ≤ x.at + x.size) where
+  module _ (own : x.kind ≢ continuation_kind) (w : List ℕ) (at : ℕ) (low : x.at ≤ at) (high : at + length w ≤ x.at + x.size) where
     abbrev new : List ℕ
     new = with_part at w old
 

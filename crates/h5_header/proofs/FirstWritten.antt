@@ -6,6 +6,7 @@ use Rattle.std.proofs.lemmas.Bool.Decides.{nat_tests}
 use Rattle.std.proofs.lemmas.Option.{same_Some}
 use Rattle.h5_bytes.specs.Bytes.{part, with_part}
 use Rattle.h5_bytes.specs.Blocks.{holds, cover}
+use Rattle.h5_model.specs.Format.MessageTypes.{continuation_kind}
 use Rattle.h5_model.specs.Format.Messages.{Message, count_of, first_body, prefix_at}
 use Rattle.h5_header.specs.Listed.{Listed, message_in, messages_in}
 use Rattle.h5_header.specs.Standing.{IsStanding}
@@ -115,12 +116,12 @@ pub record IsBodyWritten (old new : List ℕ) (m : Listed) (kind : ℕ) (x : Pla
   pub prefix : prefix_at new m.header ≡ prefix_at old m.header
   pub messages : HasNewBody kind (messages_in old m.list) (messages_in new m.list) (part x.at x.size new)
 
-module _ (old : List ℕ) (m : Listed) (is : IsStanding old m) (kind : ℕ) (own : kind ≢ 16) (x : Placed) (found : find (λ (y : Placed). y.kind == kind) m.list ≡ Some x)
+module _ (old : List ℕ) (m : Listed) (is : IsStanding old m) (kind : ℕ) (own : kind ≢ continuation_kind) (x : Placed) (found : find (λ (y : Placed). y.kind == kind) m.list ≡ Some x)
     (w : List ℕ) (at : ℕ) (low : x.at ≤ at) (high : at + length w ≤ x.at + x.size) where
   cut : IsCutAt kind m.list x
   cut = cut_at kind m.list x found
 
-  not_continued : x.kind ≢ 16
+  not_continued : x.kind ≢ continuation_kind
   not_continued is_16 = own (sym cut.of ∙ is_16)
 
   pub body_written : IsBodyWritten old (with_part at w old) m kind x

@@ -24,7 +24,7 @@ twice ms kind high = grind (arith, nat_tests)
 
 -- one of the types that may stand once stands twice
 pub some_twice : (ms : List Message) → (1 < count_of symbol_table_kind ms) ⊎ ((1 < count_of dataspace_kind ms) ⊎ ((1 < count_of datatype_kind ms) ⊎ ((1 < count_of data_layout_kind ms) ⊎ ((1 < count_of old_fill_value_kind ms) ⊎ (1 < count_of fill_value_kind ms)))))
-    → IsTrue (list_any (stands_twice ms) (1 ∷ 3 ∷ 4 ∷ 5 ∷ 8 ∷ 17 ∷ []))
+    → IsTrue (list_any (stands_twice ms) (dataspace_kind ∷ datatype_kind ∷ old_fill_value_kind ∷ fill_value_kind ∷ data_layout_kind ∷ symbol_table_kind ∷ []))
 some_twice ms (inl h) = let t = twice ms 17 h in grind (arith, nat_tests, t)
 some_twice ms (inr (inl h)) = let t = twice ms 1 h in grind (arith, nat_tests, t)
 some_twice ms (inr (inr (inl h))) = let t = twice ms 3 h in grind (arith, nat_tests, t)

@@ -10,6 +10,7 @@ use Rattle.h5_bytes.specs.declared.Block.{Block}
 use Rattle.h5_bytes.proofs.PartLaws.{length-part, part-part}
 use Rattle.h5_bytes.proofs.FieldLaws.{number_at-part}
 use Rattle.h5_model.specs.Format.Addresses.{continuation_of}
+use Rattle.h5_model.specs.Format.MessageTypes.{continuation_kind}
 use Rattle.h5_model.specs.Format.Messages.{Message, IsMessage, continuation}
 use Rattle.h5_header.specs.Heads.{IsHead}
 use Rattle.h5_header.specs.Listed.{message_in, messages_in}
@@ -33,7 +34,7 @@ continuation_of-part image at size long inside =
     let second : number_at (part at size image) 8 8 ≡ number_at image (at + 8) 8 = number_at-part 8 8 at size image (omega arith) in
     rw (← first, ← second) (continuation_of-long (part at size image) (omega arith))
 
-pub continuation-is : (image : List ℕ) (m : Placed) → m.kind ≡ 16 → 16 ≤ m.size → m.at + m.size ≤ length image
+pub continuation-is : (image : List ℕ) (m : Placed) → m.kind ≡ continuation_kind → 16 ≤ m.size → m.at + m.size ≤ length image
     → continuation (message_in image m) ≡ block (number_at image m.at 8) (number_at image (m.at + 8) 8) ∷ []
 continuation-is image m kind long inside = rw (kind, continuation_of-part image m.at m.size long inside) refl
 

@@ -11,6 +11,7 @@ use Rattle.h5_bytes.proofs.PartLaws.{part-part}
 use Rattle.h5_bytes.proofs.FieldLaws.{number_at-part}
 use Rattle.h5_bytes.proofs.BlockLaws.{all_append}
 use Rattle.h5_model.specs.Format.Addresses.{continuation_of}
+use Rattle.h5_model.specs.Format.MessageTypes.{continuation_kind}
 use Rattle.h5_model.specs.Format.Messages.{Message, IsMessage, Fills, FillBlocks, HasMessages, continuation, continuations, first_block}
 use Rattle.h5_model.specs.Format.Reached.{Met, at_start, behind, in_continuation, kind_at, size_at}
 use Rattle.h5_header.specs.Refused.{NamesBlock}
@@ -34,13 +35,13 @@ long_body body b is = go (nat_le 16 (length body)) refl is where
   go false holds named = cc
 
 -- a message names no block, or it is a Continuation whose body names one
-pub continuation_cases : (m : Message) → (continuation m ≡ []) ⊎ ((b : Block) × (m.kind ≡ 16) × (continuation_of m.body ≡ Some b) × (continuation m ≡ b ∷ []))
-continuation_cases m = go (m.kind == 16) refl (continuation_of m.body) refl where
-  go : (t : Bool) → (m.kind == 16) ≡ t → (o : Option Block) → continuation_of m.body ≡ o
-      → (continuation m ≡ []) ⊎ ((b : Block) × (m.kind ≡ 16) × (continuation_of m.body ≡ Some b) × (continuation m ≡ b ∷ []))
+pub continuation_cases : (m : Message) → (continuation m ≡ []) ⊎ ((b : Block) × (m.kind ≡ continuation_kind) × (continuation_of m.body ≡ Some b) × (continuation m ≡ b ∷ []))
+continuation_cases m = go (m.kind == continuation_kind) refl (continuation_of m.body) refl where
+  go : (t : Bool) → (m.kind == continuation_kind) ≡ t → (o : Option Block) → continuation_of m.body ≡ o
+      → (continuation m ≡ []) ⊎ ((b : Block) × (m.kind ≡ continuation_kind) × (continuation_of m.body ≡ Some b) × (continuation m ≡ b ∷ []))
   go false other o is = inl (rw other refl)
   go true same None is = inl (rw (same, is) refl)
-  go true same (Some b) is = let kind : m.kind ≡ 16 = grind (arith, nat_tests, same) in inr (b, kind, is, rw (same, is) refl)
+  go true same (Some b) is = let kind : m.kind ≡ continuation_kind = grind (arith, nat_tests, same) in inr (b, kind, is, rw (same, is) refl)
 
 -- the message names the block, from its place in the header
 abbrev pub IsNamedBy : List ℕ → ℕ → Message → Block → Type 0
@@ -72,7 +73,7 @@ module _ (image : List ℕ) (header : ℕ) (b : Block) (to : ℕ) (m : Message) 
   body = let over : b.at + (to + 8) ≡ b.at + to + 8 = omega arith in
       is.body ∙ part-part (to + 8) (number_at (part b.at b.len image) (to + 2) 2) b.at b.len image (omega (arith, inside)) ∙ ap₂ (λ p n. part p n image) over size
 
-  named : (c : Block) → m.kind ≡ 16 → continuation_of m.body ≡ Some c → NamesBlock image header (b.at + to) c
+  named : (c : Block) → m.kind ≡ continuation_kind → continuation_of m.body ≡ Some c → NamesBlock image header (b.at + to) c
   named c is_16 says =
       let at = b.at + to in
       let n = size_at image at in

@@ -10,7 +10,7 @@ use Rattle.std.proofs.lemmas.List.Quantifiers.{position-Some}
 use Rattle.std.proofs.lemmas.Option.{same_Some}
 use Rattle.h5_bytes.specs.Bytes.{number_at}
 use Rattle.h5_bytes.proofs.PartLaws.{length-part}
-use Rattle.h5_model.specs.Format.MessageTypes.{datatype_kind, symbol_table_kind}
+use Rattle.h5_model.specs.Format.MessageTypes.{datatype_kind, symbol_table_kind, nil_kind}
 use Rattle.h5_model.specs.Format.Addresses.{SymbolTable, symbol_table_of}
 use Rattle.h5_model.specs.Format.Datatype.{fixed_of, is_fixed_point, type_size, is_signed, is_high_first}
 use Rattle.h5_model.specs.Format.Fixed.{Fixed, fixed_from}
@@ -22,16 +22,16 @@ use Rattle.h5_header.specs.declared.message.Message.{Message as Placed}
 use Rattle.h5_header.proofs.StretchLaws.{IsHeaded, message_long}
 use Rattle.h5_header.proofs.RewriteLaws.{headed}
 
-movable_here : (m : Message) (kind : ℕ) → (kind ≡ 17) ⊎ (kind ≡ 3) → m.kind ≡ kind → 16 ≤ length m.body → is_movable m ≡ true
+movable_here : (m : Message) (kind : ℕ) → (kind ≡ symbol_table_kind) ⊎ (kind ≡ datatype_kind) → m.kind ≡ kind → 16 ≤ length m.body → is_movable m ≡ true
 movable_here m kind may same wide =
     let long : nat_le 16 (length m.body) ≡ true = grind (arith, nat_tests, wide) in
     elim may [
-      | inl table ↦ let is : (m.kind == 17) ≡ true = grind (arith, nat_tests, table, same) in rw (is, long) refl
-      | inr datatype ↦ let is : (m.kind == 3) ≡ true = grind (arith, nat_tests, datatype, same) in and_from (m.kind == 17 || m.kind == 3) (nat_le 16 (length m.body)) (or_right (m.kind == 17) (m.kind == 3) is) long
+      | inl table ↦ let is : (m.kind == symbol_table_kind) ≡ true = grind (arith, nat_tests, table, same) in rw (is, long) refl
+      | inr datatype ↦ let is : (m.kind == datatype_kind) ≡ true = grind (arith, nat_tests, datatype, same) in and_from (m.kind == symbol_table_kind || m.kind == datatype_kind) (nat_le 16 (length m.body)) (or_right (m.kind == symbol_table_kind) (m.kind == datatype_kind) is) long
     ]
 
 -- the first message of such a type may move
-pub movable_first : (kind : ℕ) (ms : List Message) (body : List ℕ) → (kind ≡ 17) ⊎ (kind ≡ 3) → 16 ≤ length body → first_body kind ms ≡ Some body → HasMovable ms
+pub movable_first : (kind : ℕ) (ms : List Message) (body : List ℕ) → (kind ≡ symbol_table_kind) ⊎ (kind ≡ datatype_kind) → 16 ≤ length body → first_body kind ms ≡ Some body → HasMovable ms
 movable_first kind [] body may wide h = absurd (cc)
 movable_first kind (m ∷ ms) body may wide h = elim (m.kind == kind) as (λ b. (m.kind == kind) ≡ b
     → option_map (λ (x : Message). x.body) (cond b (Some m) (find (λ (x : Message). x.kind == kind) ms)) ≡ Some body → HasMovable (m ∷ ms)) [
@@ -48,7 +48,7 @@ table_wide body table says = go (nat_le 16 (length body)) refl says where
   go true holds is = leb-true 16 (length body) holds
   go false fails is = absurd (cc)
 
-type_wide : (body : List ℕ) (fixed : Fixed) → fixed_of body ≡ Some fixed → 12 ≤ length body
+pub type_wide : (body : List ℕ) (fixed : Fixed) → fixed_of body ≡ Some fixed → 12 ≤ length body
 unfolding fixed_of
 type_wide body fixed says = go (is_fixed_point body) refl says where
   go : (t : Bool) → is_fixed_point body ≡ t → cond t (fixed_from (type_size body) (is_signed body) (is_high_first body)) None ≡ Some fixed → 12 ≤ length body
@@ -60,7 +60,7 @@ pub movable_table : (ms : List Message) (table : SymbolTable) → option_and_the
 movable_table ms table says = go (first_body symbol_table_kind ms) refl says where
   go : (o : Option (List ℕ)) → first_body symbol_table_kind ms ≡ o → option_and_then symbol_table_of o ≡ Some table → HasMovable ms
   go None is chosen = absurd (cc)
-  go (Some body) is chosen = movable_first 17 ms body (inl refl) (table_wide body table chosen) is
+  go (Some body) is chosen = movable_first symbol_table_kind ms body (inl refl) (table_wide body table chosen) is
 
 abbrev pub IsPadded : Message → Type 0
 IsPadded m = length m.body % 8 ≡ 0
@@ -70,15 +70,15 @@ pub movable_type : (ms : List Message) (fixed : Fixed) → AllByRecursion IsPadd
 movable_type ms fixed padded says = go (first_body datatype_kind ms) refl says where
   first_padded : (xs : List Message) (body : List ℕ) → AllByRecursion IsPadded xs → first_body datatype_kind xs ≡ Some body → length body % 8 ≡ 0
   first_padded [] body all is = absurd (cc)
-  first_padded (x ∷ xs) body all is = elim (x.kind == 3) as (λ b.
-      option_map (λ (y : Message). y.body) (cond b (Some x) (find (λ (y : Message). y.kind == 3) xs)) ≡ Some body → length body % 8 ≡ 0) [
+  first_padded (x ∷ xs) body all is = elim (x.kind == datatype_kind) as (λ b.
+      option_map (λ (y : Message). y.body) (cond b (Some x) (find (λ (y : Message). y.kind == datatype_kind) xs)) ≡ Some body → length body % 8 ≡ 0) [
         | true ↦ λ here. ap (λ (bs : List ℕ). length bs % 8) (sym (same_Some x.body body here)) ∙ all.0
         | false ↦ λ behind. first_padded xs body all.1 behind
       ] is
 
   go : (o : Option (List ℕ)) → first_body datatype_kind ms ≡ o → option_and_then fixed_of o ≡ Some fixed → HasMovable ms
   go None is chosen = absurd (cc)
-  go (Some body) is chosen = movable_first 3 ms body (inr refl) (omega (arith, type_wide body fixed chosen, first_padded ms body padded is)) is
+  go (Some body) is chosen = movable_first datatype_kind ms body (inr refl) (omega (arith, type_wide body fixed chosen, first_padded ms body padded is)) is
 
 all_padded : (image : List ℕ) (ms : List Message) → AllByRecursion (IsHeaded image) ms → AllByRecursion IsPadded ms
 all_padded image [] all = tt
@@ -97,7 +97,7 @@ or_other true b other some = absurd (cc)
 or_other false b other some = some
 
 same_movable : (image : List ℕ) (x : Placed) → x.at + x.size ≤ length image → is_movable (message_in image x) ≡ may_move x
-same_movable image x inside = ap (λ (n : ℕ). (x.kind == 17 || x.kind == 3) && nat_le 16 n) (length-part x.at x.size image inside)
+same_movable image x inside = ap (λ (n : ℕ). (x.kind == symbol_table_kind || x.kind == datatype_kind) && nat_le 16 n) (length-part x.at x.size image inside)
 
 movable_kept : (image : List ℕ) (xs : List Placed) → IsWithin (length image) xs → list_any is_movable (messages_in image xs) ≡ list_any may_move xs
 movable_kept image [] within = refl
@@ -118,24 +118,24 @@ movable_found image xs within has =
 
 -- what is found may move
 pub found_movable : (xs : List Placed) (k : ℕ) → position may_move xs ≡ Some k
-    → (k < length xs) × (((kept_at xs k).kind ≡ 17) ⊎ ((kept_at xs k).kind ≡ 3)) × (16 ≤ (kept_at xs k).size)
+    → (k < length xs) × (((kept_at xs k).kind ≡ symbol_table_kind) ⊎ ((kept_at xs k).kind ≡ datatype_kind)) × (16 ≤ (kept_at xs k).size)
 found_movable xs k is =
     let at = position-Some may_move xs k nowhere is in
     let x = kept_at xs k in
-    let both = and_parts (x.kind == 17 || x.kind == 3) (nat_le 16 x.size) at.1 in (
+    let both = and_parts (x.kind == symbol_table_kind || x.kind == datatype_kind) (nat_le 16 x.size) at.1 in (
       at.0,
-      elim (or_cases (x.kind == 17) (x.kind == 3) both.0) [
-        | inl table ↦ inl (eqb-true x.kind 17 table)
-        | inr datatype ↦ inr (eqb-true x.kind 3 datatype)
+      elim (or_cases (x.kind == symbol_table_kind) (x.kind == datatype_kind) both.0) [
+        | inl table ↦ inl (eqb-true x.kind symbol_table_kind table)
+        | inr datatype ↦ inr (eqb-true x.kind datatype_kind datatype)
       ],
       leb-true 16 x.size both.1,
     )
 
 -- and what is found among NIL messages is one, and has the size
-pub found_nil : (xs : List Placed) (size k : ℕ) → position (λ (m : Placed). m.kind == 0 && nat_le size m.size) xs ≡ Some k
-    → (k < length xs) × ((kept_at xs k).kind ≡ 0) × (size ≤ (kept_at xs k).size)
+pub found_nil : (xs : List Placed) (size k : ℕ) → position (λ (m : Placed). m.kind == nil_kind && nat_le size m.size) xs ≡ Some k
+    → (k < length xs) × ((kept_at xs k).kind ≡ nil_kind) × (size ≤ (kept_at xs k).size)
 found_nil xs size k is =
-    let at = position-Some (λ (m : Placed). m.kind == 0 && nat_le size m.size) xs k nowhere is in
+    let at = position-Some (λ (m : Placed). m.kind == nil_kind && nat_le size m.size) xs k nowhere is in
     let x = kept_at xs k in
-    let both = and_parts (x.kind == 0) (nat_le size x.size) at.1 in
-    (at.0, eqb-true x.kind 0 both.0, leb-true size x.size both.1)
+    let both = and_parts (x.kind == nil_kind) (nat_le size x.size) at.1 in
+    (at.0, eqb-true x.kind nil_kind both.0, leb-true size x.size both.1)

@@ -9,6 +9,7 @@ use Rattle.h5_bytes.proofs.PartLaws.{length-part, length-with_part}
 use Rattle.h5_space.specs.Space.{Space}
 use Rattle.h5_space.specs.Moves.{Moves}
 use Rattle.h5_space.proofs.MovesLaws.{moves_then}
+use Rattle.h5_model.specs.Format.MessageTypes.{nil_kind, continuation_kind}
 use Rattle.h5_model.specs.Format.Messages.{Message, prefix_at, reference_count}
 use Rattle.h5_model.specs.Format.Plain.{messages_bytes}
 use Rattle.h5_model.proofs.PlainMessages.{IsPlain, messages_from}
@@ -22,7 +23,7 @@ use Rattle.h5_header.proofs.PlacedLaws.{placed}
 use Rattle.h5_header.proofs.PutLaws.{put_list, put_list_is, header_room, room, list_long, put_messages, put_standing, put_covered, put_count, total_covered}
 
 module _ (x : Placed) (bytes : List ℕ) (head : 8 ≤ x.at) (long : length bytes ≡ x.size + 8) (size_padded : x.size % 8 ≡ 0) (size_low : x.size < 65536)
-    (kind : ℕ) (kind_low : kind < 65536) (own : kind ≢ 16) (body : List ℕ) (body_padded : length body % 8 ≡ 0) (fits : length body ≤ x.size) where
+    (kind : ℕ) (kind_low : kind < 65536) (own : kind ≢ continuation_kind) (body : List ℕ) (body_padded : length body % 8 ≡ 0) (fits : length body ≤ x.size) where
   abbrev n : ℕ
   n = length body
 
@@ -80,9 +81,9 @@ module _ (x : Placed) (bytes : List ℕ) (head : 8 ≤ x.at) (long : length byte
   pub kept_is : map placed (messages_from (x.at - 8) (said_in kind body bytes)) ≡ kept_with_nil kind n x
   kept_is =
       subst (λ (t : Bool). map placed (messages_from (x.at - 8) (said_in kind body bytes)) ≡ record { kind = kind; at = x.at; size = n }
-      ∷ (if t then record { kind = 0; at = x.at + n + 8; size = x.size - n - 8 } ∷ [] else [])) (sym same_test) (go (nat_lt (8 + n) (length bytes))) where
+      ∷ (if t then record { kind = nil_kind; at = x.at + n + 8; size = x.size - n - 8 } ∷ [] else [])) (sym same_test) (go (nat_lt (8 + n) (length bytes))) where
         go : (t : Bool) → map placed (messages_from (x.at - 8) ((kind, body) ∷ left_in t)) ≡ record { kind = kind; at = x.at; size = n }
-            ∷ (if t then record { kind = 0; at = x.at + n + 8; size = x.size - n - 8 } ∷ [] else [])
+            ∷ (if t then record { kind = nil_kind; at = x.at + n + 8; size = x.size - n - 8 } ∷ [] else [])
         go true =
             let first : x.at - 8 + 8 ≡ x.at = omega (arith, head) in
             let second : x.at - 8 + 8 + n + 8 ≡ x.at + n + 8 = omega (arith, head) in
@@ -93,23 +94,23 @@ module _ (x : Placed) (bytes : List ℕ) (head : 8 ≤ x.at) (long : length byte
   abbrev pub left : List Message
   left = messages_from (x.at - 8 + 8 + n) (left_in (nat_lt (8 + n) (length bytes)))
 
-  pub left_nil : AllByRecursion (λ (y : Message). y.kind ≡ 0) left
+  pub left_nil : AllByRecursion (λ (y : Message). y.kind ≡ nil_kind) left
   left_nil = go (nat_lt (8 + n) (length bytes)) where
-    go : (t : Bool) → AllByRecursion (λ (y : Message). y.kind ≡ 0) (messages_from (x.at - 8 + 8 + n) (left_in t))
+    go : (t : Bool) → AllByRecursion (λ (y : Message). y.kind ≡ nil_kind) (messages_from (x.at - 8 + 8 + n) (left_in t))
     go true = (refl, tt)
     go false = tt
 
   pub said_at : messages_from (x.at - 8) (said_in kind body bytes) ≡ record { kind = kind; at = x.at; body = body } ∷ left
   said_at = let first : x.at - 8 + 8 ≡ x.at = omega (arith, head) in ap (λ (p : ℕ). record { kind = kind; at = p; body = body } ∷ left) first
 
-module _ (old : List ℕ) (m : Listed) (is : IsStanding old m) (k : ℕ) (low : k < length m.list) (nil : (kept_at m.list k).kind ≡ 0)
-    (size_low : (kept_at m.list k).size < 65536) (kind : ℕ) (kind_low : kind < 65536) (own : kind ≢ 16) (body : List ℕ) (body_padded : length body % 8 ≡ 0)
+module _ (old : List ℕ) (m : Listed) (is : IsStanding old m) (k : ℕ) (low : k < length m.list) (nil : (kept_at m.list k).kind ≡ nil_kind)
+    (size_low : (kept_at m.list k).size < 65536) (kind : ℕ) (kind_low : kind < 65536) (own : kind ≢ continuation_kind) (body : List ℕ) (body_padded : length body % 8 ≡ 0)
     (fits : length body ≤ (kept_at m.list k).size) (total_low : length m.list < 65535) where
   abbrev x : Placed
   x = kept_at m.list k
 
-  no_name : x.kind ≢ 16
-  no_name sixteen = absurd (omega (arith, nil, sixteen))
+  no_name : x.kind ≢ continuation_kind
+  no_name same = absurd (omega (arith, nil, same))
 
   pub nil_head : 8 ≤ x.at
   nil_head = behind_head old m is k low no_name

@@ -1,11 +1,11 @@
 -- Messages that were written one after another: where they stand, and that they name no block.
-use Rattle.std.proofs.Common.{◌≡◌, ℕ, ◌+◌, ◌==◌, true, false, List, [], ◌∷◌, map, length, refl, sym, ◌∙◌, ap, ap₂, arith}
+use Rattle.std.proofs.Common.{◌≡◌, ℕ, ◌+◌, List, [], ◌∷◌, map, length, refl, sym, ◌∙◌, ap₂, arith}
 use Rattle.std.specs.List.{AllByRecursion}
 use Rattle.h5_bytes.specs.Bytes.{part}
 use Rattle.h5_bytes.specs.Blocks.{Keeps}
 use Rattle.h5_bytes.specs.declared.Block.{Block}
-use Rattle.h5_model.specs.Format.Messages.{Message, IsMessage, IsContinued, continuations}
-use Rattle.h5_model.proofs.PlainMessages.{IsPlain, messages_from}
+use Rattle.h5_model.specs.Format.Messages.{Message, IsMessage}
+pub use Rattle.h5_model.proofs.PlainMessages.{no_continuations as no_names, none_continued as no_continuation}
 use Rattle.h5_header.specs.Listed.{messages_in, IsWithin}
 use Rattle.h5_header.specs.declared.message.Message.{Message as Placed}
 use Rattle.h5_header.proofs.StretchLaws.{IsHeaded, message_long}
@@ -29,17 +29,6 @@ placed_within image [] all = tt
 placed_within image (y ∷ ms) all =
     let is = (all.0).1 in
     (omega (arith, is.whole, is.place, message_long image (all.0).0 y is), placed_within image ms all.1)
-
-pub no_names : (at : ℕ) (ms : List (ℕ × List ℕ)) → AllByRecursion IsPlain ms → continuations (messages_from at ms) ≡ []
-no_names at [] all = refl
-no_names at (m ∷ ms) all = rw (all.0.own, no_names (at + 8 + length m.1) ms all.1) refl
-
-pub no_continuation : (at : ℕ) (ms : List (ℕ × List ℕ)) → AllByRecursion IsPlain ms → AllByRecursion IsContinued (messages_from at ms)
-no_continuation at [] all = tt
-no_continuation at (m ∷ ms) all = (
-  λ e. let other : (m.0 == 16) ≡ false = all.0.own in let sixteen : (m.0 == 16) ≡ true = ap (λ k. k == 16) e in absurd (cc),
-  no_continuation (at + 8 + length m.1) ms all.1,
-)
 
 -- what stays and then stays again stays
 pub keeps_then : (old mid new : List ℕ) (bs : List Block) → Keeps old mid bs → Keeps mid new bs → Keeps old new bs

@@ -8,6 +8,7 @@ use Rattle.h5_bytes.proofs.BlockLaws.{holds-inner, cover-append, all_append, all
 use Rattle.h5_bytes.proofs.PartLaws.{length-part, length-with_part, part-with_part_same}
 use Rattle.h5_bytes.proofs.FieldLaws.{number_at-with_field, number_at-with_part_other}
 use Rattle.h5_space.proofs.MovesLaws.{byte-with_part}
+use Rattle.h5_model.specs.Format.MessageTypes.{continuation_kind}
 use Rattle.h5_model.specs.Format.Messages.{Message, Fills, HasMessages, continuation, continuations, first_size, prefix_at, reference_count, total_in}
 use Rattle.h5_model.specs.Format.Plain.{messages_bytes}
 use Rattle.h5_model.proofs.PlainMessages.{IsPlain, messages_from, fills-plain, length-messages_from}
@@ -24,7 +25,7 @@ use Rattle.h5_header.proofs.RewriteLaws.{same_messages, laid_inside, beside, pre
 use Rattle.h5_header.proofs.PlacedLaws.{placed, placed_back, placed_within, no_names, no_continuation, keeps_then}
 use Rattle.h5_header.proofs.BlankLaws.{all_headed, behind_head, body_inside, cut as kept_cut, cut_messages, within_back, within_front}
 
-module _ (old : List ℕ) (m : Listed) (is : IsStanding old m) (k : ℕ) (low : k < length m.list) (own : (kept_at m.list k).kind ≢ 16)
+module _ (old : List ℕ) (m : Listed) (is : IsStanding old m) (k : ℕ) (low : k < length m.list) (own : (kept_at m.list k).kind ≢ continuation_kind)
     (ms : List (ℕ × List ℕ)) (plain : AllByRecursion IsPlain ms) (long : length (messages_bytes ms) ≡ 8 + (kept_at m.list k).size)
     (small : length m.list - 1 + length ms < 65536) where
   abbrev pub x : Placed

@@ -9,6 +9,7 @@ use Rattle.h5_bytes.specs.Blocks.{holds, cover, Inside}
 use Rattle.h5_bytes.specs.declared.Block.{Block}
 use Rattle.h5_bytes.proofs.PartLaws.{length-part}
 use Rattle.h5_bytes.proofs.BlockLaws.{cover-append, all_left, all_right}
+use Rattle.h5_model.specs.Format.MessageTypes.{continuation_kind}
 use Rattle.h5_model.specs.Format.Messages.{Message, IsMessage, IsContinued, FillBlocks, continuation, continuations, first_block}
 use Rattle.h5_model.specs.Format.Reached.{Met, kind_at, size_at}
 use Rattle.h5_model.specs.Format.Addresses.{continuation_of}
@@ -57,7 +58,7 @@ module _ (image : List ℕ) (header : ℕ) (b : Block) (to : ℕ) (m : Message) 
   fits_here : b.at + to + 8 + size_at image (b.at + to) ≤ b.at + b.len
   fits_here = fits image header b to m is met
 
-  long_here : kind_at image (b.at + to) ≡ 16 → 16 ≤ size_at image (b.at + to)
+  long_here : kind_at image (b.at + to) ≡ continuation_kind → 16 ≤ size_at image (b.at + to)
   long_here is_16 =
       let long : 16 ≤ length m.body = some_long m.body (taken.continued (kind_is ∙ is_16)) in
       let len : length m.body ≤ size_at image (b.at + to) = rw (body image header b to m is met) (length-part-le (b.at + to + 8) (size_at image (b.at + to)) image) in

@@ -5,6 +5,7 @@ use Rattle.std.proofs.Math.Seq.{set-append_seam}
 use Rattle.h5_bytes.specs.Bytes.{part, with_part}
 use Rattle.h5_bytes.specs.Blocks.{holds, cover}
 use Rattle.h5_bytes.proofs.PartLaws.{part-with_part_same}
+use Rattle.h5_model.specs.Format.MessageTypes.{continuation_kind}
 use Rattle.h5_model.specs.Format.Messages.{Message, prefix_at, reference_count}
 use Rattle.h5_header.specs.Listed.{Listed, message_in, messages_in}
 use Rattle.h5_header.specs.Standing.{IsStanding, kept_at, nowhere, with_body, none}
@@ -12,7 +13,7 @@ use Rattle.h5_header.specs.declared.message.Message.{Message as Placed}
 use Rattle.h5_header.proofs.CutLaws.{IsCut, cut_by_place}
 use Rattle.h5_header.proofs.BodyWrites.{body_inside, body_covered, prefix_stays, said, said_now, still_standing}
 
-module _ (old : List ℕ) (m : Listed) (is : IsStanding old m) (k : ℕ) (low : k < length m.list) (own : (kept_at m.list k).kind ≢ 16)
+module _ (old : List ℕ) (m : Listed) (is : IsStanding old m) (k : ℕ) (low : k < length m.list) (own : (kept_at m.list k).kind ≢ continuation_kind)
     (w : List ℕ) (long : length w ≡ (kept_at m.list k).size) where
   abbrev x : Placed
   x = kept_at m.list k

@@ -25,3 +25,13 @@ messages_in image ms = map (message_in image) ms
 -- the bodies of these messages lie below an end
 abbrev pub IsWithin : ℕ → List Placed → Type 0
 IsWithin end ms = AllByRecursion (λ m. m.at + m.size ≤ end) ms
+
+-- a header in its image: the image's bytes, where the header begins, and its messages, by their places and with their bodies
+pub record HeaderIn : Type 0 where
+  pub image : List ℕ
+  pub address : ℕ
+  pub list : List Placed
+  pub messages : List Message
+
+abbrev pub header_told : List ℕ → Listed → HeaderIn
+header_told image m = record { image = image; address = m.header; list = m.list; messages = messages_in image m.list }

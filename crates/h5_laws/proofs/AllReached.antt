@@ -7,6 +7,7 @@ use Rattle.std.specs.Ordering.{nat_cmp}
 use Rattle.std.specs.Cmp.Lexicographic.{slice_cmp}
 use Rattle.std.specs.FinMap.{FinMap, get, entries, get-entries}
 use Rattle.std.specs.List.{AllByRecursion, range_with_len, flat_map}
+use Rattle.h5_model.specs.Format.MessageTypes.{symbol_table_kind}
 use Rattle.h5_bytes.specs.Bytes.{part}
 use Rattle.h5_bytes.specs.Texts.{text_at}
 use Rattle.h5_model.specs.Format.Addresses.{symbol_table_of}
@@ -77,7 +78,7 @@ module _ (image : List ℕ) (table : FinMap nat_cmp ℕ) (tree : Tree) (placed :
   group_at o at has links is path leads = elim (content_cases image table has.messages o.object.content has.content_blocks has.content) [
     | inl g ↦
         let s = (g.3).symbol_table in
-        let first = said_first symbol_table_of 17 has.messages s (g.3).chosen in
+        let first = said_first symbol_table_of symbol_table_kind has.messages s (g.3).chosen in
         let both : Group g.0 ≡ Group links = sym g.1 ∙ is in
         let same : g.0 ≡ links = cc in (
           s.tree,

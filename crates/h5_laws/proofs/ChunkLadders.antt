@@ -31,7 +31,7 @@ one_at [] (suc i) = refl
 one_at (x ∷ xs) zero = refl
 one_at (x ∷ xs) (suc i) = one_at xs i
 
-zip_long : {X Y : Type 0} (xs : List X) (ys : List Y) → length xs ≡ length ys + 1 → length (zip xs ys) ≡ length ys
+pub zip_long : {X Y : Type 0} (xs : List X) (ys : List Y) → length xs ≡ length ys + 1 → length (zip xs ys) ≡ length ys
 zip_long [] ys long = absurd (omega (arith, long))
 zip_long (x ∷ xs) [] long = refl
 zip_long (x ∷ xs) (y ∷ ys) long = ap suc (zip_long xs ys (omega (arith, long)))

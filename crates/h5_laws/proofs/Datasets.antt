@@ -7,6 +7,7 @@ use Rattle.std.specs.Ordering.{nat_cmp}
 use Rattle.std.specs.FinMap.{FinMap}
 use Rattle.std.specs.List.{find, flat_map}
 use Rattle.h5_bytes.specs.declared.Block.{Block}
+use Rattle.h5_model.specs.Format.MessageTypes.{data_layout_kind}
 use Rattle.h5_model.specs.Format.Messages.{Message, HasMessages, first_block, first_body}
 use Rattle.h5_model.specs.Format.Fixed.{Fixed}
 use Rattle.h5_model.specs.Tree.Places.{cells}
@@ -85,16 +86,16 @@ module _ (image : List ℕ) (messages : List Message) (d : Dataset) (blocks : Li
 
 module _ (image : List ℕ) (table : FinMap nat_cmp ℕ) (tree : Tree) (placed : List Placed) (depth : ℕ) (k : Known image table tree placed depth) where
   -- an object with a Data Layout message is a dataset
-  pub dataset_known : (m : Message) → In m k.has.messages → m.kind ≡ 8 → (d : KnownDataset image table tree placed depth) × (d.k ≡ k)
+  pub dataset_known : (m : Message) → In m k.has.messages → m.kind ≡ data_layout_kind → (d : KnownDataset image table tree placed depth) × (d.k ≡ k)
   dataset_known m at is = elim (content_cases image table k.has.messages k.o.object.content k.has.content_blocks k.has.content) [
-    | inl group ↦ absurd (let none : false ≡ true = of_group_kind k.has.messages m 8 (group.3).known at is in cc)
+    | inl group ↦ absurd (let none : false ≡ true = of_group_kind k.has.messages m data_layout_kind (group.3).known at is in cc)
     | inr array ↦ (record { k = k; d = array.0; is = array.1; stored = array.2 }, refl)
   ]
 
-  module _ (messages : List Message) (same : messages ≡ k.has.messages) (m : Message) (t : Fixed) (first : find (λ x. x.kind == 8) messages ≡ Some m)
+  module _ (messages : List Message) (same : messages ≡ k.has.messages) (m : Message) (t : Fixed) (first : find (λ x. x.kind == data_layout_kind) messages ≡ Some m)
       (type : type_among messages ≡ Some t) where
-    there : In m k.has.messages × (m.kind ≡ 8)
-    there = find_in 8 k.has.messages m (subst (λ (ms : List Message). find (λ x. x.kind == 8) ms ≡ Some m) same first)
+    there : In m k.has.messages × (m.kind ≡ data_layout_kind)
+    there = find_in data_layout_kind k.has.messages m (subst (λ (ms : List Message). find (λ x. x.kind == data_layout_kind) ms ≡ Some m) same first)
 
     d : (d : KnownDataset image table tree placed depth) × (d.k ≡ k)
     d = dataset_known m there.0 there.1
@@ -102,8 +103,8 @@ module _ (image : List ℕ) (table : FinMap nat_cmp ℕ) (tree : Tree) (placed :
     same_there : messages ≡ d.0.k.has.messages
     same_there = same ∙ sym (ap (λ (x : Known image table tree placed depth). x.has.messages) d.1)
 
-    first_there : find (λ x. x.kind == 8) d.0.k.has.messages ≡ Some m
-    first_there = subst (λ (ms : List Message). find (λ x. x.kind == 8) ms ≡ Some m) same_there first
+    first_there : find (λ x. x.kind == data_layout_kind) d.0.k.has.messages ≡ Some m
+    first_there = subst (λ (ms : List Message). find (λ x. x.kind == data_layout_kind) ms ≡ Some m) same_there first
 
     pub bytes_known : (b : Block) → layout_among messages ≡ Some (InBlock (Some b)) → KnownBytes image table tree placed depth (m.at + 2) b.at
     bytes_known b among = record {

@@ -161,7 +161,7 @@ module _ (image : List ℕ) (table : FinMap nat_cmp ℕ) (tree : Tree) (placed :
   bytes_entered : (depth field at : ℕ) → KnownBytes image table tree placed depth field at → Among (Some field, block at (number_at image (field + 8) 8))
   bytes_entered depth field at k =
       let ms = k.d.k.has.messages in
-      let there = find_in 8 ms k.m k.first in
+      let there = find_in data_layout_kind ms k.m k.first in
       let bodied = message_bodied image k.d.k.o.header ms k.d.k.has.header_blocks k.d.k.has.listed (header_inside image table tree placed reads depth k.d.k) k.m there.0 in
       let body : first_body data_layout_kind ms ≡ Some k.m.body = ap (option_map (λ (x : Message). x.body)) k.first in
       let laid : layout_of k.d.d.sizes k.d.d.fixed.size k.m.body ≡ Some (InBlock (Some k.b))

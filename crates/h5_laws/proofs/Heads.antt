@@ -10,6 +10,7 @@ use Rattle.h5_bytes.specs.declared.Block.{Block}
 use Rattle.h5_bytes.proofs.PartLaws.{part-part, length-part}
 use Rattle.h5_bytes.proofs.FieldLaws.{number_at-part}
 use Rattle.h5_model.specs.Format.Addresses.{continuation_of}
+use Rattle.h5_model.specs.Format.MessageTypes.{continuation_kind}
 use Rattle.h5_model.specs.Format.Messages.{Message, IsMessage, Fills, FillBlocks, HasMessages, continuation, continuations, first_block, prefix_at, first_size}
 use Rattle.h5_model.specs.Format.Reached.{Met, at_start, behind, in_continuation, kind_at, size_at}
 use Rattle.h5_laws.proofs.Lists.{In, in_all, in_left, in_right, in_flat, from_flat, in_either}
@@ -145,8 +146,8 @@ unfolding continuation_of
 names_block image at size body is inside long =
     let two = two_numbers image at size body is inside long in rw (two.0, two.1, two.2) refl
 
-pub in_continuations : (m : Message) (b : Block) → m.kind ≡ 16 → continuation_of m.body ≡ Some b → In b (continuation m)
-in_continuations m b kind is = let same : (m.kind == 16) ≡ true = grind (arith, nat_tests) in rw (same, is) (inl refl)
+pub in_continuations : (m : Message) (b : Block) → m.kind ≡ continuation_kind → continuation_of m.body ≡ Some b → In b (continuation m)
+in_continuations m b kind is = let same : (m.kind == continuation_kind) ≡ true = grind (arith, nat_tests) in rw (same, is) (inl refl)
 
 module _ (image : List ℕ) (header : ℕ) (messages : List Message) (blocks : List Block) (has : HasMessages image header messages blocks)
     (inside : Inside (length image) blocks) where
@@ -173,7 +174,7 @@ module _ (image : List ℕ) (header : ℕ) (messages : List Message) (blocks : L
   first_standing = standing_block (first_block image header) (omega (arith, laid.0)) (inl (inl refl))
 
   -- the messages of a block that a message of the list names
-  pub named_standing : (m : Message) (b : Block) → In m messages → m.kind ≡ 16 → continuation_of m.body ≡ Some b → Standing image messages b.at (b.at + b.len)
+  pub named_standing : (m : Message) (b : Block) → In m messages → m.kind ≡ continuation_kind → continuation_of m.body ≡ Some b → Standing image messages b.at (b.at + b.len)
   named_standing m b member kind is =
       let named : In b (continuations messages) = in_flat continuation m b messages member (in_continuations m b kind is) in
       standing_block b (in_all (λ (c : Block). c.at + c.len ≤ length image) b (continuations messages) laid.1 named)

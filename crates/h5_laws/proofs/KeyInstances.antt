@@ -13,7 +13,7 @@ use Rattle.h5_laws.specs.NameLadders.{name_sides}
 use Rattle.h5_laws.proofs.ChunkLadders.{before_after, chunk_order}
 use Rattle.h5_laws.proofs.KeyInserts.{IsGrown}
 
-not_after_or : (a b : List ℕ) → NotAfter a b ⊎ Before b a
+pub not_after_or : (a b : List ℕ) → NotAfter a b ⊎ Before b a
 not_after_or a b = by_order (slice_cmp nat_cmp a b) refl where
   by_order : (r : Ordering) → slice_cmp nat_cmp a b ≡ r → NotAfter a b ⊎ Before b a
   by_order Less is = inl (ap is_le is)

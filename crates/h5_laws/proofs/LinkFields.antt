@@ -12,6 +12,7 @@ use Rattle.std.specs.List.{AllByRecursion, AllZip, flat_map, find, range_with_le
 use Rattle.h5_bytes.specs.Texts.{text_at}
 use Rattle.h5_bytes.specs.declared.Block.{Block}
 use Rattle.h5_model.specs.Format.Addresses.{SymbolTable, symbol_table_of}
+use Rattle.h5_model.specs.Format.MessageTypes.{symbol_table_kind}
 use Rattle.h5_model.specs.Format.Messages.{Message, HasMessages}
 use Rattle.h5_model.specs.Format.Heap.{segment_of}
 use Rattle.h5_model.specs.Format.Rows.{leaves}
@@ -45,7 +46,7 @@ tree_links image root =
 
 abbrev pub object_links : List ℕ → List Message → List (ℕ × ℕ)
 object_links image ms =
-    option_map_or (λ (m : Message). option_map_or (λ (s : SymbolTable). tree_links image s.tree) (symbol_table_of m.body) []) (find (λ m. m.kind == 17) ms) []
+    option_map_or (λ (m : Message). option_map_or (λ (s : SymbolTable). tree_links image s.tree) (symbol_table_of m.body) []) (find (λ m. m.kind == symbol_table_kind) ms) []
 
 abbrev pub placed_links : (image : List ℕ) (table : FinMap nat_cmp ℕ) (placed : List Placed) → AllByRecursion (IsPlaced image table) placed → List (ℕ × ℕ)
 placed_links image table [] each = []
@@ -54,7 +55,7 @@ placed_links image table (x ∷ placed) each = object_links image each.0.message
 -- ---- the links of an object, by its messages
 
 pub table_links : (image : List ℕ) (ms : List Message) (m : Message) (s : SymbolTable) (found : List (List ℕ × Target)) (blocks : List Block)
-    → find (λ x. x.kind == 17) ms ≡ Some m → symbol_table_of m.body ≡ Some s → (has : HasLinks image (leaf_k image) (internal_k image) s.tree s.heap found blocks)
+    → find (λ x. x.kind == symbol_table_kind) ms ≡ Some m → symbol_table_of m.body ≡ Some s → (has : HasLinks image (leaf_k image) (internal_k image) s.tree s.heap found blocks)
     → object_links image ms ≡ flat_map (node_links image) has.symbol_nodes
 table_links image ms m s found blocks first says has =
     let kind = group_kind (internal_k image) in
@@ -69,14 +70,14 @@ table_links image ms m s found blocks first says has =
 pub group_links : (image : List ℕ) (ms : List Message) (found : List (List ℕ × Target)) (blocks : List Block) (has : HasGroup image ms found blocks)
     → object_links image ms ≡ flat_map (node_links image) has.linked.symbol_nodes
 group_links image ms found blocks has =
-    let first = said_first symbol_table_of 17 ms has.symbol_table has.chosen in
+    let first = said_first symbol_table_of symbol_table_kind ms has.symbol_table has.chosen in
     table_links image ms first.0 has.symbol_table found blocks first.1 first.2 has.linked
 
 -- a dataset has none
 pub no_links : (image : List ℕ) (ms : List Message) (d : Dataset) (blocks : List Block) → HasDataset image ms d blocks → object_links image ms ≡ []
 no_links image ms d blocks has =
-    let none : find (λ m. m.kind == 17) ms ≡ None
-    = find_none 17 ms (λ m at is. let never : false ≡ true = of_dataset_kind ms m 17 has.known at is in absurd (cc)) in
+    let none : find (λ m. m.kind == symbol_table_kind) ms ≡ None
+    = find_none symbol_table_kind ms (λ m at is. let never : false ≡ true = of_dataset_kind ms m symbol_table_kind has.known at is in absurd (cc)) in
     ap (λ (o : Option Message). option_map_or (λ (x : Message). option_map_or (λ (t : SymbolTable). tree_links image t.tree) (symbol_table_of x.body) []) o []) none
 
 -- ---- how many lead to a header

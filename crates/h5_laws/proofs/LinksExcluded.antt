@@ -6,6 +6,7 @@ use Rattle.std.specs.Option.{option_and_then}
 use Rattle.std.specs.Ordering.{nat_cmp}
 use Rattle.std.specs.FinMap.{FinMap}
 use Rattle.h5_bytes.specs.declared.Block.{Block}
+use Rattle.h5_model.specs.Format.MessageTypes.{symbol_table_kind}
 use Rattle.h5_model.specs.Format.Messages.{Message}
 use Rattle.h5_model.specs.Tree.Objects.{Tree, Object, Content, Group, Array, hard_links, links_of, links_in}
 use Rattle.h5_model.specs.Format.Reads.{Placed, ReadsAs, IsCounted, IsGroup, HasContent, Holds}
@@ -23,9 +24,9 @@ use Rattle.h5_laws.proofs.LinkCounts.{counts, reached_link, linked_fields, field
 
 -- a content with a Symbol Table message is a group's
 table_is_group : (image : List ℕ) (table : FinMap nat_cmp ℕ) (ms : List Message) (c : Content) (blocks : List Block)
-    → HasContent image table ms c blocks → (m : Message) → In m ms → m.kind ≡ 17 → IsGroup c
+    → HasContent image table ms c blocks → (m : Message) → In m ms → m.kind ≡ symbol_table_kind → IsGroup c
 table_is_group image table ms (Group links) blocks has m at is = tt
-table_is_group image table ms (Array d) blocks has m at is = absurd (let never : false ≡ true = of_dataset_kind ms m 17 has.known at is in cc)
+table_is_group image table ms (Array d) blocks has m at is = absurd (let never : false ≡ true = of_dataset_kind ms m symbol_table_kind has.known at is in cc)
 
 links_are_group : (c : Content) → is_some (links_in c) ≡ true → IsGroup c
 links_are_group (Group links) h = tt
@@ -66,8 +67,8 @@ module _ (image : List ℕ) (table : FinMap nat_cmp ℕ) (tree : Tree) (placed :
   abbrev links : List (ℕ × ℕ)
   links = all_links image table placed stands.each
 
-  seventeen : (n : ℕ) → IsTrue (n == 17) → n ≡ 17
-  seventeen n h = grind (arith, nat_tests)
+  of_table : (n : ℕ) → IsTrue (n == symbol_table_kind) → n ≡ symbol_table_kind
+  of_table n h = grind (arith, nat_tests)
 
   two_apart : (f g : ℕ) → g ≢ f → In f (g ∷ []) → ⊥
   two_apart f g other (inl e) = other e
@@ -81,9 +82,9 @@ module _ (image : List ℕ) (table : FinMap nat_cmp ℕ) (tree : Tree) (placed :
   pub twice_excluded : (x : Named) → Reached image x → IsLinkedTwice image x → ⊥
   twice_excluded x reached (is, some, (y, reached_y, other, same, is_y)) =
       let k = header_known image table tree placed stands x reached is in
-      let message = subst (λ (h : ℕ). SomeMessage image h (λ kind. kind == 17)) (sym k.1) some in
+      let message = subst (λ (h : ℕ). SomeMessage image h (λ kind. kind == symbol_table_kind)) (sym k.1) some in
       let head = met_head image k.0.o.header k.0.has.messages k.0.has.header_blocks k.0.has.listed (header_inside image table tree placed stands x.depth k.0) message.0 message.1 in
-      let kind : kind_at image message.0 ≡ 17 = seventeen (kind_at image message.0) message.2 in
+      let kind : kind_at image message.0 ≡ symbol_table_kind = of_table (kind_at image message.0) message.2 in
       let group = table_is_group image table k.0.has.messages k.0.o.object.content k.0.has.content_blocks k.0.has.content head.m head.member (head.kind ∙ kind) in
       let once = (is_counted k.0.o k.0.member).once group in
       let first : In (x.field, k.0.o.header) links = subst (λ (h : ℕ). In (x.field, h) links) (sym k.1) (reached_link image table tree placed stands x reached is) in

@@ -7,7 +7,7 @@ use Rattle.std.specs.Ordering.{nat_cmp, eq_by_cmp}
 use Rattle.std.specs.Cmp.Lexicographic.{slice_cmp}
 use Rattle.std.specs.List.{AllByRecursion, AllZip, filter, filter_map, list_any, find, IsDistinct}
 use Rattle.h5_bytes.specs.declared.Block.{Block}
-use Rattle.h5_model.specs.Format.MessageTypes.{data_layout_kind, dataspace_kind, datatype_kind, symbol_table_kind}
+use Rattle.h5_model.specs.Format.MessageTypes.{data_layout_kind, dataspace_kind, datatype_kind, symbol_table_kind, old_fill_value_kind, fill_value_kind, attribute_kind}
 use Rattle.h5_model.specs.Format.Addresses.{symbol_table_of}
 use Rattle.h5_model.specs.Format.Messages.{Message, count_of, first_body}
 use Rattle.h5_model.specs.Format.Fixed.{Fixed}
@@ -88,19 +88,19 @@ module _ (ms : List Message) (attributes : Attributes) (has : HasAttributes ms a
       twice (subst (λ (l : List (List ℕ × Attribute)). IsDistinct (eq_by_cmp (slice_cmp nat_cmp)) (map (λ a. a.0) l))
       (sym (mapped (λ (m : Message). attribute_of m.body) (filter is_attribute_message ms) has.listed has.each)) has.distinct)
 
-  attribute_there : (m : Message) → In m ms → m.kind ≡ 12 → (a : List ℕ × Attribute) × In a has.listed × (attribute_of m.body ≡ Some a)
+  attribute_there : (m : Message) → In m ms → m.kind ≡ attribute_kind → (a : List ℕ × Attribute) × In a has.listed × (attribute_of m.body ≡ Some a)
   attribute_there m at is =
-      let passes : (m.kind == 12) ≡ true = grind (arith, nat_tests) in
+      let passes : (m.kind == attribute_kind) ≡ true = grind (arith, nat_tests) in
       tied_right (λ (x : Message) (a : List ℕ × Attribute). attribute_of x.body ≡ Some a) (filter is_attribute_message ms) has.listed m has.each
       (kept_filter is_attribute_message m ms passes at)
 
-  pub attributes_excluded : SomeBody 12 ms (λ body. attribute_of body ≡ None) → ⊥
+  pub attributes_excluded : SomeBody attribute_kind ms (λ body. attribute_of body ≡ None) → ⊥
   attributes_excluded (m, at, is, fails) =
       let a = attribute_there m (in_contains m ms at) is in
       let no_way : None ≡ Some a.0 = sym fails ∙ a.2 in
       absurd (cc)
 
-  pub attribute_size_excluded : SomeBody 12 ms (λ body. (a : List ℕ × Attribute) × (attribute_of body ≡ Some a) × (2 ^ 40 < extent_cells (a.1).sizes)) → ⊥
+  pub attribute_size_excluded : SomeBody attribute_kind ms (λ body. (a : List ℕ × Attribute) × (attribute_of body ≡ Some a) × (2 ^ 40 < extent_cells (a.1).sizes)) → ⊥
   attribute_size_excluded (m, at, is, (a, says, large)) =
       let there = attribute_there m (in_contains m ms at) is in
       let both : Some a ≡ Some there.0 = sym says ∙ there.2 in
@@ -125,98 +125,98 @@ module _ (image : List ℕ) (ms : List Message) (found : List (List ℕ × Targe
   pub group_missing : count_of symbol_table_kind ms ≡ 0 → ⊥
   group_missing none = absurd (omega (arith, none, has.once))
 
-  pub group_twice : IsTrue (list_any (stands_twice ms) (1 ∷ 3 ∷ 4 ∷ 5 ∷ 8 ∷ 17 ∷ [])) → ⊥
-  group_twice h = never (list_any (stands_twice ms) (1 ∷ 3 ∷ 4 ∷ 5 ∷ 8 ∷ 17 ∷ [])) (none_any (stands_twice ms) (1 ∷ 3 ∷ 4 ∷ 5 ∷ 8 ∷ 17 ∷ []) (
-    not_twice 1 ms (omega (arith, no_count 1 refl)),
+  pub group_twice : IsTrue (list_any (stands_twice ms) (dataspace_kind ∷ datatype_kind ∷ old_fill_value_kind ∷ fill_value_kind ∷ data_layout_kind ∷ symbol_table_kind ∷ [])) → ⊥
+  group_twice h = never (list_any (stands_twice ms) (dataspace_kind ∷ datatype_kind ∷ old_fill_value_kind ∷ fill_value_kind ∷ data_layout_kind ∷ symbol_table_kind ∷ [])) (none_any (stands_twice ms) (dataspace_kind ∷ datatype_kind ∷ old_fill_value_kind ∷ fill_value_kind ∷ data_layout_kind ∷ symbol_table_kind ∷ []) (
+    not_twice dataspace_kind ms (omega (arith, no_count dataspace_kind refl)),
     (
-      not_twice 3 ms (omega (arith, no_count 3 refl)),
+      not_twice datatype_kind ms (omega (arith, no_count datatype_kind refl)),
       (
-        not_twice 4 ms (omega (arith, no_count 4 refl)),
+        not_twice old_fill_value_kind ms (omega (arith, no_count old_fill_value_kind refl)),
         (
-          not_twice 5 ms (omega (arith, no_count 5 refl)),
+          not_twice fill_value_kind ms (omega (arith, no_count fill_value_kind refl)),
           (
-            not_twice 8 ms (omega (arith, no_count 8 refl)),
-            (not_twice 17 ms (omega (arith, has.once)), tt),
+            not_twice data_layout_kind ms (omega (arith, no_count data_layout_kind refl)),
+            (not_twice symbol_table_kind ms (omega (arith, has.once)), tt),
           ),
         ),
       ),
     ),
   )) h
 
-  pub group_mixed : IsTrue (list_any (stands ms) (1 ∷ 3 ∷ 4 ∷ 5 ∷ 8 ∷ [])) → ⊥
-  group_mixed h = never (list_any (stands ms) (1 ∷ 3 ∷ 4 ∷ 5 ∷ 8 ∷ [])) (none_any (stands ms) (1 ∷ 3 ∷ 4 ∷ 5 ∷ 8 ∷ []) (
-    not_there 1 ms (no_count 1 refl),
+  pub group_mixed : IsTrue (list_any (stands ms) (dataspace_kind ∷ datatype_kind ∷ old_fill_value_kind ∷ fill_value_kind ∷ data_layout_kind ∷ [])) → ⊥
+  group_mixed h = never (list_any (stands ms) (dataspace_kind ∷ datatype_kind ∷ old_fill_value_kind ∷ fill_value_kind ∷ data_layout_kind ∷ [])) (none_any (stands ms) (dataspace_kind ∷ datatype_kind ∷ old_fill_value_kind ∷ fill_value_kind ∷ data_layout_kind ∷ []) (
+    not_there dataspace_kind ms (no_count dataspace_kind refl),
     (
-      not_there 3 ms (no_count 3 refl),
+      not_there datatype_kind ms (no_count datatype_kind refl),
       (
-        not_there 4 ms (no_count 4 refl),
+        not_there old_fill_value_kind ms (no_count old_fill_value_kind refl),
         (
-          not_there 5 ms (no_count 5 refl),
-          (not_there 8 ms (no_count 8 refl), tt),
+          not_there fill_value_kind ms (no_count fill_value_kind refl),
+          (not_there data_layout_kind ms (no_count data_layout_kind refl), tt),
         ),
       ),
     ),
   )) h
 
-  pub group_no_space : SomeBody 1 ms (λ body. extent_of body ≡ None) → ⊥
-  group_no_space h = no_body 1 (λ body. extent_of body ≡ None) refl h
+  pub group_no_space : SomeBody dataspace_kind ms (λ body. extent_of body ≡ None) → ⊥
+  group_no_space h = no_body dataspace_kind (λ body. extent_of body ≡ None) refl h
 
-  pub group_no_type : SomeBody 3 ms (λ body. fixed_of body ≡ None) → ⊥
-  group_no_type h = no_body 3 (λ body. fixed_of body ≡ None) refl h
+  pub group_no_type : SomeBody datatype_kind ms (λ body. fixed_of body ≡ None) → ⊥
+  group_no_type h = no_body datatype_kind (λ body. fixed_of body ≡ None) refl h
 
   pub group_no_fill : (t : Fixed) → IsBadFill ms t → ⊥
-  group_no_fill t (inl h) = no_body 4 (λ body. old_fill_value t body ≡ None) refl h
-  group_no_fill t (inr h) = no_body 5 (λ body. fill_value t body ≡ None) refl h
+  group_no_fill t (inl h) = no_body old_fill_value_kind (λ body. old_fill_value t body ≡ None) refl h
+  group_no_fill t (inr h) = no_body fill_value_kind (λ body. fill_value t body ≡ None) refl h
 
-  pub group_no_layout : (e : Extent) (t : Fixed) → SomeBody 8 ms (λ body. layout_of e.sizes t.size body ≡ None) → ⊥
-  group_no_layout e t h = no_body 8 (λ body. layout_of e.sizes t.size body ≡ None) refl h
+  pub group_no_layout : (e : Extent) (t : Fixed) → SomeBody data_layout_kind ms (λ body. layout_of e.sizes t.size body ≡ None) → ⊥
+  group_no_layout e t h = no_body data_layout_kind (λ body. layout_of e.sizes t.size body ≡ None) refl h
 
-  pub group_tables : SomeBody 17 ms (λ body. symbol_table_of body ≡ None) → ⊥
-  group_tables h = fails_not symbol_table_of 17 ms has.symbol_table (omega (arith, has.once)) has.chosen h
+  pub group_tables : SomeBody symbol_table_kind ms (λ body. symbol_table_of body ≡ None) → ⊥
+  group_tables h = fails_not symbol_table_of symbol_table_kind ms has.symbol_table (omega (arith, has.once)) has.chosen h
 
   pub group_small : (attributes : Attributes) → HasAttributes ms attributes → IsLarge ms → ⊥
-  group_small attributes are (inl h) = no_body 1 (λ body. (e : Extent) × (extent_of body ≡ Some e) × (2 ^ 40 < extent_cells e.sizes)) refl h
+  group_small attributes are (inl h) = no_body dataspace_kind (λ body. (e : Extent) × (extent_of body ≡ Some e) × (2 ^ 40 < extent_cells e.sizes)) refl h
   group_small attributes are (inr (inl h)) = attribute_size_excluded ms attributes are h
   group_small attributes are (inr (inr (t, sizes, root, type, layout, large))) =
-      let m = said_by fixed_of 3 ms t type in no_message 3 refl m.0 m.1 m.2
+      let m = said_by fixed_of datatype_kind ms t type in no_message datatype_kind refl m.0 m.1 m.2
 
 -- ---- datasets
 
 module _ (image : List ℕ) (ms : List Message) (d : Dataset) (blocks : List Block) (has : HasDataset image ms d blocks) where
   no_tables : count_of symbol_table_kind ms ≡ 0
-  no_tables = none_counted 17 ms (λ m at is. let no_way : false ≡ true = of_dataset_kind ms m 17 has.known at is in absurd (cc))
+  no_tables = none_counted symbol_table_kind ms (λ m at is. let no_way : false ≡ true = of_dataset_kind ms m symbol_table_kind has.known at is in absurd (cc))
 
   pub dataset_missing : (count_of dataspace_kind ms ≡ 0) ⊎ ((count_of datatype_kind ms ≡ 0) ⊎ (count_of data_layout_kind ms ≡ 0)) → ⊥
   dataset_missing (inl none) = absurd (omega (arith, none, has.array.one_space))
   dataset_missing (inr (inl none)) = absurd (omega (arith, none, has.array.one_type))
   dataset_missing (inr (inr none)) = absurd (omega (arith, none, has.array.one_layout))
 
-  pub dataset_twice : IsTrue (list_any (stands_twice ms) (1 ∷ 3 ∷ 4 ∷ 5 ∷ 8 ∷ 17 ∷ [])) → ⊥
-  dataset_twice h = never (list_any (stands_twice ms) (1 ∷ 3 ∷ 4 ∷ 5 ∷ 8 ∷ 17 ∷ [])) (none_any (stands_twice ms) (1 ∷ 3 ∷ 4 ∷ 5 ∷ 8 ∷ 17 ∷ []) (
-    not_twice 1 ms (omega (arith, has.array.one_space)),
+  pub dataset_twice : IsTrue (list_any (stands_twice ms) (dataspace_kind ∷ datatype_kind ∷ old_fill_value_kind ∷ fill_value_kind ∷ data_layout_kind ∷ symbol_table_kind ∷ [])) → ⊥
+  dataset_twice h = never (list_any (stands_twice ms) (dataspace_kind ∷ datatype_kind ∷ old_fill_value_kind ∷ fill_value_kind ∷ data_layout_kind ∷ symbol_table_kind ∷ [])) (none_any (stands_twice ms) (dataspace_kind ∷ datatype_kind ∷ old_fill_value_kind ∷ fill_value_kind ∷ data_layout_kind ∷ symbol_table_kind ∷ []) (
+    not_twice dataspace_kind ms (omega (arith, has.array.one_space)),
     (
-      not_twice 3 ms (omega (arith, has.array.one_type)),
+      not_twice datatype_kind ms (omega (arith, has.array.one_type)),
       (
-        not_twice 4 ms has.array.old_fills,
+        not_twice old_fill_value_kind ms has.array.old_fills,
         (
-          not_twice 5 ms has.array.fills,
+          not_twice fill_value_kind ms has.array.fills,
           (
-            not_twice 8 ms (omega (arith, has.array.one_layout)),
-            (not_twice 17 ms (omega (arith, no_tables)), tt),
+            not_twice data_layout_kind ms (omega (arith, has.array.one_layout)),
+            (not_twice symbol_table_kind ms (omega (arith, no_tables)), tt),
           ),
         ),
       ),
     ),
   )) h
 
-  pub dataset_mixed : IsTrue (stands ms 17) → ⊥
-  dataset_mixed h = never (stands ms 17) (not_there 17 ms no_tables) h
+  pub dataset_mixed : IsTrue (stands ms symbol_table_kind) → ⊥
+  dataset_mixed h = never (stands ms symbol_table_kind) (not_there symbol_table_kind ms no_tables) h
 
-  pub dataset_space : SomeBody 1 ms (λ body. extent_of body ≡ None) → ⊥
-  dataset_space h = fails_not extent_of 1 ms (record { sizes = d.sizes; maxima = d.maxima }) (omega (arith, has.array.one_space)) has.array.space h
+  pub dataset_space : SomeBody dataspace_kind ms (λ body. extent_of body ≡ None) → ⊥
+  dataset_space h = fails_not extent_of dataspace_kind ms (record { sizes = d.sizes; maxima = d.maxima }) (omega (arith, has.array.one_space)) has.array.space h
 
-  pub dataset_type : SomeBody 3 ms (λ body. fixed_of body ≡ None) → ⊥
-  dataset_type h = fails_not fixed_of 3 ms d.fixed (omega (arith, has.array.one_type)) has.array.type h
+  pub dataset_type : SomeBody datatype_kind ms (λ body. fixed_of body ≡ None) → ⊥
+  dataset_type h = fails_not fixed_of datatype_kind ms d.fixed (omega (arith, has.array.one_type)) has.array.type h
 
   fill_fails : (kind : ℕ) (value : List ℕ → Option ℤ) (fill : Option ℤ) → count_of kind ms ≤ 1 → IsFill value (first_body kind ms) fill
       → SomeBody kind ms (λ body. value body ≡ None) → ⊥
@@ -229,19 +229,19 @@ module _ (image : List ℕ) (ms : List Message) (d : Dataset) (blocks : List Blo
   pub dataset_fill : (t : Fixed) → type_among ms ≡ Some t → IsBadFill ms t → ⊥
   dataset_fill t type bad = go (subst (IsBadFill ms) (type_is image ms d blocks has t type) bad) where
     go : IsBadFill ms d.fixed → ⊥
-    go (inl h) = fill_fails 4 (old_fill_value d.fixed) (has.array.filled).old_fill has.array.old_fills (has.array.filled).old_filled h
-    go (inr h) = fill_fails 5 (fill_value d.fixed) (has.array.filled).new_fill has.array.fills (has.array.filled).new_filled h
+    go (inl h) = fill_fails old_fill_value_kind (old_fill_value d.fixed) (has.array.filled).old_fill has.array.old_fills (has.array.filled).old_filled h
+    go (inr h) = fill_fails fill_value_kind (fill_value d.fixed) (has.array.filled).new_fill has.array.fills (has.array.filled).new_filled h
 
-  pub dataset_layout : (e : Extent) (t : Fixed) → extent_among ms ≡ Some e → type_among ms ≡ Some t → SomeBody 8 ms (λ body. layout_of e.sizes t.size body ≡ None) → ⊥
+  pub dataset_layout : (e : Extent) (t : Fixed) → extent_among ms ≡ Some e → type_among ms ≡ Some t → SomeBody data_layout_kind ms (λ body. layout_of e.sizes t.size body ≡ None) → ⊥
   dataset_layout e t extent type bad =
       let sizes : e.sizes ≡ d.sizes = ap (λ (x : Extent). x.sizes) (extent_is image ms d blocks has e extent) in
       let size : t.size ≡ (d.fixed).size = ap (λ (x : Fixed). x.size) (type_is image ms d blocks has t type) in
-      let here = subst (λ (ds : List ℕ). SomeBody 8 ms (λ body. layout_of ds t.size body ≡ None)) sizes bad in
-      let there = subst (λ (n : ℕ). SomeBody 8 ms (λ body. layout_of d.sizes n body ≡ None)) size here in
-      fails_not (layout_of d.sizes (d.fixed).size) 8 ms has.layout (omega (arith, has.array.one_layout)) has.array.laid_out there
+      let here = subst (λ (ds : List ℕ). SomeBody data_layout_kind ms (λ body. layout_of ds t.size body ≡ None)) sizes bad in
+      let there = subst (λ (n : ℕ). SomeBody data_layout_kind ms (λ body. layout_of d.sizes n body ≡ None)) size here in
+      fails_not (layout_of d.sizes (d.fixed).size) data_layout_kind ms has.layout (omega (arith, has.array.one_layout)) has.array.laid_out there
 
-  pub dataset_tables : SomeBody 17 ms (λ body. symbol_table_of body ≡ None) → ⊥
-  dataset_tables (m, at, is, fails) = absurd (omega (arith, no_tables, counted 17 ms m (in_contains m ms at) is))
+  pub dataset_tables : SomeBody symbol_table_kind ms (λ body. symbol_table_of body ≡ None) → ⊥
+  dataset_tables (m, at, is, fails) = absurd (omega (arith, no_tables, counted symbol_table_kind ms m (in_contains m ms at) is))
 
   chunk_small : (t : Fixed) (sizes : List ℕ) (root : Option ℕ) → type_among ms ≡ Some t → layout_among ms ≡ Some (InChunks sizes root) → cells sizes * t.size ≤ 2 ^ 30
   chunk_small t sizes root type layout =
@@ -253,7 +253,7 @@ module _ (image : List ℕ) (ms : List Message) (d : Dataset) (blocks : List Blo
   pub dataset_small : (attributes : Attributes) → HasAttributes ms attributes → IsLarge ms → ⊥
   dataset_small attributes are (inl (m, at, is, (e, says, large))) =
       let good : extent_of m.body ≡ Some (record { sizes = d.sizes; maxima = d.maxima })
-      = says_of extent_of 1 ms m (Some (record { sizes = d.sizes; maxima = d.maxima })) (omega (arith, has.array.one_space)) (in_contains m ms at) is has.array.space in
+      = says_of extent_of dataspace_kind ms m (Some (record { sizes = d.sizes; maxima = d.maxima })) (omega (arith, has.array.one_space)) (in_contains m ms at) is has.array.space in
       let both : Some e ≡ Some (record { sizes = d.sizes; maxima = d.maxima }) = sym says ∙ good in
       let same : e ≡ record { sizes = d.sizes; maxima = d.maxima } = cc in
       let cells_same : extent_cells e.sizes ≡ extent_cells d.sizes = ap (λ (x : Extent). extent_cells x.sizes) same in

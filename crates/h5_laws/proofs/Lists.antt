@@ -1,23 +1,15 @@
 -- Members of lists.
-use Rattle.std.proofs.Common.{◌≡◌, ℕ, zero, suc, ◌+◌, ◌<◌, ◌⊎◌, inl, inr, List, [], ◌∷◌, ◌++◌, map, refl, sym, ap, ◌∙◌, subst, arith, Some}
+use Rattle.std.proofs.Common.{◌≡◌, ℕ, zero, suc, ◌+◌, ◌<◌, ◌⊎◌, inl, inr, List, [], ◌∷◌, ◌++◌, refl, sym, ap, ◌∙◌, subst, arith, Some}
 use Rattle.std.proofs.lemmas.Option.{same_Some}
 use Rattle.std.specs.Prelude.{slice_get}
-use Rattle.std.specs.List.{AllByRecursion, flat_map, Contains, range_with_len}
+use Rattle.std.specs.List.{AllByRecursion, flat_map, range_with_len}
 use Rattle.h5_bytes.specs.Tables.{table}
-
--- x is one of the list
-abbrev pub In : {X : Type 0} → X → List X → Type 0
-In x [] = ⊥
-In x (y ∷ ys) = (y ≡ x) ⊎ In x ys
+pub use Rattle.h5_model.proofs.Members.{In, all_in, contains_in, from_map, in_contains, in_map, in_range}
 
 pub in_all : {X : Type 0} (P : X → Type 0) (x : X) (xs : List X) → AllByRecursion P xs → In x xs → P x
 in_all P x [] all at = absurd at
 in_all P x (y ∷ ys) all (inl e) = subst P e all.0
 in_all P x (y ∷ ys) all (inr at) = in_all P x ys all.1 at
-
-pub all_in : {X : Type 0} (P : X → Type 0) (xs : List X) → ((x : X) → In x xs → P x) → AllByRecursion P xs
-all_in P [] f = tt
-all_in P (y ∷ ys) f = (f y (inl refl), all_in P ys (λ x at. f x (inr at)))
 
 pub in_left : {X : Type 0} (x : X) (xs ys : List X) → In x xs → In x (xs ++ ys)
 in_left x [] ys at = absurd at
@@ -33,16 +25,6 @@ in_either x [] ys at = inr at
 in_either x (z ∷ xs) ys (inl e) = inl (inl e)
 in_either x (z ∷ xs) ys (inr at) = elim (in_either x xs ys at) [ inl l ↦ inl (inr l) | inr r ↦ inr r ]
 
-pub in_map : {X Y : Type 0} (f : X → Y) (x : X) (xs : List X) → In x xs → In (f x) (map f xs)
-in_map f x [] at = absurd at
-in_map f x (y ∷ ys) (inl e) = inl (ap f e)
-in_map f x (y ∷ ys) (inr at) = inr (in_map f x ys at)
-
-pub from_map : {X Y : Type 0} (f : X → Y) (y : Y) (xs : List X) → In y (map f xs) → (x : X) × In x xs × (f x ≡ y)
-from_map f y [] at = absurd at
-from_map f y (x ∷ xs) (inl e) = (x, inl refl, e)
-from_map f y (x ∷ xs) (inr at) = let rest = from_map f y xs at in (rest.0, inr rest.1, rest.2)
-
 pub in_flat : {X Y : Type 0} (f : X → List Y) (x : X) (y : Y) (xs : List X) → In x xs → In y (f x) → In y (flat_map f xs)
 in_flat f x y [] at there = absurd at
 in_flat f x y (z ∷ xs) (inl e) there = in_left y (f z) (flat_map f xs) (subst (λ w. In y (f w)) (sym e) there)
@@ -55,17 +37,6 @@ from_flat f y (x ∷ xs) at = elim (in_either y (f x) (flat_map f xs) at) [
   | inr later ↦ let rest = from_flat f y xs later in (rest.0, inr rest.1, rest.2)
 ]
 
--- a member stands at a place
-pub in_contains : {X : Type 0} (x : X) (xs : List X) → Contains xs x → In x xs
-in_contains x [] (k, low, is) = absurd (omega (arith, low))
-in_contains x (y ∷ ys) (zero, low, is) = inl is
-in_contains x (y ∷ ys) (suc k, low, is) = inr (in_contains x ys (k, omega (arith, low), is))
-
-pub contains_in : {X : Type 0} (x : X) (xs : List X) → In x xs → Contains xs x
-contains_in x [] at = absurd at
-contains_in x (y ∷ ys) (inl e) = (0, omega arith, e)
-contains_in x (y ∷ ys) (inr at) = let rest = contains_in x ys at in (suc rest.0, omega (arith, rest.1), rest.2)
-
 -- the place at which it stands, and what stands at a place
 pub stands_at : {X : Type 0} (x : X) (xs : List X) → In x xs → (k : ℕ) × (slice_get xs k ≡ Some x)
 stands_at x [] at = absurd at
@@ -76,13 +47,6 @@ pub in_at : {X : Type 0} (xs : List X) (k : ℕ) (x : X) → slice_get xs k ≡ 
 in_at [] k x at = absurd (cc)
 in_at (y ∷ ys) zero x at = inl (same_Some y x at)
 in_at (y ∷ ys) (suc k) x at = inr (in_at ys k x at)
-
-pub in_range : (from n i : ℕ) → i < n → In (from + i) (range_with_len from n)
-in_range from zero i low = absurd (omega (arith, low))
-in_range from (suc n) zero low = inl (omega arith)
-in_range from (suc n) (suc i) low =
-    let over : from + 1 + i ≡ from + suc i = omega arith in
-    inr (subst (λ k. In k (range_with_len (from + 1) n)) over (in_range (from + 1) n i (omega (arith, low))))
 
 pub from_range : (from n k : ℕ) → In k (range_with_len from n) → (i : ℕ) × (i < n) × (k ≡ from + i)
 from_range from zero k at = absurd at

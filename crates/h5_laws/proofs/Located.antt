@@ -7,7 +7,7 @@ use Rattle.std.specs.List.{AllZip, AllByRecursion, find}
 use Rattle.h5_bytes.specs.Bytes.{number_at}
 use Rattle.h5_bytes.specs.Blocks.{block}
 use Rattle.h5_bytes.specs.declared.Block.{Block}
-use Rattle.h5_model.specs.Format.MessageTypes.{symbol_table_kind}
+use Rattle.h5_model.specs.Format.MessageTypes.{symbol_table_kind, data_layout_kind, continuation_kind}
 use Rattle.h5_model.specs.Format.Addresses.{continuation_of, symbol_table_of}
 use Rattle.h5_model.specs.Tree.Places.{cells}
 use Rattle.h5_model.specs.Format.Messages.{Message, count_of}
@@ -44,7 +44,7 @@ pub record KnownGroup (image : List ℕ) (table : FinMap nat_cmp ℕ) (tree : Tr
   pub in_group : AllByRecursion InGroup k.has.messages
   pub once : count_of symbol_table_kind k.has.messages ≡ 1
   pub m : Message
-  pub first : find (λ x. x.kind == 17) k.has.messages ≡ Some m
+  pub first : find (λ x. x.kind == symbol_table_kind) k.has.messages ≡ Some m
   pub says : symbol_table_of m.body ≡ Some (record { tree = root; heap = heap })
 
 -- such an object that is a dataset
@@ -82,7 +82,7 @@ pub record KnownBlock (image : List ℕ) (table : FinMap nat_cmp ℕ) (tree : Tr
   pub here : k.o.header ≡ header
   pub m : Message
   pub member : In m k.has.messages
-  pub kind : m.kind ≡ 16
+  pub kind : m.kind ≡ continuation_kind
   pub place : field ≡ m.at
   pub names : continuation_of m.body ≡ Some (block at (number_at image (field + 8) 8))
 
@@ -114,7 +114,7 @@ pub record KnownSegment (image : List ℕ) (table : FinMap nat_cmp ℕ) (tree : 
 pub record KnownBytes (image : List ℕ) (table : FinMap nat_cmp ℕ) (tree : Tree) (placed : List Placed) (depth field at : ℕ) : Type 0 where
   pub d : KnownDataset image table tree placed depth
   pub m : Message
-  pub first : find (λ x. x.kind == 8) d.k.has.messages ≡ Some m
+  pub first : find (λ x. x.kind == data_layout_kind) d.k.has.messages ≡ Some m
   pub b : Block
   pub laid : d.stored.layout ≡ InBlock (Some b)
   pub here : at ≡ b.at
@@ -124,7 +124,7 @@ pub record KnownBytes (image : List ℕ) (table : FinMap nat_cmp ℕ) (tree : Tr
 pub record KnownChunks (image : List ℕ) (table : FinMap nat_cmp ℕ) (tree : Tree) (placed : List Placed) (depth : ℕ) (shape : Shape) (root : ℕ) : Type 0 where
   pub d : KnownDataset image table tree placed depth
   pub m : Message
-  pub first : find (λ x. x.kind == 8) d.k.has.messages ≡ Some m
+  pub first : find (λ x. x.kind == data_layout_kind) d.k.has.messages ≡ Some m
   pub laid : d.stored.layout ≡ InChunks shape.sizes (Some root)
   pub size : shape.bytes ≡ cells shape.sizes * d.d.fixed.size
   pub chunks : HasChunks image (chunk_k image) shape.sizes shape.bytes root d.stored.chunks d.k.has.content_blocks

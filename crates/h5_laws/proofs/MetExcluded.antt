@@ -9,6 +9,7 @@ use Rattle.h5_bytes.specs.Blocks.{Inside}
 use Rattle.h5_bytes.specs.declared.Block.{Block}
 use Rattle.h5_bytes.proofs.PartLaws.{length-part}
 use Rattle.h5_model.specs.Format.Addresses.{continuation_of}
+use Rattle.h5_model.specs.Format.MessageTypes.{nil_kind, dataspace_kind, datatype_kind, old_fill_value_kind, fill_value_kind, data_layout_kind, attribute_kind, comment_kind, old_modification_time_kind, continuation_kind, symbol_table_kind, modification_time_kind}
 use Rattle.h5_model.specs.Format.Messages.{Message, HasMessages, IsContinued}
 use Rattle.h5_model.specs.Format.Reached.{Met, MessageAt, kind_at, size_at}
 use Rattle.h5_model.specs.Faults.HeaderFaults.{IsMisfit, SomeMessage, is_known, is_new_style}
@@ -19,49 +20,49 @@ use Rattle.h5_laws.proofs.Objects.{of_group, of_dataset}
 -- ---- types that headers may have
 
 abbrev pub allowed : List ℕ
-allowed = 17 ∷ 0 ∷ 16 ∷ 12 ∷ 13 ∷ 14 ∷ 18 ∷ 1 ∷ 3 ∷ 4 ∷ 5 ∷ 8 ∷ []
+allowed = symbol_table_kind ∷ nil_kind ∷ continuation_kind ∷ attribute_kind ∷ comment_kind ∷ old_modification_time_kind ∷ modification_time_kind ∷ dataspace_kind ∷ datatype_kind ∷ old_fill_value_kind ∷ fill_value_kind ∷ data_layout_kind ∷ []
 
 is_listed : (k n : ℕ) → (k == n) ≡ true → In n allowed → In k allowed
 is_listed k n same at = let e : n ≡ k = grind (arith, nat_tests) in subst (λ (x : ℕ). In x allowed) e at
 
-common_allowed : (k : ℕ) → ((k == 0 || k == 16) || (k == 12 || ((k == 13 || k == 14) || k == 18))) ≡ true → In k allowed
-common_allowed k h = elim (or_cases (k == 0 || k == 16) (k == 12 || ((k == 13 || k == 14) || k == 18)) h) [
-  | inl a ↦ elim (or_cases (k == 0) (k == 16) a) [
-    | inl e ↦ is_listed k 0 e (inr (inl refl))
-    | inr e ↦ is_listed k 16 e (inr (inr (inl refl)))
+common_allowed : (k : ℕ) → ((k == nil_kind || k == continuation_kind) || (k == attribute_kind || ((k == comment_kind || k == old_modification_time_kind) || k == modification_time_kind))) ≡ true → In k allowed
+common_allowed k h = elim (or_cases (k == nil_kind || k == continuation_kind) (k == attribute_kind || ((k == comment_kind || k == old_modification_time_kind) || k == modification_time_kind)) h) [
+  | inl a ↦ elim (or_cases (k == nil_kind) (k == continuation_kind) a) [
+    | inl e ↦ is_listed k nil_kind e (inr (inl refl))
+    | inr e ↦ is_listed k continuation_kind e (inr (inr (inl refl)))
   ]
-  | inr b ↦ elim (or_cases (k == 12) ((k == 13 || k == 14) || k == 18) b) [
-    | inl e ↦ is_listed k 12 e (inr (inr (inr (inl refl))))
-    | inr c ↦ elim (or_cases (k == 13 || k == 14) (k == 18) c) [
-      | inl d ↦ elim (or_cases (k == 13) (k == 14) d) [
-        | inl e ↦ is_listed k 13 e (inr (inr (inr (inr (inl refl)))))
-        | inr e ↦ is_listed k 14 e (inr (inr (inr (inr (inr (inl refl))))))
+  | inr b ↦ elim (or_cases (k == attribute_kind) ((k == comment_kind || k == old_modification_time_kind) || k == modification_time_kind) b) [
+    | inl e ↦ is_listed k attribute_kind e (inr (inr (inr (inl refl))))
+    | inr c ↦ elim (or_cases (k == comment_kind || k == old_modification_time_kind) (k == modification_time_kind) c) [
+      | inl d ↦ elim (or_cases (k == comment_kind) (k == old_modification_time_kind) d) [
+        | inl e ↦ is_listed k comment_kind e (inr (inr (inr (inr (inl refl)))))
+        | inr e ↦ is_listed k old_modification_time_kind e (inr (inr (inr (inr (inr (inl refl))))))
       ]
-      | inr e ↦ is_listed k 18 e (inr (inr (inr (inr (inr (inr (inl refl)))))))
+      | inr e ↦ is_listed k modification_time_kind e (inr (inr (inr (inr (inr (inr (inl refl)))))))
     ]
   ]
 ]
 
 group_allowed : (k : ℕ) → of_group k ≡ true → In k allowed
-group_allowed k h = elim (or_cases (k == 17) ((k == 0 || k == 16) || (k == 12 || ((k == 13 || k == 14) || k == 18))) h) [
-  | inl e ↦ is_listed k 17 e (inl refl)
+group_allowed k h = elim (or_cases (k == symbol_table_kind) ((k == nil_kind || k == continuation_kind) || (k == attribute_kind || ((k == comment_kind || k == old_modification_time_kind) || k == modification_time_kind))) h) [
+  | inl e ↦ is_listed k symbol_table_kind e (inl refl)
   | inr c ↦ common_allowed k c
 ]
 
 dataset_allowed : (k : ℕ) → of_dataset k ≡ true → In k allowed
-dataset_allowed k h = elim (or_cases ((k == 1 || k == 3) || (k == 4 || k == 5)) (k == 8 || ((k == 0 || k == 16) || (k == 12 || ((k == 13 || k == 14) || k == 18)))) h) [
-  | inl a ↦ elim (or_cases (k == 1 || k == 3) (k == 4 || k == 5) a) [
-    | inl b ↦ elim (or_cases (k == 1) (k == 3) b) [
-      | inl e ↦ is_listed k 1 e (inr (inr (inr (inr (inr (inr (inr (inl refl))))))))
-      | inr e ↦ is_listed k 3 e (inr (inr (inr (inr (inr (inr (inr (inr (inl refl)))))))))
+dataset_allowed k h = elim (or_cases ((k == dataspace_kind || k == datatype_kind) || (k == old_fill_value_kind || k == fill_value_kind)) (k == data_layout_kind || ((k == nil_kind || k == continuation_kind) || (k == attribute_kind || ((k == comment_kind || k == old_modification_time_kind) || k == modification_time_kind)))) h) [
+  | inl a ↦ elim (or_cases (k == dataspace_kind || k == datatype_kind) (k == old_fill_value_kind || k == fill_value_kind) a) [
+    | inl b ↦ elim (or_cases (k == dataspace_kind) (k == datatype_kind) b) [
+      | inl e ↦ is_listed k dataspace_kind e (inr (inr (inr (inr (inr (inr (inr (inl refl))))))))
+      | inr e ↦ is_listed k datatype_kind e (inr (inr (inr (inr (inr (inr (inr (inr (inl refl)))))))))
     ]
-    | inr b ↦ elim (or_cases (k == 4) (k == 5) b) [
-      | inl e ↦ is_listed k 4 e (inr (inr (inr (inr (inr (inr (inr (inr (inr (inl refl))))))))))
-      | inr e ↦ is_listed k 5 e (inr (inr (inr (inr (inr (inr (inr (inr (inr (inr (inl refl)))))))))))
+    | inr b ↦ elim (or_cases (k == old_fill_value_kind) (k == fill_value_kind) b) [
+      | inl e ↦ is_listed k old_fill_value_kind e (inr (inr (inr (inr (inr (inr (inr (inr (inr (inl refl))))))))))
+      | inr e ↦ is_listed k fill_value_kind e (inr (inr (inr (inr (inr (inr (inr (inr (inr (inr (inl refl)))))))))))
     ]
   ]
-  | inr a ↦ elim (or_cases (k == 8) ((k == 0 || k == 16) || (k == 12 || ((k == 13 || k == 14) || k == 18))) a) [
-    | inl e ↦ is_listed k 8 e (inr (inr (inr (inr (inr (inr (inr (inr (inr (inr (inr (inl refl))))))))))))
+  | inr a ↦ elim (or_cases (k == data_layout_kind) ((k == nil_kind || k == continuation_kind) || (k == attribute_kind || ((k == comment_kind || k == old_modification_time_kind) || k == modification_time_kind))) a) [
+    | inl e ↦ is_listed k data_layout_kind e (inr (inr (inr (inr (inr (inr (inr (inr (inr (inr (inr (inl refl))))))))))))
     | inr c ↦ common_allowed k c
   ]
 ]
@@ -93,7 +94,7 @@ module _ (image : List ℕ) (header : ℕ) (messages : List Message) (blocks : L
   pub met_head : (at : ℕ) (m : MessageAt image header at) → Headed image messages at m.end
   met_head at m = headed image messages at m.end (standing image header messages blocks has inside m.met) (λ e. omega (arith, e, m.inside))
 
-  continued : (at end : ℕ) → Headed image messages at end → kind_at image at ≡ 16 → size_at image at < 16 → ⊥
+  continued : (at end : ℕ) → Headed image messages at end → kind_at image at ≡ continuation_kind → size_at image at < 16 → ⊥
   continued at end h kind short =
       let names : IsSome (continuation_of h.m.body) = in_all IsContinued h.m messages has.continued h.member (h.kind ∙ kind) in
       let len : length h.m.body ≡ size_at image at = ap length h.body ∙ length-part (at + 8) (size_at image at) image (omega (arith, h.fits, h.inside)) in

@@ -11,6 +11,7 @@ use Rattle.h5_bytes.proofs.PartLaws.{length-part}
 use Rattle.h5_bytes.proofs.FieldLaws.{number_at-part}
 use Rattle.h5_bytes.proofs.BlockLaws.{all_append, all_left, all_right}
 use Rattle.h5_model.specs.Format.Addresses.{continuation_of}
+use Rattle.h5_model.specs.Format.MessageTypes.{continuation_kind}
 use Rattle.h5_model.specs.Format.Messages.{Message, Fills, FillBlocks, HasMessages, continuation, continuations, first_block, prefix_at, first_size}
 use Rattle.h5_model.specs.Format.Reached.{Met, at_start, behind, in_continuation, FittingAt, kind_at, size_at}
 use Rattle.h5_laws.proofs.Lists.{In, in_all, all_in, in_either, from_flat}
@@ -35,13 +36,13 @@ long_body b bytes says = go (nat_le 16 (length bytes)) refl says where
   go false holds named = absurd (let never : None ≡ Some b = named in cc)
 
 -- what a message names
-named_by : (m : Message) (b : Block) → In b (continuation m) → (m.kind ≡ 16) × (continuation_of m.body ≡ Some b)
-named_by m b at = go (m.kind == 16) refl (continuation_of m.body) refl at where
-  go : (t : Bool) → (m.kind == 16) ≡ t → (o : Option Block) → continuation_of m.body ≡ o → In b (if t then option_map_or (λ c. c ∷ []) o [] else [])
-      → (m.kind ≡ 16) × (continuation_of m.body ≡ Some b)
+named_by : (m : Message) (b : Block) → In b (continuation m) → (m.kind ≡ continuation_kind) × (continuation_of m.body ≡ Some b)
+named_by m b at = go (m.kind == continuation_kind) refl (continuation_of m.body) refl at where
+  go : (t : Bool) → (m.kind == continuation_kind) ≡ t → (o : Option Block) → continuation_of m.body ≡ o → In b (if t then option_map_or (λ c. c ∷ []) o [] else [])
+      → (m.kind ≡ continuation_kind) × (continuation_of m.body ≡ Some b)
   go false e o is there = absurd there
   go true e None is there = absurd there
-  go true e (Some c) is (inl same) = (let kind : m.kind ≡ 16 = grind (arith, nat_tests) in kind, is ∙ ap (λ (x : Block). Some x) same)
+  go true e (Some c) is (inl same) = (let kind : m.kind ≡ continuation_kind = grind (arith, nat_tests) in kind, is ∙ ap (λ (x : Block). Some x) same)
   go true e (Some c) is (inr none) = absurd none
 
 module _ (image : List ℕ) (header : ℕ) where
@@ -73,7 +74,7 @@ module _ (image : List ℕ) (header : ℕ) where
         first_or_rest x rest m (inr at) head later = later at
 
   -- a block that a message names is met
-  named_met : (m : Message) (b : Block) → MetMessage image header m → m.kind ≡ 16 → continuation_of m.body ≡ Some b → IsMet b
+  named_met : (m : Message) (b : Block) → MetMessage image header m → m.kind ≡ continuation_kind → continuation_of m.body ≡ Some b → IsMet b
   named_met m b is kind says =
       let long = long_body b m.body says in
       let n = size_at image is.at in

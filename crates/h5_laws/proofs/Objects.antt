@@ -8,7 +8,7 @@ use Rattle.std.specs.Cmp.Lexicographic.{nat_list_cmp_total}
 use Rattle.std.specs.FinMap.{FinMap, get, entries}
 use Rattle.std.specs.List.{AllZip, AllByRecursion}
 use Rattle.h5_bytes.specs.declared.Block.{Block}
-use Rattle.h5_model.specs.Format.MessageTypes.{symbol_table_kind}
+use Rattle.h5_model.specs.Format.MessageTypes.{symbol_table_kind, nil_kind, dataspace_kind, datatype_kind, old_fill_value_kind, fill_value_kind, data_layout_kind, attribute_kind, comment_kind, old_modification_time_kind, continuation_kind, modification_time_kind}
 use Rattle.h5_model.specs.Format.Addresses.{SymbolTable, symbol_table_of}
 use Rattle.h5_model.specs.Format.Messages.{Message, count_of, first_body}
 use Rattle.h5_model.specs.Format.Symbols.{Target, Header}
@@ -55,10 +55,10 @@ one_of_two image table ms c blocks has = elim (content_cases image table ms c bl
 
 -- message types of groups and of datasets
 abbrev pub of_group : ℕ → Bool
-of_group k = k == 17 || ((k == 0 || k == 16) || (k == 12 || ((k == 13 || k == 14) || k == 18)))
+of_group k = k == symbol_table_kind || ((k == nil_kind || k == continuation_kind) || (k == attribute_kind || ((k == comment_kind || k == old_modification_time_kind) || k == modification_time_kind)))
 
 abbrev pub of_dataset : ℕ → Bool
-of_dataset k = ((k == 1 || k == 3) || (k == 4 || k == 5)) || (k == 8 || ((k == 0 || k == 16) || (k == 12 || ((k == 13 || k == 14) || k == 18))))
+of_dataset k = ((k == dataspace_kind || k == datatype_kind) || (k == old_fill_value_kind || k == fill_value_kind)) || (k == data_layout_kind || ((k == nil_kind || k == continuation_kind) || (k == attribute_kind || ((k == comment_kind || k == old_modification_time_kind) || k == modification_time_kind))))
 
 pub of_group_kind : (ms : List Message) (m : Message) (k : ℕ) → AllByRecursion InGroup ms → In m ms → m.kind ≡ k → of_group k ≡ true
 of_group_kind ms m k all at e = subst (λ (x : ℕ). of_group x ≡ true) e (in_all InGroup m ms all at)
@@ -135,13 +135,13 @@ module _ (image : List ℕ) (table : FinMap nat_cmp ℕ) (tree : Tree) (placed :
       )
 
   -- an object with a Symbol Table message is a group
-  pub group_known : (depth : ℕ) (k : Known image table tree placed depth) (m : Message) (root heap : ℕ) → In m k.has.messages → m.kind ≡ 17
+  pub group_known : (depth : ℕ) (k : Known image table tree placed depth) (m : Message) (root heap : ℕ) → In m k.has.messages → m.kind ≡ symbol_table_kind
       → symbol_table_of m.body ≡ Some (record { tree = root; heap = heap })
       → (g : KnownGroup image table tree placed depth root heap) × (g.m ≡ m) × (g.k ≡ k)
   group_known depth k m root heap at is says = elim (content_cases image table k.has.messages k.o.object.content k.has.content_blocks k.has.content) [
     | inl group ↦
         let low : count_of symbol_table_kind k.has.messages ≤ 1 = omega (arith, (group.3).once) in
-        let body : first_body symbol_table_kind k.has.messages ≡ Some m.body = only_body 17 k.has.messages m low at is in
+        let body : first_body symbol_table_kind k.has.messages ≡ Some m.body = only_body symbol_table_kind k.has.messages m low at is in
         let chosen : option_and_then symbol_table_of (first_body symbol_table_kind k.has.messages) ≡ Some (record { tree = root; heap = heap }) = ap (option_and_then symbol_table_of) body ∙ says in
         let same : (group.3).symbol_table ≡ record { tree = root; heap = heap } = some_same _ _ _ (group.3).chosen chosen in (
           record {
@@ -154,11 +154,11 @@ module _ (image : List ℕ) (table : FinMap nat_cmp ℕ) (tree : Tree) (placed :
             in_group = (group.3).known;
             once = (group.3).once;
             m = m;
-            first = only_one 17 k.has.messages m low at is;
+            first = only_one symbol_table_kind k.has.messages m low at is;
             says = says;
           },
           refl,
           refl,
         )
-    | inr array ↦ absurd (let none : false ≡ true = of_dataset_kind k.has.messages m 17 (array.2).known at is in cc)
+    | inr array ↦ absurd (let none : false ≡ true = of_dataset_kind k.has.messages m symbol_table_kind (array.2).known at is in cc)
   ]

@@ -1,12 +1,12 @@
 -- As many different fields as name a header are among the links that lead to it.
-use Rattle.std.proofs.Common.{◌≡◌, inl, inr, ℕ, ◌+◌, ◌≤◌, List, [], ◌∷◌, ◌++◌, length, refl, sym, ap, ◌∙◌, subst, arith, eqb, true, false}
+use Rattle.std.proofs.Common.{◌≡◌, inl, inr, ℕ, zero, suc, ◌+◌, ◌≤◌, List, [], ◌∷◌, ◌++◌, length, refl, sym, ap, ◌∙◌, subst, arith, eqb, true, false, Some}
 use Rattle.std.proofs.lemmas.Bool.Decides.{nat_tests}
-use Rattle.std.specs.Prelude.{◌==◌, if◌then◌else◌}
+use Rattle.std.specs.Prelude.{◌==◌, if◌then◌else◌, slice_get}
 use Rattle.std.specs.Ordering.{nat_cmp, eq_by_cmp}
 use Rattle.std.specs.Cmp.{unsigned_tied}
 use Rattle.std.specs.List.{AllByRecursion, IsDistinct}
 use Rattle.std.proofs.lemmas.Map.Keys.{IsDistinct-head, IsDistinct-tail, IsDistinct-cons}
-use Rattle.h5_laws.proofs.Lists.{In, in_all, all_in}
+use Rattle.h5_laws.proofs.Lists.{In, in_all, all_in, in_at, in_either}
 
 -- how many of these fields lead to a header
 abbrev pub linking : ℕ → List (ℕ × ℕ) → ℕ
@@ -21,6 +21,25 @@ linking-append h (z ∷ xs) ys = omega (arith, linking-append h xs ys)
 abbrev pub Apart : List ℕ → Type 0
 Apart [] = Unit {0}
 Apart (x ∷ xs) = (In x xs → ⊥) × Apart xs
+
+-- a number more, which was none of them
+pub apart_push : (xs : List ℕ) (y : ℕ) → Apart xs → (In y xs → ⊥) → Apart (xs ++ y ∷ [])
+apart_push [] y apart other = ((λ never. never), tt)
+apart_push (x ∷ xs) y apart other = (
+  (λ at. elim (in_either x xs (y ∷ []) at) [
+    | inl there ↦ apart.0 there
+    | inr last ↦ elim last [ inl same ↦ other (inl (sym same)) | inr never ↦ never ]
+  ]),
+  apart_push xs y apart.1 (λ at. other (inr at)),
+)
+
+-- a number that stands once stands at one place
+pub one_place : (xs : List ℕ) → Apart xs → (a b x : ℕ) → slice_get xs a ≡ Some x → slice_get xs b ≡ Some x → a ≡ b
+one_place [] apart a b x p q = absurd (cc)
+one_place (y ∷ xs) apart zero zero x p q = refl
+one_place (y ∷ xs) apart zero (suc b) x p q = absurd (apart.0 (in_at xs b y (q ∙ sym p)))
+one_place (y ∷ xs) apart (suc a) zero x p q = absurd (apart.0 (in_at xs a y (p ∙ sym q)))
+one_place (y ∷ xs) apart (suc a) (suc b) x p q = ap suc (one_place xs apart.1 a b x p q)
 
 head_apart : (x : ℕ) (xs : List ℕ) → AllByRecursion (λ y. eq_by_cmp nat_cmp x y ≡ false) xs → In x xs → ⊥
 head_apart x xs all at =

@@ -4,6 +4,7 @@ use Rattle.std.proofs.lemmas.Bool.Decides.{nat_tests}
 use Rattle.std.specs.Prelude.{◌==◌, nat_le, if◌then◌else◌}
 use Rattle.std.specs.Ordering.{nat_cmp}
 use Rattle.std.specs.FinMap.{FinMap}
+use Rattle.h5_model.specs.Format.MessageTypes.{symbol_table_kind}
 use Rattle.h5_bytes.specs.Bytes.{number_at}
 use Rattle.h5_bytes.specs.Blocks.{Inside}
 use Rattle.h5_bytes.specs.declared.Block.{Block}
@@ -54,7 +55,7 @@ module _ (image : List ℕ) (table : FinMap nat_cmp ℕ) (tree : Tree) (placed :
   -- where the Symbol Table message is met
   met : MetMessage image g.k.o.header g.m
   met = message_met image g.k.o.header g.k.has.messages g.k.has.header_blocks g.k.has.listed (header_inside image table tree placed reads n g.k) g.m
-      (find_in 17 g.k.has.messages g.m g.first).0
+      (find_in symbol_table_kind g.k.has.messages g.m g.first).0
 
   long : 16 ≤ size_at image met.at
   long = omega (
@@ -82,7 +83,7 @@ module _ (image : List ℕ) (table : FinMap nat_cmp ℕ) (tree : Tree) (placed :
   root_reached =
       let a = number_at image (met.at + 8) 8 in
       let b = number_at image (met.at + 16) 8 in
-      let kind_is : kind_at image met.at ≡ 17 = met.kind ∙ (find_in 17 g.k.has.messages g.m g.first).1 in
+      let kind_is : kind_at image met.at ≡ symbol_table_kind = met.kind ∙ (find_in symbol_table_kind g.k.has.messages g.m g.first).1 in
       let y = naming_of (met.at + 8) (group_root image a b) a depth in
       let there : Reached image y = by_block reached.1 (inl (met.at, met.fits, long, inr (inl (kind_is, refl)))) (omega (arith, long, met.inside)) in (
         met.at + 8,

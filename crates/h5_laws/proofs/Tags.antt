@@ -8,6 +8,7 @@ use Rattle.std.specs.List.{find, flat_map}
 use Rattle.h5_bytes.specs.Blocks.{block}
 use Rattle.h5_bytes.specs.declared.Block.{Block}
 use Rattle.h5_model.specs.Format.Addresses.{SymbolTable, symbol_table_of}
+use Rattle.h5_model.specs.Format.MessageTypes.{data_layout_kind, symbol_table_kind}
 use Rattle.h5_model.specs.Format.Messages.{Message, continuation, continuations, prefix_at, first_size}
 use Rattle.h5_model.specs.Format.Heap.{segment_block, heap_blocks}
 use Rattle.h5_model.specs.Format.Rows.{nodes, row_below}
@@ -61,11 +62,11 @@ tagged_data image place t (InChunks sizes None) = []
 tagged_data image place t (InChunks sizes (Some root)) = tagged_chunks image (place + 3) (record { sizes = sizes; bytes = cells sizes * t.size }) root
 
 abbrev pub tagged_table : List ℕ → List Message → List Tagged
-tagged_table image ms = option_map_or (λ (m : Message). option_map_or (tagged_group image m.at) (symbol_table_of m.body) []) (find (λ m. m.kind == 17) ms) []
+tagged_table image ms = option_map_or (λ (m : Message). option_map_or (tagged_group image m.at) (symbol_table_of m.body) []) (find (λ m. m.kind == symbol_table_kind) ms) []
 
 abbrev pub tagged_layout : List ℕ → List Message → List Tagged
 tagged_layout image ms =
-    option_map_or (λ (m : Message). option_map_or (λ (t : Fixed). option_map_or (tagged_data image m.at t) (layout_among ms) []) (type_among ms) []) (find (λ m. m.kind == 8) ms) []
+    option_map_or (λ (m : Message). option_map_or (λ (t : Fixed). option_map_or (tagged_data image m.at t) (layout_among ms) []) (type_among ms) []) (find (λ m. m.kind == data_layout_kind) ms) []
 
 abbrev pub tagged_header : List ℕ → ℕ → List Message → List Tagged
 tagged_header image header ms = (None, block header (16 + first_size (prefix_at image header))) ∷ flat_map tagged_continuation ms

@@ -1,11 +1,8 @@
 -- The cells of an array stay where chunks of the fill are stored, or a block of it: where none was stored each read the fill.
-use Rattle.std.proofs.Common.{◌≡◌, ℕ, zero, suc, ◌<◌, ◌⊎◌, inl, inr, ℤ, List, [], ◌∷◌, length, replicate, Bool, true, false, not, Option, Some, None, refl, sym, ap, ap₂, ◌∙◌, arith}
+use Rattle.std.proofs.Common.{◌≡◌, ℕ, zero, suc, ◌<◌, ◌⊎◌, inl, inr, ℤ, List, length, replicate, Bool, true, false, not, Option, Some, None, refl, sym, ap, ap₂, ◌∙◌, arith}
 use Rattle.std.specs.Prelude.{is_some}
-use Rattle.std.specs.Ordering.{eq_by_cmp, nat_cmp}
-use Rattle.std.specs.Cmp.Lexicographic.{same_text, slice_cmp, texts_ties}
 use Rattle.std.specs.FinMap.{get}
 use Rattle.std.specs.List.{Contains, list_any}
-use Rattle.std.proofs.lemmas.Bool.{false≢true}
 use Rattle.std.proofs.lemmas.List.{get_or-replicate, length-replicate}
 use Rattle.std.proofs.lemmas.List.FromFn.{fill_by_all}
 use Rattle.h5_bytes.specs.Blocks.{block}
@@ -25,6 +22,8 @@ use Rattle.h5_model.proofs.PlaceLaws.{place_below}
 use Rattle.h5_model.proofs.PlainValues.{cells_of-cells_bytes, size-low, value_at-cells_bytes}
 use Rattle.h5_space.specs.Space.{Space}
 use Rattle.h5_laws.proofs.Lists.{In, contains_in, in_contains}
+use Rattle.h5_laws.proofs.SoundLaws.Inserted.{same_name_or_other}
+use Rattle.h5_laws.proofs.SoundLaws.Lost.{in_or_out}
 use Rattle.h5_chunks.specs.Told.{chunks_told}
 use Rattle.h5_layout.specs.Data.{chunk_shape, stored_chunks}
 use Rattle.h5_layout.specs.Filled.{HasFilledChunks, cells_of_fill}
@@ -33,7 +32,6 @@ use Rattle.h5_layout.specs.NewChunks.{AreMissing}
 use Rattle.h5_chunks.specs.Lists.{ChunkOffsets}
 use Rattle.h5_layout.specs.Standing.{is_stored_in}
 use Rattle.h5_layout.proofs.ChosenPlaces.{index_selected}
-use Rattle.h5_layout.proofs.ChunkFilled.{alike}
 use Rattle.h5_layout.proofs.LackingLaws.{all_fail}
 use Rattle.h5_layout.proofs.LocateLaws.{inner_inside, length-index}
 
@@ -56,26 +54,6 @@ block_reads old new t fill sizes at len chunks others sound fit there =
     sym (cells_of-cells_bytes new t fill sizes (block at len) others (replicate n fill) (size-low t sound) (fills_of t fill n fit) (length-replicate n fill) there)
     ∙ fill_by_all (λ place. fill) (replicate n fill) n fill (length-replicate n fill) (λ k low. get_or-replicate n k fill fill low)
 
--- ---- offsets are among these or not
-
-same_or_not : (x y : List ℕ) → (x ≡ y) ⊎ (x ≡ y → ⊥)
-same_or_not x y = by_test (eq_by_cmp (slice_cmp nat_cmp) x y) refl where
-  by_test : (b : Bool) → eq_by_cmp (slice_cmp nat_cmp) x y ≡ b → (x ≡ y) ⊎ (x ≡ y → ⊥)
-  by_test true tied = inl (same_text x y (sym (texts_ties x y ∙ tied)))
-  by_test false apart = inr (λ same. absurd (false≢true (sym apart ∙ ap (eq_by_cmp (slice_cmp nat_cmp) x) (sym same) ∙ alike.refl x)))
-
-among_or_not : (x : List ℕ) (xs : List (List ℕ)) → (In x xs) ⊎ (In x xs → ⊥)
-among_or_not x [] = inr (λ at. at)
-among_or_not x (y ∷ ys) = elim (same_or_not y x) [
-  | inl same ↦ inl (inl same)
-  | inr differ ↦ elim (among_or_not x ys) [
-    | inl there ↦ inl (inr there)
-    | inr not_there ↦ inr (λ at. elim at [ inl same ↦ differ same | inr there ↦ not_there there ])
-  ]
-]
-
--- ---- chunks of the fill
-
 module _ (s t : Space) (fixed : Fixed) (fill : ℤ) (chunk : List ℕ) (root : ℕ) (more : List (List ℕ)) (sound : IsFixed fixed) (fit : fits fixed fill ≡ true)
     (filled : HasFilledChunks s t (chunk_shape fixed chunk) root (cells_of_fill fixed fill (cells chunk)) more)
     (absent : (o : List ℕ) → In o more → get (chunks_told s.bytes (chunk_shape fixed chunk) root) o ≡ None) where
@@ -90,7 +68,7 @@ module _ (s t : Space) (fixed : Fixed) (fill : ℤ) (chunk : List ℕ) (root : �
 
   value_same : (o : List ℕ) (place : ℕ) → place < cells chunk
       → value_in_chunk t.bytes fixed fill shape.bytes place (get new o) ≡ value_in_chunk s.bytes fixed fill shape.bytes place (get old o)
-  value_same o place low = elim (among_or_not o more) [
+  value_same o place low = elim (in_or_out same_name_or_other o more) [
     | inl there ↦
         let now = filled.stored.added o (contains_in o more there) in
         ap (value_in_chunk t.bytes fixed fill shape.bytes place) now.1
@@ -122,7 +100,7 @@ module _ (s t : Space) (fixed : Fixed) (fill : ℤ) (chunk : List ℕ) (root : �
 
   -- Where a chunk is stored now, it is one of these, or was stored.
   pub stored_before : (o : List ℕ) (at : ℕ) → get new o ≡ Some at → (In o more) ⊎ ((was : ℕ) × (get old o ≡ Some was))
-  stored_before o at now = elim (among_or_not o more) [
+  stored_before o at now = elim (in_or_out same_name_or_other o more) [
     | inl there ↦ inl there
     | inr not_there ↦ inr (at, sym (filled.stored.others o (λ in_more. not_there (in_contains o more in_more))) ∙ now)
   ]

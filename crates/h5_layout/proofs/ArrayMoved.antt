@@ -160,8 +160,8 @@ module _ (old mid new : Space) (m : Listed) (was : IsArrayApart old m)
   not_continued : ◌≢◌ {A = ℕ} 8 16
   not_continued is = absurd (omega (arith, is))
 
-  written : IsBodyWritten mid.bytes new.bytes m 8 x
-  written = subst (λ (bytes : List ℕ). IsBodyWritten mid.bytes bytes m 8 x) (sym bytes_are) (body_written mid.bytes m mid_stands 8 not_continued x wrote.found w (x.at + from) low high)
+  written : IsBodyWritten mid.bytes new.bytes m data_layout_kind x
+  written = subst (λ (bytes : List ℕ). IsBodyWritten mid.bytes bytes m data_layout_kind x) (sym bytes_are) (body_written mid.bytes m mid_stands data_layout_kind not_continued x wrote.found w (x.at + from) low high)
 
   covered : (p : ℕ) → holds p (x.at + from) (length w) ≤ cover p m.blocks
   covered = written_covered mid.bytes m mid_stands 8 not_continued x wrote.found w (x.at + from) low high
@@ -213,8 +213,8 @@ module _ (old mid new : Space) (m : Listed) (was : IsArrayApart old m)
   abbrev pub body_now : List ℕ
   body_now = with_part from w (part wrote.place.at wrote.place.size old.bytes)
 
-  messages : HasNewBody 8 was_said said (part x.at x.size new.bytes)
-  messages = subst (λ (ms : List Message). HasNewBody 8 ms said (part x.at x.size new.bytes)) (said_still old mid m was [] bs none taken) written.messages
+  messages : HasNewBody data_layout_kind was_said said (part x.at x.size new.bytes)
+  messages = subst (λ (ms : List Message). HasNewBody data_layout_kind ms said (part x.at x.size new.bytes)) (said_still old mid m was [] bs none taken) written.messages
 
   body_was : first_body data_layout_kind was_said ≡ Some (part x.at x.size old.bytes)
   body_was = first_body-in old.bytes 8 m.list ∙ ap (option_map (λ (y : Placed). part y.at y.size old.bytes)) wrote.found
@@ -247,7 +247,7 @@ module _ (old mid new : Space) (m : Listed) (was : IsArrayApart old m)
     array_now = record a { layout = l }
 
     same_one : (k : ℕ) → count_of k said ≡ count_of k was_said
-    same_one = same_count 8 was_said said (part x.at x.size new.bytes) messages
+    same_one = same_count data_layout_kind was_said said (part x.at x.size new.bytes) messages
 
     has_now : HasArray said array_now
     has_now = relaid was_said said (part x.at x.size new.bytes) messages a was.array l (ap (layout_of a.sizes a.fixed.size) body_there ∙ named) small
@@ -292,8 +292,8 @@ module _ (old mid new : Space) (m : Listed) (was : IsArrayApart old m)
       count = ap reference_count written.prefix ∙ count_kept old.bytes mid.bytes m was.standing (header_keeps old mid m was [] bs none taken);
       known = λ known. known;
       others = record {
-        attributes = ap (map (λ (y : Message). y.body)) (same_filter 8 was_said said (part x.at x.size new.bytes) messages (λ k. is_attribute_message (record { kind = k; at = 0; body = [] })) refl);
-        kept = ap (map kept_of) (same_filter 8 was_said said (part x.at x.size new.bytes) messages (λ k. is_kept (record { kind = k; at = 0; body = [] })) refl);
+        attributes = ap (map (λ (y : Message). y.body)) (same_filter data_layout_kind was_said said (part x.at x.size new.bytes) messages (λ k. is_attribute_message (record { kind = k; at = 0; body = [] })) refl);
+        kept = ap (map kept_of) (same_filter data_layout_kind was_said said (part x.at x.size new.bytes) messages (λ k. is_kept (record { kind = k; at = 0; body = [] })) refl);
       };
       moves = moves_same old new m.blocks (bs ++ m.blocks) (array_blocks old.bytes m) (array_blocks new.bytes m)
           (λ p. let laid = ap (cover p) none in omega (arith, laid, cover-append p m.blocks (data_blocks old.bytes a.fixed a.layout)))

@@ -1,5 +1,7 @@
 -- Values that a caller lends as the bytes of cells: counted, in two parts, and as they are written.
 use Rattle.std.proofs.Common.{◌≡◌, ℕ, zero, suc, ◌+◌, ◌-◌, ◌*◌, ◌/◌, ◌%◌, ◌<◌, ◌≤◌, ◌==◌, List, [], ◌∷◌, length, map, take, drop, get_or, Bool, true, false, ◌&&◌, ℤ, pos, refl, sym, ap, ◌∙◌, arith}
+use Rattle.std.proofs.Math.Bool.{and-false}
+use Rattle.std.proofs.lemmas.Bool.{and_parts}
 use Rattle.std.specs.List.{list_all, range_with_len}
 use Rattle.std.proofs.Math.Bool.{beq}
 use Rattle.std.proofs.Math.Nat.{div-add-mod', mul-le-mul_right}
@@ -15,7 +17,6 @@ use Rattle.h5_model.specs.Tree.Sound.{AreOf}
 use Rattle.h5_model.specs.Scripts.Answers.{stored_values}
 use Rattle.h5_model.proofs.StoredValues.{length-stored}
 use Rattle.h5_msg.proofs.ValueBytes.{AreBytes, AreBytes-drop, AreBytes-take, stored_back}
-use Rattle.h5_msg.proofs.WordLaws.{and_left, and_right}
 use Rattle.h5_layout.specs.Buffers.{AreInMemory, AreWholeCells, are_whole_cells}
 use Rattle.h5_layout.proofs.CellLaws.{map_ranges, whole_values}
 
@@ -121,20 +122,16 @@ pub all_more : (t : Fixed) (vs : List ℤ) (k : ℕ) → k < length vs → list_
 all_more t [] k low all fit = absurd (omega (arith, low))
 all_more t (v ∷ vs) zero low all fit = ap (λ b. b && true) fit
 all_more t (v ∷ vs) (suc k) low all fit =
-    let first = and_left (fits t v) (list_all (fits t) (take k vs)) all in
-    let rest = and_right (fits t v) (list_all (fits t) (take k vs)) all in
+    let first = (and_parts (fits t v) (list_all (fits t) (take k vs)) all).0 in
+    let rest = (and_parts (fits t v) (list_all (fits t) (take k vs)) all).1 in
     let more = all_more t vs k (omega (arith, low)) rest fit in
     let next : suc k + 1 ≡ suc (k + 1) = omega arith in
     ap (λ n. list_all (fits t) (take n (v ∷ vs))) next ∙ (λ i. first i && more i)
 
-and_false : (b : Bool) → (b && false) ≡ false
-and_false true = refl
-and_false false = refl
-
 pub not_all : (t : Fixed) (vs : List ℤ) (k : ℕ) → k < length vs → fits t (get_or vs k (pos 0)) ≡ false → list_all (fits t) vs ≡ false
 not_all t [] k low unfit = absurd (omega (arith, low))
 not_all t (v ∷ vs) zero low unfit = rw unfit refl
-not_all t (v ∷ vs) (suc k) low unfit = rw (not_all t vs k (omega (arith, low)) unfit) (and_false (fits t v))
+not_all t (v ∷ vs) (suc k) low unfit = rw (not_all t vs k (omega (arith, low)) unfit) (and-false (fits t v))
 
 -- ---- places
 
@@ -148,10 +145,10 @@ cell_within k n size long low is =
 
 pub same_type : (t u : Fixed) → ((t.size == u.size) && (beq t.signed u.signed && beq t.big u.big)) ≡ true → t ≡ u
 same_type t u test =
-    let size : t.size ≡ u.size = grind (arith, nat_tests, and_left (t.size == u.size) (beq t.signed u.signed && beq t.big u.big) test) in
-    let flags = and_right (t.size == u.size) (beq t.signed u.signed && beq t.big u.big) test in
-    let signed = equal t.signed u.signed (and_left (beq t.signed u.signed) (beq t.big u.big) flags) in
-    let big = equal t.big u.big (and_right (beq t.signed u.signed) (beq t.big u.big) flags) in
+    let size : t.size ≡ u.size = grind (arith, nat_tests, (and_parts (t.size == u.size) (beq t.signed u.signed && beq t.big u.big) test).0) in
+    let flags = (and_parts (t.size == u.size) (beq t.signed u.signed && beq t.big u.big) test).1 in
+    let signed = equal t.signed u.signed (and_parts (beq t.signed u.signed) (beq t.big u.big) flags).0 in
+    let big = equal t.big u.big (and_parts (beq t.signed u.signed) (beq t.big u.big) flags).1 in
     (λ i. record { size = size i; signed = signed i; big = big i }) where
       equal : (a b : Bool) → beq a b ≡ true → a ≡ b
       equal true true is = refl

@@ -4,9 +4,9 @@ use Rattle.std.specs.List.{Contains, range_with_len}
 use Rattle.h5_laws.proofs.Lists.{In, from_range, in_contains, in_range}
 use Rattle.h5_model.specs.Tree.Places.{IsInside, cells, index_of, place_of}
 use Rattle.h5_model.specs.Views.Selection.{Slab, Selected, is_selected, selection_of}
+use Rattle.h5_model.proofs.Members.{filter_in, in_filter}
 use Rattle.h5_model.proofs.PlaceLaws.{index-place, place_below}
 use Rattle.h5_model.proofs.SelectionLaws.{from_is_selected, to_is_selected}
-use Rattle.h5_layout.proofs.RisingLaws.{filter_in, in_filter}
 
 -- a selected index of the array
 pub selected_place : (sizes : List ℕ) (slab : Slab) (index : List ℕ) → IsInside sizes index → Selected slab index → In (place_of sizes index) (selection_of sizes slab)

@@ -14,35 +14,35 @@ use Rattle.h5_layout.specs.LayoutEdits.{HasLayoutRoom}
 use Rattle.h5_header.proofs.FoundLaws.{first_body-in, none_stands, within_at}
 
 -- where there is one message, it is found
-pub message_found : (image : List ℕ) (list : List Placed) (r : Option (Bor Placed)) → option_copied r ≡ find (λ (m : Placed). m.kind == 8) list
+pub message_found : (image : List ℕ) (list : List Placed) (r : Option (Bor Placed)) → option_copied r ≡ find (λ (m : Placed). m.kind == data_layout_kind) list
     → count_of data_layout_kind (messages_in image list) ≡ 1 → IsSome r
 message_found image list None is once =
     let none : first_body data_layout_kind (messages_in image list) ≡ None = first_body-in image 8 list ∙ ap (option_map (λ (m : Placed). _)) (sym is) in
-    absurd (omega (arith, none_stands 8 (messages_in image list) none, once))
+    absurd (omega (arith, none_stands data_layout_kind (messages_in image list) none, once))
 message_found image list (Some b) is once = refl
 
-pub found_is : (list : List Placed) (r : Option (Bor Placed)) (b : Bor Placed) → option_copied r ≡ find (λ (m : Placed). m.kind == 8) list → r ≡ Some b
-    → find (λ (m : Placed). m.kind == 8) list ≡ Some b.now
+pub found_is : (list : List Placed) (r : Option (Bor Placed)) (b : Bor Placed) → option_copied r ≡ find (λ (m : Placed). m.kind == data_layout_kind) list → r ≡ Some b
+    → find (λ (m : Placed). m.kind == data_layout_kind) list ≡ Some b.now
 found_is list r b is here = sym is ∙ ap option_copied here
 
 -- it lies in the image
 pub message_within : (image : List ℕ) (list : List Placed) (r : Option (Bor Placed)) (b : Bor Placed) → IsWithin (length image) list
-    → option_copied r ≡ find (λ (m : Placed). m.kind == 8) list → r ≡ Some b → b.now.at + b.now.size ≤ length image
+    → option_copied r ≡ find (λ (m : Placed). m.kind == data_layout_kind) list → r ≡ Some b → b.now.at + b.now.size ≤ length image
 message_within image list r b within is here = within_at (length image) 8 list b.now within (found_is list r b is here)
 
 -- the place behind its front
-pub place_told : (list : List Placed) (r : Option (Bor Placed)) (b : Bor Placed) → option_copied r ≡ find (λ (m : Placed). m.kind == 8) list → r ≡ Some b
+pub place_told : (list : List Placed) (r : Option (Bor Placed)) (b : Bor Placed) → option_copied r ≡ find (λ (m : Placed). m.kind == data_layout_kind) list → r ≡ Some b
     → compact_at list ≡ Some (b.now.at + 4)
 place_told list r b is here = ap (option_map (λ (m : Placed). m.at + 4)) (found_is list r b is here)
 
 -- it is the one that is known to be there
-pub message_met : (list : List Placed) (r : Option (Bor Placed)) (b : Bor Placed) (x : Placed) → option_copied r ≡ find (λ (m : Placed). m.kind == 8) list → r ≡ Some b
-    → find (λ (m : Placed). m.kind == 8) list ≡ Some x → b.now ≡ x
+pub message_met : (list : List Placed) (r : Option (Bor Placed)) (b : Bor Placed) (x : Placed) → option_copied r ≡ find (λ (m : Placed). m.kind == data_layout_kind) list → r ≡ Some b
+    → find (λ (m : Placed). m.kind == data_layout_kind) list ≡ Some x → b.now ≡ x
 message_met list r b x is here known = same_Some b.now x (sym (found_is list r b is here) ∙ known)
 
 -- it lies in the image, with the room that it is known to have
 pub message_lent : (image : List ℕ) (list : List Placed) (r : Option (Bor Placed)) (b : Bor Placed) (n : ℕ) → IsWithin (length image) list → HasLayoutRoom list n
-    → option_copied r ≡ find (λ (m : Placed). m.kind == 8) list → r ≡ Some b → (b.now.at + b.now.size ≤ length image) × (n ≤ b.now.size)
+    → option_copied r ≡ find (λ (m : Placed). m.kind == data_layout_kind) list → r ≡ Some b → (b.now.at + b.now.size ≤ length image) × (n ≤ b.now.size)
 message_lent image list r b n within room is here =
     let size = ap (λ (m : Placed). m.size) (message_met list r b room.place is here room.found) in
     (message_within image list r b within is here, omega (arith, size, room.long))

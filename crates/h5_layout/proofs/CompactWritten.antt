@@ -1,5 +1,6 @@
 -- Cells of a compact array that were written in its Data Layout message: the messages describe the same array, with these cells.
 use Rattle.std.proofs.Common.{◌≡◌, ℕ, suc, ◌+◌, ◌-◌, ◌*◌, ◌<◌, ◌≤◌, Bool, true, false, cond, ◌==◌, List, [], ◌∷◌, length, take, drop, refl, sym, ap, ap₂, ◌∙◌, arith, inl, Option, Some, None, ℤ}
+use Rattle.std.proofs.lemmas.Bool.{and_parts}
 use Rattle.std.specs.Prelude.{◌&&◌, nat_le, option_map, option_and_then}
 use Rattle.std.specs.FinMap.{empty}
 use Rattle.std.specs.List.{find, list_all, range_with_len, slice_range}
@@ -30,7 +31,6 @@ use Rattle.h5_header.proofs.FirstWritten.{HasNewBody}
 use Rattle.h5_header.proofs.FoundLaws.{first_body-in, within_at}
 use Rattle.h5_header.proofs.MessageLaws.{byte_at-part}
 use Rattle.h5_laws.proofs.InPlace.CellWrites.{cells_in, cell_written}
-use Rattle.h5_msg.proofs.WordLaws.{and_left, and_right}
 use Rattle.h5_layout.specs.Compact.{compact_at}
 use Rattle.h5_layout.specs.Data.{dataset_told}
 use Rattle.h5_layout.proofs.Relaid.{relaid}
@@ -130,8 +130,8 @@ line_written t is n (v ∷ vs) place bytes all low room =
     let past = mul-le-mul_right t.size low in
     let end : (place + suc (length vs)) * t.size ≡ place * t.size + (t.size + length vs * t.size) = omega arith in
     let next : place * t.size + length (bytes_of t v) ≡ (place + 1) * t.size = omega (arith, wide) in
-    let fit = and_left (fits t v) (list_all (fits t) vs) all in
-    let fits_rest = and_right (fits t v) (list_all (fits t) vs) all in
+    let fit = (and_parts (fits t v) (list_all (fits t) vs) all).0 in
+    let fits_rest = (and_parts (fits t v) (list_all (fits t) vs) all).1 in
     let long : length first ≡ length bytes = length-with_part (place * t.size) (bytes_of t v) bytes (omega (arith, wide, past, end, room)) in
     ap (λ bs. cells_in t bs n) (with_part-append (place * t.size) (bytes_of t v) (cells_bytes t vs) bytes (omega (arith, wide, rest, past, end, room))
     ∙ ap (λ at. with_part at (cells_bytes t vs) first) next)
@@ -141,7 +141,7 @@ line_written t is n (v ∷ vs) place bytes all low room =
 -- ---- an array whose cells stand in a message that is kept
 
 module _ (old : List ℕ) (list : List Placed) (within : IsWithin (length old) list) (a : Described) (has : HasArray (messages_in old list) a)
-    (bytes : List ℕ) (laid : a.layout ≡ InMessage bytes) (x : Placed) (found : find (λ (m : Placed). m.kind == 8) list ≡ Some x) where
+    (bytes : List ℕ) (laid : a.layout ≡ InMessage bytes) (x : Placed) (found : find (λ (m : Placed). m.kind == data_layout_kind) list ≡ Some x) where
   abbrev need : ℕ
   need = cells a.sizes * a.fixed.size
 
@@ -225,7 +225,7 @@ module _ (old : List ℕ) (list : List Placed) (within : IsWithin (length old) l
         ∙ ap (λ (cs : List ℤ). record (dataset_told old a) { cells = cs }) after
 
     -- what the messages then describe
-    pub compact_array : (ms : List Message) → HasNewBody 8 (messages_in old list) ms (part x.at x.size new) → HasArray ms array_with
+    pub compact_array : (ms : List Message) → HasNewBody data_layout_kind (messages_in old list) ms (part x.at x.size new) → HasArray ms array_with
     compact_array ms is =
         let was = messages_in old list in
         let body = part x.at x.size new in
@@ -239,10 +239,10 @@ module _ (old : List ℕ) (list : List Placed) (within : IsWithin (length old) l
 -- ---- by the address of the data
 
 -- the message behind whose front they stand
-pub compact_message : (list : List Placed) (base : ℕ) → compact_at list ≡ Some base → (x : Placed) × (find (λ (m : Placed). m.kind == 8) list ≡ Some x) × (x.at + 4 ≡ base)
-compact_message list base is = go (find (λ (m : Placed). m.kind == 8) list) refl is where
-  go : (found : Option Placed) → find (λ (m : Placed). m.kind == 8) list ≡ found → option_map (λ (m : Placed). m.at + 4) found ≡ Some base
-      → (x : Placed) × (find (λ (m : Placed). m.kind == 8) list ≡ Some x) × (x.at + 4 ≡ base)
+pub compact_message : (list : List Placed) (base : ℕ) → compact_at list ≡ Some base → (x : Placed) × (find (λ (m : Placed). m.kind == data_layout_kind) list ≡ Some x) × (x.at + 4 ≡ base)
+compact_message list base is = go (find (λ (m : Placed). m.kind == data_layout_kind) list) refl is where
+  go : (found : Option Placed) → find (λ (m : Placed). m.kind == data_layout_kind) list ≡ found → option_map (λ (m : Placed). m.at + 4) found ≡ Some base
+      → (x : Placed) × (find (λ (m : Placed). m.kind == data_layout_kind) list ≡ Some x) × (x.at + 4 ≡ base)
   go None none never = absurd (let n : None ≡ Some base = never in cc)
   go (Some x) here at = (x, here, same_Some (x.at + 4) base at)
 

@@ -12,15 +12,14 @@ use Rattle.h5_model.specs.Format.Cells.{value_in}
 use Rattle.h5_model.specs.Format.Fixed.{Fixed, IsFixed, bytes_of, value_at}
 use Rattle.h5_model.specs.Format.Plain.{cells_bytes}
 use Rattle.h5_model.specs.Tree.Places.{cells, index_of, is_inside}
-use Rattle.h5_model.proofs.PlaceLaws.{inside-index, positive}
+use Rattle.h5_model.proofs.PlaceLaws.{inside-index, is_inside_from, positive}
 use Rattle.h5_model.proofs.ValueLaws.{value_at-moved}
+use Rattle.h5_model.proofs.SelectionLaws.{range-append}
 use Rattle.h5_msg.proofs.ValueBytes.{AreBytes, stored_back}
-use Rattle.h5_chunks.proofs.InsideLaws.{is_inside_from}
 use Rattle.h5_layout.specs.Kept.{corner_value, corner_values}
 use Rattle.h5_layout.specs.Spans.{span_sizes, span_slices}
 use Rattle.h5_layout.specs.declared.corner.Span.{Span}
 use Rattle.h5_layout.proofs.CellLaws.{map_ranges, replicate_range}
-use Rattle.h5_layout.proofs.PieceLaws.{range_split}
 
 -- ---- values, and their bytes
 
@@ -28,7 +27,7 @@ use Rattle.h5_layout.proofs.PieceLaws.{range_split}
 pub table_add : (f : ℕ → ℤ) (n k : ℕ) → table f (n + k) ≡ table f n ++ map f (range_with_len n k)
 table_add f n k =
     let here : 0 + n ≡ n = omega arith in
-    ap (map f) (range_split 0 n k ∙ ap (λ (m : ℕ). range_with_len 0 n ++ range_with_len m k) here)
+    ap (map f) (range-append 0 n k ∙ ap (λ (m : ℕ). range_with_len 0 n ++ range_with_len m k) here)
     ∙ map-append f (range_with_len 0 n) (range_with_len n k)
 
 pub cells_add : (t : Fixed) (xs ys : List ℤ) → cells_bytes t (xs ++ ys) ≡ cells_bytes t xs ++ cells_bytes t ys

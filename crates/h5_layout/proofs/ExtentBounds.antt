@@ -1,7 +1,8 @@
 -- Sizes that are not above the maxima that a Dataspace message has: these can stand in one beside them (File Format Specification 3.0,
 -- section IV.A.2.b).
-use Rattle.std.proofs.Common.{◌≡◌, ℕ, zero, suc, ◌+◌, ◌*◌, ◌^◌, ◌≤◌, Bool, true, false, cond, ◌==◌, List, [], ◌∷◌, length, map, Option, Some, None, refl, sym, ◌∙◌, subst, arith}
-use Rattle.std.specs.Prelude.{◌||◌, nat_le, nat_lt}
+use Rattle.std.proofs.Common.{◌≡◌, ℕ, zero, suc, ◌+◌, ◌*◌, ◌^◌, ◌≤◌, true, false, cond, ◌==◌, List, [], ◌∷◌, length, map, Option, Some, None, refl, sym, ◌∙◌, subst, arith}
+use Rattle.std.proofs.lemmas.Bool.{or_parts}
+use Rattle.std.specs.Prelude.{nat_le, nat_lt}
 use Rattle.std.specs.List.{AllByRecursion, range_with_len}
 use Rattle.std.proofs.lemmas.Bool.Decides.{nat_tests}
 use Rattle.std.proofs.lemmas.List.FromFn.{length-map-range_with_len}
@@ -90,17 +91,10 @@ bounded [] (m ∷ ms) ranked below unmarked = absurd (omega (arith, ranked))
 bounded (d ∷ ds) [] ranked below unmarked = absurd (omega (arith, ranked))
 bounded (d ∷ ds) (None ∷ ms) ranked below unmarked = bounded ds ms (omega (arith, ranked)) below unmarked.1
 bounded (d ∷ ds) (Some n ∷ ms) ranked below unmarked =
-    let low : nat_lt n d ≡ false = first (nat_lt n d) (some_above ds ms) below in
+    let low : nat_lt n d ≡ false = (or_parts (nat_lt n d) (some_above ds ms) below).0 in
     let fits : nat_le d n ≡ true = grind (arith, nat_tests, low) in
-    let later : are_maxima ds ms ≡ true = bounded ds ms (omega (arith, ranked)) (second (nat_lt n d) (some_above ds ms) below) unmarked.1 in
-    rw (fits, unmarked.0, later) refl where
-      first : (a b : Bool) → (a || b) ≡ false → a ≡ false
-      first true b h = h
-      first false b h = refl
-
-      second : (a b : Bool) → (a || b) ≡ false → b ≡ false
-      second true b h = absurd (cc)
-      second false b h = h
+    let later : are_maxima ds ms ≡ true = bounded ds ms (omega (arith, ranked)) (or_parts (nat_lt n d) (some_above ds ms) below).1 unmarked.1 in
+    rw (fits, unmarked.0, later) refl
 
 module _ (ms : List Message) (a : Described) (has : HasArray ms a) where
   extent_read : IsReadExtent (record { sizes = a.sizes; maxima = a.maxima })

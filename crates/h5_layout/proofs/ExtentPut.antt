@@ -9,7 +9,7 @@ use Rattle.std.proofs.lemmas.List.Quantifiers.{position-Some}
 use Rattle.std.proofs.lemmas.Option.{slice_get_within}
 use Rattle.h5_bytes.specs.declared.Block.{Block}
 use Rattle.h5_bytes.proofs.BlockLaws.{cover-append}
-use Rattle.h5_model.specs.Format.MessageTypes.{datatype_kind}
+use Rattle.h5_model.specs.Format.MessageTypes.{datatype_kind, nil_kind, dataspace_kind}
 use Rattle.h5_model.specs.Format.Datatype.{fixed_of}
 use Rattle.h5_model.specs.Format.Extent.{Extent, extent_of}
 use Rattle.h5_model.specs.Format.Messages.{Message, first_body, prefix_at, reference_count}
@@ -33,7 +33,7 @@ use Rattle.h5_layout.proofs.ExtentWritten.{extent_found}
 -- ---- the place of the message
 
 abbrev is_space : Placed → Bool
-is_space y = y.kind == 1
+is_space y = y.kind == dataspace_kind
 
 place_low : (xs : List Placed) (x : Placed) → find is_space xs ≡ Some x → position_or_len is_space xs < length xs
 place_low xs x found = slice_get_within xs (position_or_len is_space xs) x (sym (find_at is_space xs) ∙ found)
@@ -44,8 +44,8 @@ place_there s m is =
     let test : nat_lt (position_or_len is_space m.list) (length m.list) ≡ true = lt-ltb (position_or_len is_space m.list) (length m.list) (place_low m.list x.0 x.1) in
     rw test refl
 
-pub place_kind : (list : List Placed) (k : ℕ) → position is_space list ≡ Some k → (k < length list) × ((kept_at list k).kind ≡ 1)
-place_kind list k is = let at = position-Some is_space list k nowhere is in (at.0, eqb-true (kept_at list k).kind 1 at.1)
+pub place_kind : (list : List Placed) (k : ℕ) → position is_space list ≡ Some k → (k < length list) × ((kept_at list k).kind ≡ dataspace_kind)
+place_kind list k is = let at = position-Some is_space list k nowhere is in (at.0, eqb-true (kept_at list k).kind dataspace_kind at.1)
 
 -- ---- the header with one message NIL
 
@@ -54,7 +54,7 @@ blocks_apart s m is p =
     let a = described_in s.bytes m in
     omega (arith, is.apart p, cover-append p m.blocks (data_blocks s.bytes a.fixed a.layout))
 
-module _ (old mid : Space) (m n : Listed) (was : IsArrayApart old m) (k : ℕ) (low : k < length m.list) (kind : (kept_at m.list k).kind ≡ 1)
+module _ (old mid : Space) (m n : Listed) (was : IsArrayApart old m) (k : ℕ) (low : k < length m.list) (kind : (kept_at m.list k).kind ≡ dataspace_kind)
     (blank : messages_in mid.bytes n.list ≡ with_nil (messages_in old.bytes m.list) k) (stands : IsStanding mid.bytes n) (moves : Moves old mid m.blocks n.blocks) where
   abbrev ms : List Message
   ms = messages_in old.bytes m.list
@@ -63,12 +63,12 @@ module _ (old mid : Space) (m n : Listed) (was : IsArrayApart old m) (k : ℕ) (
   x = get_or ms k none
 
   abbrev nil : Message
-  nil = record x { kind = 0 }
+  nil = record x { kind = nil_kind }
 
   cut : IsCut ms k x
   cut = cut_by_place ms k none (omega (arith, length-map m.list (message_in old.bytes), low))
 
-  x_kind : x.kind ≡ 1
+  x_kind : x.kind ≡ dataspace_kind
   x_kind = ap (λ (y : Message). y.kind) (get_or-map (message_in old.bytes) m.list k nowhere none low) ∙ kind
 
   mid_is : messages_in mid.bytes n.list ≡ cut.front ++ nil ∷ cut.back
@@ -94,7 +94,7 @@ module _ (old mid : Space) (m n : Listed) (was : IsArrayApart old m) (k : ℕ) (
   -- ---- and with another message
 
   module _ (new : Space) (m' : Listed) (body : List ℕ) (e : Extent) (says : extent_of body ≡ Some e)
-      (adds : AddsMessage (messages_in mid.bytes n.list) (messages_in new.bytes m'.list) 1 body)
+      (adds : AddsMessage (messages_in mid.bytes n.list) (messages_in new.bytes m'.list) dataspace_kind body)
       (standing : IsStanding new.bytes m') (header : m'.header ≡ m.header)
       (count : reference_count (prefix_at new.bytes m'.header) ≡ reference_count (prefix_at old.bytes m.header))
       (moved : Moves mid new n.blocks m'.blocks) where
@@ -102,7 +102,7 @@ module _ (old mid : Space) (m n : Listed) (was : IsArrayApart old m) (k : ℕ) (
     said =
         subst (λ (ys : List Message). SaysExtent ys (messages_in new.bytes m'.list) e) (sym cut.whole)
         (extent_added cut.front x nil cut.back x_kind refl (messages_in new.bytes m'.list) body
-        (subst (λ (ys : List Message). AddsMessage ys (messages_in new.bytes m'.list) 1 body) mid_is adds)
+        (subst (λ (ys : List Message). AddsMessage ys (messages_in new.bytes m'.list) dataspace_kind body) mid_is adds)
         (subst IsOfDataset cut.whole was.kinds) e says)
 
     pub extent_put : HasExtentNow old new m m' e

@@ -3,9 +3,7 @@
 use Rattle.std.proofs.Common.{◌≡◌, ℕ, ◌+◌, ◌*◌, ◌^◌, ◌≤◌, Bool, true, false, cond, ◌==◌, ◌||◌, List, [], ◌∷◌, length, map, Option, Some, None, refl, sym, ap, ◌∙◌, subst, arith}
 use Rattle.std.specs.Prelude.{option_and_then, option_map}
 use Rattle.std.specs.List.{filter, find}
-use Rattle.std.proofs.lemmas.Option.{same_Some}
-use Rattle.h5_bytes.specs.declared.Block.{Block}
-use Rattle.h5_model.specs.Format.MessageTypes.{data_layout_kind}
+use Rattle.h5_model.specs.Format.MessageTypes.{data_layout_kind, nil_kind, dataspace_kind, datatype_kind, old_fill_value_kind, fill_value_kind, comment_kind, old_modification_time_kind, continuation_kind, symbol_table_kind, modification_time_kind, attribute_kind}
 use Rattle.h5_model.specs.Edits.Refusal.{is_chunked}
 use Rattle.h5_model.specs.Format.Extent.{Extent}
 use Rattle.h5_model.specs.Format.Fill.{fill_value, old_fill_value}
@@ -17,6 +15,7 @@ use Rattle.h5_model.specs.Tree.Places.{cells, extent_cells}
 use Rattle.h5_header.specs.Kinds.{IsOfDataset}
 use Rattle.h5_layout.specs.ArrayEdits.{AreOthersKept}
 use Rattle.h5_layout.specs.ExtentNow.{SaysExtent}
+use Rattle.h5_layout.proofs.LayoutBodies.{block_no_chunks, no_chunks}
 
 -- ---- the messages of one type
 
@@ -52,24 +51,13 @@ by_rank true false true d x y z v w u l p q same h = absurd (q h)
 by_rank true false false true x y z v w u l p q same h = sym same ∙ h
 by_rank true false false false x y z v w u l p q same h = h
 
-in_message : (test : Bool) (bytes chunk : List ℕ) (root : Option ℕ) → cond test (Some (InMessage bytes)) None ≡ Some (InChunks chunk root) → ⊥
-in_message false bytes chunk root h = cc
-in_message true bytes chunk root h = let never : InMessage bytes ≡ InChunks chunk root = same_Some (InMessage bytes) (InChunks chunk root) h in cc
-
-in_block : (a b c : Bool) (x : Block) (chunk : List ℕ) (root : Option ℕ)
-    → cond a (cond b (Some (InBlock None)) (cond c (Some (InBlock (Some x))) None)) None ≡ Some (InChunks chunk root) → ⊥
-in_block false b c x chunk root h = cc
-in_block true true c x chunk root h = let never : InBlock None ≡ InChunks chunk root = same_Some (InBlock None) (InChunks chunk root) h in cc
-in_block true false true x chunk root h = let never : InBlock (Some x) ≡ InChunks chunk root = same_Some (InBlock (Some x)) (InChunks chunk root) h in cc
-in_block true false false x chunk root h = cc
-
 layout_by_rank : (old new : List ℕ) (size : ℕ) (body chunk : List ℕ) (root : Option ℕ) → length new ≡ length old
     → layout_of old size body ≡ Some (InChunks chunk root) → layout_of new size body ≡ Some (InChunks chunk root)
 unfolding layout_of
 layout_by_rank old new size body chunk root ranked =
     by_rank _ _ _ _ (compact_layout (cells old * size) body) (contiguous_layout (cells old * size) body) (chunked_layout (length old) size body)
     (compact_layout (cells new * size) body) (contiguous_layout (cells new * size) body) (chunked_layout (length new) size body) (InChunks chunk root)
-    (in_message _ _ chunk root) (in_block _ _ _ _ chunk root) (ap (λ (n : ℕ). chunked_layout n size body) (sym ranked))
+    (no_chunks _ _ chunk root) (block_no_chunks _ _ _ _ chunk root) (ap (λ (n : ℕ). chunked_layout n size body) (sym ranked))
 
 pub layout_still : (old new : List ℕ) (size : ℕ) (l : Layout) (body : Option (List ℕ)) → is_chunked (storage_of old l) ≡ true → length new ≡ length old
     → option_and_then (layout_of old size) body ≡ Some l → option_and_then (layout_of new size) body ≡ Some l
@@ -82,7 +70,7 @@ layout_still old new size (InChunks chunk root) (Some body) chunked ranked says 
 
 module _ (ms ms' : List Message) (e : Extent) (says : SaysExtent ms ms' e) where
   abbrev IsOther : ℕ → Type 0
-  IsOther k = ((0 == k) ≡ false) × ((1 == k) ≡ false) × ((3 == k) ≡ false) × ((16 == k) ≡ false) × ((17 == k) ≡ false)
+  IsOther k = ((nil_kind == k) ≡ false) × ((dataspace_kind == k) ≡ false) × ((datatype_kind == k) ≡ false) × ((continuation_kind == k) ≡ false) × ((symbol_table_kind == k) ≡ false)
 
   same_types : (k : ℕ) → IsOther k → of_type k ms' ≡ of_type k ms
   same_types k (a, b, c, d, f) = says.others (λ (n : ℕ). n == k) (a, (b, (c, (d, (f, tt)))))
@@ -105,14 +93,14 @@ module _ (ms ms' : List Message) (e : Extent) (says : SaysExtent ms ms' e) where
   pub kinds_now : IsOfDataset ms → IsOfDataset ms'
   kinds_now is = record {
     no_table = says.tables ∙ is.no_table;
-    once = (says.once, (says.types ∙ ((is.once).1).0, (same_count 8 layouts ∙ (((is.once).1).1).0, tt)));
-    fills = (omega (arith, same_count 4 old_fills, (is.fills).0), (omega (arith, same_count 5 fills, ((is.fills).1).0), tt));
+    once = (says.once, (says.types ∙ ((is.once).1).0, (same_count data_layout_kind layouts ∙ (((is.once).1).1).0, tt)));
+    fills = (omega (arith, same_count old_fill_value_kind old_fills, (is.fills).0), (omega (arith, same_count fill_value_kind fills, ((is.fills).1).0), tt));
   }
 
   pub others_now : AreOthersKept ms ms'
   others_now = record {
-    attributes = ap (map (λ (m : Message). m.body)) (says.others (λ (k : ℕ). k == 12) (refl, (refl, (refl, (refl, (refl, tt))))));
-    kept = ap (map kept_of) (says.others (λ (k : ℕ). (k == 13 || k == 14) || k == 18) (refl, (refl, (refl, (refl, (refl, tt))))));
+    attributes = ap (map (λ (m : Message). m.body)) (says.others (λ (k : ℕ). k == attribute_kind) (refl, (refl, (refl, (refl, (refl, tt))))));
+    kept = ap (map kept_of) (says.others (λ (k : ℕ). (k == comment_kind || k == old_modification_time_kind) || k == modification_time_kind) (refl, (refl, (refl, (refl, (refl, tt))))));
   }
 
   pub array_now : (a : Described) → HasArray ms a → is_chunked (storage_of a.sizes a.layout) ≡ true → length e.sizes ≡ length a.sizes → e.maxima ≡ a.maxima
@@ -120,19 +108,19 @@ module _ (ms ms' : List Message) (e : Extent) (says : SaysExtent ms ms' e) where
   array_now a has chunked ranked maxima few = record {
     one_space = says.once;
     one_type = says.types ∙ has.one_type;
-    one_layout = same_count 8 layouts ∙ has.one_layout;
-    old_fills = omega (arith, same_count 4 old_fills, has.old_fills);
-    fills = omega (arith, same_count 5 fills, has.fills);
+    one_layout = same_count data_layout_kind layouts ∙ has.one_layout;
+    old_fills = omega (arith, same_count old_fill_value_kind old_fills, has.old_fills);
+    fills = omega (arith, same_count fill_value_kind fills, has.fills);
     space = says.space ∙ ap (λ (ns : List (Option ℕ)). Some (record { sizes = e.sizes; maxima = ns })) maxima;
     type = says.datatype ∙ has.type;
     filled = record {
       old_fill = (has.filled).old_fill;
       new_fill = (has.filled).new_fill;
-      old_filled = subst (λ (b : Option (List ℕ)). IsFill (old_fill_value a.fixed) b (has.filled).old_fill) (sym (same_body 4 old_fills)) (has.filled).old_filled;
-      new_filled = subst (λ (b : Option (List ℕ)). IsFill (fill_value a.fixed) b (has.filled).new_fill) (sym (same_body 5 fills)) (has.filled).new_filled;
+      old_filled = subst (λ (b : Option (List ℕ)). IsFill (old_fill_value a.fixed) b (has.filled).old_fill) (sym (same_body old_fill_value_kind old_fills)) (has.filled).old_filled;
+      new_filled = subst (λ (b : Option (List ℕ)). IsFill (fill_value a.fixed) b (has.filled).new_fill) (sym (same_body fill_value_kind fills)) (has.filled).new_filled;
       filled = (has.filled).filled;
     };
-    laid_out = ap (option_and_then (layout_of e.sizes a.fixed.size)) (same_body 8 layouts)
+    laid_out = ap (option_and_then (layout_of e.sizes a.fixed.size)) (same_body data_layout_kind layouts)
         ∙ layout_still a.sizes e.sizes a.fixed.size a.layout (first_body data_layout_kind ms) chunked ranked has.laid_out;
     small = few;
     chunk_small = has.chunk_small;

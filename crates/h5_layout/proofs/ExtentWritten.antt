@@ -10,7 +10,7 @@ use Rattle.std.proofs.lemmas.List.FromFn.{length-map-range_with_len}
 use Rattle.std.proofs.lemmas.Option.{cond_some}
 use Rattle.h5_bytes.specs.Bytes.{part, with_part}
 use Rattle.h5_bytes.proofs.PartLaws.{length-part, part-with_part_same}
-use Rattle.h5_model.specs.Format.MessageTypes.{dataspace_kind}
+use Rattle.h5_model.specs.Format.MessageTypes.{dataspace_kind, datatype_kind, symbol_table_kind}
 use Rattle.h5_model.specs.Format.Datatype.{fixed_of}
 use Rattle.h5_model.specs.Format.Extent.{Extent, extent_in, extent_of, has_maxima, is_dataspace, rank_in, size_in}
 use Rattle.h5_model.specs.Format.Messages.{Message, first_body, reference_count}
@@ -40,24 +40,24 @@ maxima_long body e is maxima =
 
 -- ---- the message that is found
 
-pub extent_found : (s : Space) (m : Listed) → IsArrayApart s m → (x : Placed) × (find (λ (y : Placed). y.kind == 1) m.list ≡ Some x)
-extent_found s m is = go (find (λ (y : Placed). y.kind == 1) m.list) refl where
-  go : (o : Option Placed) → find (λ (y : Placed). y.kind == 1) m.list ≡ o → (x : Placed) × (find (λ (y : Placed). y.kind == 1) m.list ≡ Some x)
+pub extent_found : (s : Space) (m : Listed) → IsArrayApart s m → (x : Placed) × (find (λ (y : Placed). y.kind == dataspace_kind) m.list ≡ Some x)
+extent_found s m is = go (find (λ (y : Placed). y.kind == dataspace_kind) m.list) refl where
+  go : (o : Option Placed) → find (λ (y : Placed). y.kind == dataspace_kind) m.list ≡ o → (x : Placed) × (find (λ (y : Placed). y.kind == dataspace_kind) m.list ≡ Some x)
   go None none =
       let no_body : first_body dataspace_kind (messages_in s.bytes m.list) ≡ None
       = first_body-in s.bytes 1 m.list ∙ ap (option_map (λ (y : Placed). part y.at y.size s.bytes)) none in
-      absurd (omega (arith, none_stands 1 (messages_in s.bytes m.list) no_body, is.array.one_space))
+      absurd (omega (arith, none_stands dataspace_kind (messages_in s.bytes m.list) no_body, is.array.one_space))
   go (Some x) found = (x, found)
 
 -- a reference to it is handed out
-pub extent_lent : (list : List Placed) (x : Placed) (r : Option (Bor Placed)) → find (λ (y : Placed). y.kind == 1) list ≡ Some x
-    → option_copied r ≡ find (λ (y : Placed). y.kind == 1) list → IsSome r
+pub extent_lent : (list : List Placed) (x : Placed) (r : Option (Bor Placed)) → find (λ (y : Placed). y.kind == dataspace_kind) list ≡ Some x
+    → option_copied r ≡ find (λ (y : Placed). y.kind == dataspace_kind) list → IsSome r
 extent_lent list x None found same = absurd (let never : None ≡ Some x = same ∙ found in cc)
 extent_lent list x (Some b) found same = refl
 
 -- ---- it is written where it stands
 
-module _ (old : Space) (m : Listed) (was : IsArrayApart old m) (x : Placed) (found : find (λ (y : Placed). y.kind == 1) m.list ≡ Some x) where
+module _ (old : Space) (m : Listed) (was : IsArrayApart old m) (x : Placed) (found : find (λ (y : Placed). y.kind == dataspace_kind) m.list ≡ Some x) where
   abbrev ms : List Message
   ms = messages_in old.bytes m.list
 
@@ -102,11 +102,11 @@ module _ (old : Space) (m : Listed) (was : IsArrayApart old m) (x : Placed) (fou
     high : x.at + length w ≤ x.at + x.size
     high = omega (arith, long)
 
-    wrote : IsBodyWritten old.bytes new.bytes m 1 x
-    wrote = subst (λ (bytes : List ℕ). IsBodyWritten old.bytes bytes m 1 x) (sym bytes_are)
-        (body_written old.bytes m was.standing 1 not_continued x found w x.at low high)
+    wrote : IsBodyWritten old.bytes new.bytes m dataspace_kind x
+    wrote = subst (λ (bytes : List ℕ). IsBodyWritten old.bytes bytes m dataspace_kind x) (sym bytes_are)
+        (body_written old.bytes m was.standing dataspace_kind not_continued x found w x.at low high)
 
-    said : HasNewBody 1 ms (messages_in new.bytes m.list) (part x.at x.size new.bytes)
+    said : HasNewBody dataspace_kind ms (messages_in new.bytes m.list) (part x.at x.size new.bytes)
     said = wrote.messages
 
     body_now : part x.at x.size new.bytes ≡ w
@@ -119,12 +119,12 @@ module _ (old : Space) (m : Listed) (was : IsArrayApart old m) (x : Placed) (fou
         record {
           standing = wrote.standing;
           said = record {
-            once = same_count 1 ms ms' body said 1 ∙ was.array.one_space;
-            space = ap (option_and_then extent_of) (new_first 1 ms ms' body said ∙ ap (λ (bytes : List ℕ). Some bytes) body_now) ∙ says;
-            types = same_count 1 ms ms' body said 3;
-            datatype = ap (option_and_then fixed_of) (same_first 1 ms ms' body said 3 refl);
-            tables = same_count 1 ms ms' body said 17;
-            others = λ p none. same_filter 1 ms ms' body said p none.1.0;
+            once = same_count dataspace_kind ms ms' body said dataspace_kind ∙ was.array.one_space;
+            space = ap (option_and_then extent_of) (new_first dataspace_kind ms ms' body said ∙ ap (λ (bytes : List ℕ). Some bytes) body_now) ∙ says;
+            types = same_count dataspace_kind ms ms' body said datatype_kind;
+            datatype = ap (option_and_then fixed_of) (same_first dataspace_kind ms ms' body said datatype_kind refl);
+            tables = same_count dataspace_kind ms ms' body said symbol_table_kind;
+            others = λ p none. same_filter dataspace_kind ms ms' body said p none.1.0;
           };
           header = refl;
           count = ap reference_count wrote.prefix;

@@ -13,7 +13,7 @@ use Rattle.h5_model.proofs.StoredValues.{fits_value_at}
 abbrev AreBytes : List ℕ → Type 0
 AreBytes body = (i : ℕ) → slice_index body i < 256
 
-zero_fits : (t : Fixed) → fits t (pos 0) ≡ true
+pub zero_fits : (t : Fixed) → fits t (pos 0) ≡ true
 zero_fits t = elim (t.signed) as (λ b. nat_lt 0 (cond b (2 ^ (8 * t.size - 1)) (2 ^ (8 * t.size))) ≡ true) [
   | true ↦ let some = pow_pos (8 * t.size - 1) in grind (arith, nat_tests)
   | false ↦ let some = pow_pos (8 * t.size) in grind (arith, nat_tests)

@@ -6,8 +6,7 @@ use Rattle.h5_model.specs.Edits.Applied.{cell_or_fill, with_sizes}
 use Rattle.h5_model.specs.Tree.Objects.{Dataset}
 use Rattle.h5_model.specs.Tree.Places.{cells, index_of}
 use Rattle.h5_model.specs.Format.Described.{Described}
-use Rattle.h5_model.proofs.PlaceLaws.{inside-index, place-index}
-use Rattle.h5_chunks.proofs.InsideLaws.{is_inside_from}
+use Rattle.h5_model.proofs.PlaceLaws.{inside-index, is_inside_from, place-index}
 use Rattle.h5_layout.specs.Data.{dataset_told, stored_chunks}
 use Rattle.h5_layout.specs.HeldChunks.{chunk_values, held_cells, held_chunks}
 

@@ -21,13 +21,12 @@ use Rattle.h5_model.specs.Format.Described.{Described}
 use Rattle.h5_model.specs.Tree.Grid.{corner_of, inner_of}
 use Rattle.h5_model.specs.Tree.Objects.{Dataset}
 use Rattle.h5_model.specs.Tree.Places.{IsInside, cells, index_of, is_inside, place_of}
-use Rattle.h5_model.proofs.PlaceLaws.{index-place, inside-index, place-index, place_below}
+use Rattle.h5_model.proofs.PlaceLaws.{index-place, inside-index, inside_of, place-index, place_below}
 use Rattle.h5_laws.proofs.Lists.{In, in_all, in_map}
 use Rattle.h5_laws.proofs.Maps.{get_of_entry}
 use Rattle.h5_chunks.specs.Held.{IsChunkPlace, place_entry}
 use Rattle.h5_chunks.specs.Keys.{index_from}
 use Rattle.h5_chunks.specs.declared.held.ChunkPlace.{ChunkPlace}
-use Rattle.h5_chunks.proofs.InsideLaws.{inside_of}
 use Rattle.h5_layout.specs.Data.{chunk_shape, dataset_told, stored_chunks}
 use Rattle.h5_layout.specs.HeldChunks.{chunk_values, held_cells}
 use Rattle.h5_layout.specs.Kept.{KeptChunks, chunks_below_root, corner_value, kept_cells, chunks_kept, kept_values, slices_kept, smaller_sizes}

@@ -17,7 +17,7 @@ use Rattle.h5_chunks.specs.Keys.{chunk_key}
 abbrev unsigned : ℕ → Fixed
 unsigned n = record { size = n; signed = false; big = false }
 
-bytes_part : (at n : ℕ) (bytes : List ℕ) → AreBytes bytes → AreBytes (part at n bytes)
+pub bytes_part : (at n : ℕ) (bytes : List ℕ) → AreBytes bytes → AreBytes (part at n bytes)
 unfolding part
 bytes_part at n bytes low = AreBytes-take n (drop at bytes) (AreBytes-drop at bytes low)
 

@@ -9,13 +9,13 @@ use Rattle.h5_header.specs.Heads.{is_read}
 use Rattle.h5_header.specs.Listed.{message_in, messages_in}
 use Rattle.h5_header.specs.declared.message.Message.{Message as Placed}
 
-known : (m : Message) → IsTrue (is_read m.kind) → (m.kind == 17) ≡ false → InDataset m
+known : (m : Message) → IsTrue (is_read m.kind) → (m.kind == symbol_table_kind) ≡ false → InDataset m
 known m read other = grind (arith, nat_tests)
 
 pub known_in : (image : List ℕ) (list : List Placed) → AllByRecursion (λ (m : Placed). IsTrue (is_read m.kind)) list → count_of symbol_table_kind (messages_in image list) ≡ 0
     → AllByRecursion InDataset (messages_in image list)
 known_in image [] read none = tt
-known_in image (m ∷ ms) read none = elim (m.kind == 17) as (λ b. (m.kind == 17) ≡ b → cond b 1 0 + count_of symbol_table_kind (messages_in image ms) ≡ 0 → AllByRecursion InDataset (messages_in image (m ∷ ms))) [
+known_in image (m ∷ ms) read none = elim (m.kind == symbol_table_kind) as (λ b. (m.kind == symbol_table_kind) ≡ b → cond b 1 0 + count_of symbol_table_kind (messages_in image ms) ≡ 0 → AllByRecursion InDataset (messages_in image (m ∷ ms))) [
   | true ↦ λ e h. absurd (omega arith)
   | false ↦ λ e h. (known (message_in image m) read.0 e, known_in image ms read.1 (omega arith))
 ] refl none

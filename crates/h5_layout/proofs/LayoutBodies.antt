@@ -38,7 +38,7 @@ no_block : (a : Bool) (bytes : List ℕ) (b : Option Block) → cond a (Some (In
 no_block false bytes b h = cc
 no_block true bytes b h = let never : InMessage bytes ≡ InBlock b = same_Some (InMessage bytes) (InBlock b) h in cc
 
-no_chunks : (a : Bool) (bytes : List ℕ) (chunk : List ℕ) (root : Option ℕ) → cond a (Some (InMessage bytes)) None ≡ Some (InChunks chunk root) → ⊥
+pub no_chunks : (a : Bool) (bytes : List ℕ) (chunk : List ℕ) (root : Option ℕ) → cond a (Some (InMessage bytes)) None ≡ Some (InChunks chunk root) → ⊥
 no_chunks false bytes chunk root h = cc
 no_chunks true bytes chunk root h = let never : InMessage bytes ≡ InChunks chunk root = same_Some (InMessage bytes) (InChunks chunk root) h in cc
 
@@ -46,7 +46,7 @@ chunks_no_block : (a : Bool) (chunk : List ℕ) (root : Option ℕ) (b : Option 
 chunks_no_block false chunk root b h = cc
 chunks_no_block true chunk root b h = let never : InChunks chunk root ≡ InBlock b = same_Some (InChunks chunk root) (InBlock b) h in cc
 
-block_no_chunks : (a b c : Bool) (x : Block) (chunk : List ℕ) (root : Option ℕ) → cond a (cond b (Some (InBlock None)) (cond c (Some (InBlock (Some x))) None)) None ≡ Some (InChunks chunk root) → ⊥
+pub block_no_chunks : (a b c : Bool) (x : Block) (chunk : List ℕ) (root : Option ℕ) → cond a (cond b (Some (InBlock None)) (cond c (Some (InBlock (Some x))) None)) None ≡ Some (InChunks chunk root) → ⊥
 block_no_chunks false b c x chunk root h = cc
 block_no_chunks true true c x chunk root h = let never : InBlock None ≡ InChunks chunk root = same_Some (InBlock None) (InChunks chunk root) h in cc
 block_no_chunks true false true x chunk root h = let never : InBlock (Some x) ≡ InChunks chunk root = same_Some (InBlock (Some x)) (InChunks chunk root) h in cc

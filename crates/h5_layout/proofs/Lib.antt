@@ -72,4 +72,3 @@ pub mod RoomChanged
 pub mod StorageMade
 pub mod BlockMade
 pub mod ResizedArray
-pub use Rattle.h5_chunks.proofs.InsideLaws

@@ -1,41 +1,18 @@
 -- The chunks that a selection meets and that are not stored.
-use Rattle.std.proofs.Common.{◌≡◌, ◌↔◌, ℕ, List, [], ◌∷◌, length, map, refl, sym, ap, ◌∙◌, arith, Option, Some, None, Bool, true}
+use Rattle.std.proofs.Common.{◌≡◌, ◌↔◌, ℕ, List, map, refl, Option, Some, None, Bool, true}
 use Rattle.std.specs.Prelude.{is_some, not}
 use Rattle.std.specs.FinMap.{get}
-use Rattle.std.specs.List.{AllByRecursion, Contains}
+use Rattle.std.specs.List.{Contains}
 use Rattle.h5_model.specs.Format.Chunks.{Chunks}
-use Rattle.h5_model.specs.Tree.Places.{IsInside}
 use Rattle.h5_model.specs.Views.Selection.{Slab}
-use Rattle.h5_laws.proofs.Lists.{In, all_in, contains_in, in_contains}
-use Rattle.h5_shape.specs.PartCells.{AreParted, HoldsCell, part_corner, selection_shape}
+use Rattle.h5_model.proofs.Members.{In, contains_in, filter_in, in_contains, in_filter}
+use Rattle.h5_shape.specs.PartCells.{AreParted, part_corner}
 use Rattle.h5_shape.specs.declared.parts.Span.{Span}
 use Rattle.h5_shape.proofs.CornerLaws.{corner-met}
+use Rattle.h5_shape.proofs.RisingBoxes.{filter_rises, pairs_rise}
 use Rattle.h5_layout.specs.HeldChunks.{AreRising, IsChunkMet}
 use Rattle.h5_layout.specs.Missing.{corners_missing}
-use Rattle.h5_layout.proofs.RisingLaws.{filter_in, filter_rises, in_filter, pairs_rise, rises_rising}
-
--- ---- parts of a selection
-
-long_held : (part : List Span) (at : List ℕ) → HoldsCell part at → length part ≡ length at
-long_held [] [] h = refl
-long_held [] (t ∷ ts) h = absurd h
-long_held (s ∷ ss) [] h = absurd h
-long_held (s ∷ ss) (t ∷ ts) h = omega (arith, long_held ss ts h.1)
-
-long_shape : (slab : Slab) (at : List ℕ) → IsInside (selection_shape slab) at → length at ≡ length slab
-long_shape [] [] h = refl
-long_shape [] (t ∷ ts) h = absurd h
-long_shape (a ∷ rest) [] h = absurd h
-long_shape (a ∷ rest) (t ∷ ts) h = omega (arith, long_shape rest ts h.1)
-
--- a span for each dimension
-pub parts_ranked : (slab : Slab) (boxes : List ℕ) (parts : List (List Span)) → AreParted slab boxes parts
-    → AllByRecursion (λ (part : List Span). length part ≡ length slab) parts
-parts_ranked slab boxes parts h = all_in (λ (part : List Span). length part ≡ length slab) parts (λ part at.
-    let there = contains_in part parts at in
-    let some = h.some there.0 part there.1 in
-    let inside = (h.cells there.0 part there.1 some.0 some.1).0 in
-    ap (λ (p : List Span). length p) (sym there.2) ∙ long_held _ some.0 some.1 ∙ long_shape slab some.0 inside)
+use Rattle.h5_layout.proofs.RisingLaws.{rises_rising}
 
 -- ---- those at which no chunk is stored
 

@@ -41,13 +41,13 @@ use Rattle.h5_layout.proofs.StorableLaws.{small_told}
 -- it is found, and tells the layout
 pub record IsLayoutFound (image : List ℕ) (list : List Placed) (a : Described) : Type 0 where
   pub place : Placed
-  pub found : find (λ (m : Placed). m.kind == 8) list ≡ Some place
+  pub found : find (λ (m : Placed). m.kind == data_layout_kind) list ≡ Some place
   pub layout : layout_of a.sizes a.fixed.size (part place.at place.size image) ≡ Some a.layout
   pub long : length (part place.at place.size image) ≡ place.size
 
 pub layout_found : (image : List ℕ) (list : List Placed) → IsWithin (length image) list → (a : Described) → HasArray (messages_in image list) a → IsLayoutFound image list a
-layout_found image list within a has = go (find (λ (m : Placed). m.kind == 8) list) refl where
-  go : (found : Option Placed) → find (λ (m : Placed). m.kind == 8) list ≡ found → IsLayoutFound image list a
+layout_found image list within a has = go (find (λ (m : Placed). m.kind == data_layout_kind) list) refl where
+  go : (found : Option Placed) → find (λ (m : Placed). m.kind == data_layout_kind) list ≡ found → IsLayoutFound image list a
   go None none =
       let body : first_body data_layout_kind (messages_in image list) ≡ None = first_body-in image 8 list ∙ ap (option_map (λ (m : Placed). part m.at m.size image)) none in
       let never : None ≡ Some a.layout = sym (ap (option_and_then (layout_of a.sizes a.fixed.size)) body) ∙ has.laid_out in

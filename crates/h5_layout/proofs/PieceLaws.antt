@@ -8,6 +8,7 @@ use Rattle.std.proofs.Math.Nat.{mul-le-mul_right}
 use Rattle.std.proofs.lemmas.List.FromFn.{get_or-map-range_with_len, length-map-range_with_len}
 use Rattle.h5_model.specs.Format.Cells.{value_in}
 use Rattle.h5_model.specs.Format.Fixed.{Fixed, value_at}
+use Rattle.h5_model.proofs.SelectionLaws.{range-append}
 use Rattle.h5_model.proofs.StoredValues.{index-stored}
 use Rattle.h5_model.specs.Tree.Places.{cells}
 use Rattle.h5_model.specs.Views.Selection.{Slab, selection_of}
@@ -69,16 +70,6 @@ selected_below n sizes slab run runs all first none places long = record {
 
 -- ---- a piece is taken
 
-pub range_split : (p k m : ℕ) → range_with_len p (k + m) ≡ range_with_len p k ++ range_with_len (p + k) m
-range_split p zero m =
-    let none : zero + m ≡ m = omega arith in
-    let here : p + zero ≡ p = omega arith in
-    rw (none, here) refl
-range_split p (suc k) m =
-    let grown : suc k + m ≡ suc (k + m) = omega arith in
-    let moved : p + suc k ≡ (p + 1) + k = omega arith in
-    rw (grown, moved) (ap (λ (ps : List ℕ). p ∷ ps) (range_split (p + 1) k m))
-
 module _ (all : CellsLeft) (run : CellRun) (runs : Option (List CellRun)) (piece : Piece) (k : ℕ) (at : IsPieceAt all run.place run.length piece k) where
   abbrev pub behind : CellRun
   behind = record { place = run.place + k; length = run.length - k }
@@ -91,7 +82,7 @@ module _ (all : CellsLeft) (run : CellRun) (runs : Option (List CellRun)) (piece
       let sum : k + (run.length - k) ≡ run.length = omega (arith, at.few) in
       let others : List ℕ = places_in (runs_behind runs) in
       ap (λ (n : ℕ). range_with_len run.place n ++ others) (sym sum)
-      ∙ ap (λ (ps : List ℕ). ps ++ others) (range_split run.place k (run.length - k))
+      ∙ ap (λ (ps : List ℕ). ps ++ others) (range-append run.place k (run.length - k))
       ∙ append_assoc (range_with_len run.place k) (range_with_len (run.place + k) (run.length - k)) others
 
   pub taken : IsPieceTaken (cells_left all (places_left run runs)) piece (cells_left all (places_left behind runs))

@@ -1,5 +1,7 @@
 -- An array that was trimmed is, with its new sizes, the array that a resize gives (File Format Specification 3.0, section IV.A.2.b).
 use Rattle.std.proofs.Common.{◌≡◌, ℕ, ◌+◌, List, length, Bool, true, false, cond, Option, refl, sym, ap, ap₂, ◌∙◌, arith}
+use Rattle.std.proofs.Math.Bool.{and-false}
+use Rattle.std.proofs.lemmas.Bool.{and_parts}
 use Rattle.std.specs.Prelude.{◌&&◌, slice_index_or}
 use Rattle.h5_model.specs.Edits.Applied.{cell_or_fill, with_sizes}
 use Rattle.h5_model.specs.Edits.Refusal.{is_chunked}
@@ -8,11 +10,9 @@ use Rattle.h5_model.specs.Format.Chunks.{Chunks}
 use Rattle.h5_model.specs.Format.Layout.{Layout, InChunks}
 use Rattle.h5_model.specs.Format.Described.{storage_of, Described}
 use Rattle.h5_model.specs.Tree.Places.{cells, index_of, is_inside, place_of}
-use Rattle.h5_model.proofs.PlaceLaws.{inside-index}
+use Rattle.h5_model.proofs.PlaceLaws.{inside-index, inside_of, is_inside_from}
 use Rattle.h5_space.specs.Space.{Space}
 use Rattle.h5_header.specs.Listed.{Listed}
-use Rattle.h5_msg.proofs.WordLaws.{and_right}
-use Rattle.h5_chunks.proofs.InsideLaws.{inside_of, is_inside_from}
 use Rattle.h5_layout.specs.ArrayEdits.{described_in}
 use Rattle.h5_layout.specs.Data.{dataset_told, stored_chunks}
 use Rattle.h5_layout.specs.Kept.{smaller_sizes}
@@ -85,13 +85,10 @@ module _ (old new : Space) (m : Listed) (chunk : List ℕ) (root : Option ℕ) (
 
   -- and nothing of it is stored outside of them
   inside_too : (index : List ℕ) → is_inside both index ≡ true → is_inside sizes index ≡ true
-  inside_too index is = and_right (is_inside a.sizes index) (is_inside sizes index) (sym (in_both index) ∙ is)
+  inside_too index is = (and_parts (is_inside a.sizes index) (is_inside sizes index) (sym (in_both index) ∙ is)).1
 
   outside_too : (index : List ℕ) → is_inside sizes index ≡ false → is_inside both index ≡ false
-  outside_too index out = in_both index ∙ ap (λ q. is_inside a.sizes index && q) out ∙ by_test (is_inside a.sizes index) where
-    by_test : (b : Bool) → (b && false) ≡ false
-    by_test true = refl
-    by_test false = refl
+  outside_too index out = in_both index ∙ ap (λ q. is_inside a.sizes index && q) out ∙ and-false (is_inside a.sizes index)
 
   pub resized_trimmed : IsTrimmed new.bytes (record (described_in new.bytes m) { sizes = sizes }) sizes
   resized_trimmed =

@@ -5,7 +5,7 @@ use Rattle.std.specs.FinMap.{entries, get, get-empty, get-entries, nat_cmp-IsAnt
 use Rattle.std.specs.List.{list_any}
 use Rattle.std.specs.Ordering.{nat_cmp}
 use Rattle.std.specs.Cmp.Lexicographic.{slice_cmp}
-use Rattle.std.proofs.lemmas.Bool.{cases_order}
+use Rattle.std.proofs.lemmas.Bool.{or_parts, cases_order}
 use Rattle.std.proofs.lemmas.Bool.Decides.{nat_tests}
 use Rattle.std.proofs.lemmas.Nat.{div-add-mod'}
 use Rattle.std.proofs.lemmas.Option.{same_Some, cond_some}
@@ -23,7 +23,6 @@ use Rattle.h5_model.specs.Format.Superblock.{chunk_k}
 use Rattle.h5_model.specs.Tree.Grid.{corner_of, inner_of}
 use Rattle.h5_model.specs.Tree.Places.{cells, index_of, place_of}
 use Rattle.h5_model.proofs.PlaceLaws.{index-place, place_below, place-index}
-use Rattle.h5_msg.proofs.LayoutLaws.{or_left, or_right}
 use Rattle.h5_laws.proofs.Lists.{In}
 use Rattle.h5_laws.proofs.Maps.{found_entry}
 use Rattle.h5_chunks.specs.Read.{AreChunksRead}
@@ -107,9 +106,9 @@ block_boxes true false false d layout h = absurd (cc)
 some_boxes : (chunk : List ℕ) → list_any (λ n. n == 0) chunk ≡ false → 0 < cells chunk
 some_boxes [] some = omega arith
 some_boxes (c ∷ cs) some =
-    let own : (c == 0) ≡ false = or_left (c == 0) (list_any (λ n. n == 0) cs) some in
+    let own : (c == 0) ≡ false = (or_parts (c == 0) (list_any (λ n. n == 0) cs) some).0 in
     let any : 1 ≤ c = grind (arith, nat_tests) in
-    let rest = some_boxes cs (or_right (c == 0) (list_any (λ n. n == 0) cs) some) in
+    let rest = some_boxes cs (or_parts (c == 0) (list_any (λ n. n == 0) cs) some).1 in
     let one : 1 * cells cs ≤ c * cells cs = mul-le-mul_right (cells cs) any in
     omega (arith, one, rest)
 

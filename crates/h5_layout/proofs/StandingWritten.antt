@@ -1,14 +1,14 @@
 -- Values that are written into cells where they stand: the data stay where they are, and the array has the values in these cells.
 use Rattle.std.proofs.Common.{◌≡◌, ℕ, zero, suc, ◌+◌, ◌-◌, ◌*◌, ◌/◌, ◌%◌, ◌<◌, ◌≤◌, ◌⊎◌, inl, inr, List, [], ◌∷◌, ◌++◌, append-nil, length, Option, Some, None, ℤ, true, refl, sym, ap, ◌∙◌, subst, arith, get_or, set, slice_index}
 use Rattle.std.specs.List.{list_all, range_with_len}
-use Rattle.std.proofs.lemmas.Bool.{cases_lt}
+use Rattle.std.proofs.lemmas.Bool.{and_parts, cases_lt}
 use Rattle.std.proofs.lemmas.List.{places}
 use Rattle.std.proofs.lemmas.List.Folds.{list_all-append}
 use Rattle.std.proofs.lemmas.Nat.{div-add-mod', div_below}
 use Rattle.h5_bytes.specs.Blocks.{block, cover, holds, Inside, IsKept, Keeps}
 use Rattle.h5_bytes.specs.Bytes.{byte_at, part, with_part}
 use Rattle.h5_bytes.specs.declared.Block.{Block}
-use Rattle.h5_bytes.proofs.BlockLaws.{all_left, held, holds-le, holds_in, holds_none}
+use Rattle.h5_bytes.proofs.BlockLaws.{all_left, held, holds-le, holds_in}
 use Rattle.h5_bytes.proofs.PartLaws.{with_part_is, length-with_part}
 use Rattle.h5_model.specs.Edits.Applied.{with_cells}
 use Rattle.h5_model.specs.Format.Cells.{cell_of, cells_of}
@@ -24,13 +24,10 @@ use Rattle.h5_model.specs.Tree.Places.{cells, index_of}
 use Rattle.h5_model.proofs.FixedLaws.{value_back, length-bytes_of}
 use Rattle.h5_model.proofs.PlainValues.{length-cells_bytes, size-low}
 use Rattle.h5_model.proofs.ValueLaws.{value_at-moved, value_at-same}
-use Rattle.h5_space.specs.Moves.{Moves}
-use Rattle.h5_space.specs.Space.{Space}
 use Rattle.h5_space.proofs.MovesLaws.{part-same}
 use Rattle.h5_header.proofs.FoundLaws.{among_some}
 use Rattle.h5_laws.proofs.Lists.{In, in_all, all_in}
 use Rattle.h5_laws.proofs.InPlace.CellWrites.{table_set}
-use Rattle.h5_msg.proofs.WordLaws.{and_left, and_right}
 use Rattle.h5_chunks.specs.Cursor.{IsCursor}
 use Rattle.h5_chunks.specs.Read.{AreChunksRead}
 use Rattle.h5_chunks.specs.declared.cursor.ChunkCursor.{ChunkCursor}
@@ -46,7 +43,7 @@ use Rattle.h5_layout.proofs.WriteLaws.{with_part-append, with_part-none}
 pub parts_of_type : (t : Fixed) (vs ws : List ℤ) → list_all (fits t) (vs ++ ws) ≡ true → (list_all (fits t) vs ≡ true) × (list_all (fits t) ws ≡ true)
 parts_of_type t vs ws all =
     let both = sym (list_all-append (fits t) vs ws) ∙ all in
-    (and_left (list_all (fits t) vs) (list_all (fits t) ws) both, and_right (list_all (fits t) vs) (list_all (fits t) ws) both)
+    and_parts (list_all (fits t) vs) (list_all (fits t) ws) both
 
 -- a byte beside those that are written
 pub byte_beside : (at : ℕ) (new bytes : List ℕ) (p : ℕ) → at + length new ≤ length bytes → (p < at) ⊎ (at + length new ≤ p) → byte_at (with_part at new bytes) p ≡ byte_at bytes p
@@ -252,13 +249,13 @@ module _ (t : Fixed) (is : IsFixed t) (fill : ℤ) (sizes : List ℕ) (layout : 
       = λ p far. byte_beside at (bytes_of t v) image p fit (elim far [ inl under ↦ inl under | inr past ↦ inr (omega (arith, past, wide)) ]) in
       let one = do_stay image first t sizes long at kept layout was place (omega (arith, room)) here in
       let set_one = cell_set image first t sizes long at kept fill layout was place (omega (arith, room)) here v
-      (first_value image at v (and_left (fits t v) (list_all (fits t) vs) all) (omega (arith, fit, wide))) (size-low t is) in
+      (first_value image at v (and_parts (fits t v) (list_all (fits t) vs) all).0 (omega (arith, fit, wide))) (size-low t is) in
       let next : DoStand first (place + 1) (length vs) (at + t.size) = λ k few.
       let there : (place + 1) + k ≡ place + suc k = omega arith in
       let address : at + suc k * t.size ≡ (at + t.size) + k * t.size = omega arith in
       ap (λ (chunks : Chunks). address_of t sizes layout chunks (index_of sizes ((place + 1) + k))) one.chunks
       ∙ ap (stands image t sizes layout) there ∙ stand (suc k) (omega (arith, few)) ∙ ap (λ (n : ℕ). Some n) address in
-      let rest = run_written vs (place + 1) (at + t.size) first one.apart (and_right (fits t v) (list_all (fits t) vs) all) (omega (arith, room)) (omega (arith, long, split, low)) next in
+      let rest = run_written vs (place + 1) (at + t.size) first one.apart (and_parts (fits t v) (list_all (fits t) vs) all).1 (omega (arith, room)) (omega (arith, long, split, low)) next in
       let whole : with_part (at + t.size) (cells_bytes t vs) first ≡ with_part at (cells_bytes t (v ∷ vs)) image
       = ap (λ (n : ℕ). with_part (at + n) (cells_bytes t vs) first) (sym wide)
       ∙ sym (with_part-append at (bytes_of t v) (cells_bytes t vs) image (omega (arith, wide, others, split, low))) in
@@ -315,27 +312,6 @@ module _ (t : Fixed) (is : IsFixed t) (fill : ℤ) (sizes : List ℕ) (layout : 
     run_among header = around (blocks_with_cells t layout (stored_chunks image t layout) header) (λ k low. (cell_held k low).among header)
 
 -- ---- the array
-
--- what is written into blocks moves no other byte
-pub moves_within : (old new : Space) (at : ℕ) (w : List ℕ) (bs : List Block) → at + length w ≤ length old.bytes → new.bytes ≡ with_part at w old.bytes → new.free ≡ old.free
-    → ((p : ℕ) → holds p at (length w) ≤ cover p bs) → Moves old new bs bs
-moves_within old new at w bs fit is free covered =
-    let long : length new.bytes ≡ length old.bytes = ap length is ∙ length-with_part at w old.bytes fit in
-    record {
-      grown = omega (arith, long);
-      kept = λ p low none unfree. ap (λ (b : List ℕ). byte_at b p) is ∙ byte_beside at w old.bytes p fit (elim (cases_lt p at) [
-        | inl below ↦ inl below
-        | inr above ↦ inr (elim (cases_lt p (at + length w)) [
-          | inl within ↦ absurd (let one = holds_in p at (length w) above within in let all = covered p in omega (arith, one, all, none))
-          | inr past ↦ past
-        ])
-      ]);
-      moved = λ p.
-          let same : length new.bytes - length old.bytes ≡ 0 = omega (arith, long) in
-          let unheld : holds p (length old.bytes) (length new.bytes - length old.bytes) ≡ 0 = ap (holds p (length old.bytes)) same ∙ holds_none p (length old.bytes) in
-          let frees : cover p new.free ≡ cover p old.free = ap (cover p) free in
-          omega (arith, unheld, frees);
-    }
 
 module _ (old : List ℕ) (a : Described) (ms : List Message) (has : HasArray ms a) (is : IsFixed a.fixed) (read : AreDataRead old a.fixed a.layout)
     (once : (p : ℕ) → cover p (block 0 (superblock_length old) ∷ data_blocks old a.fixed a.layout) ≤ 1) (whole : superblock_length old ≤ length old) (place at : ℕ) (values : List ℤ) (some : 0 < length values)

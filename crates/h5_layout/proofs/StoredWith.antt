@@ -8,9 +8,9 @@ use Rattle.std.specs.List.{Contains}
 use Rattle.h5_model.specs.Format.Chunks.{Chunks}
 use Rattle.h5_model.specs.Tree.Places.{IsInside, extent_cells, is_inside}
 use Rattle.h5_model.specs.Views.Selection.{Slab, Within}
+use Rattle.h5_model.proofs.PlaceLaws.{is_inside_from}
 use Rattle.h5_laws.proofs.Lists.{In, contains_in, in_map}
 use Rattle.h5_laws.proofs.Maps.{found_entry}
-use Rattle.h5_chunks.proofs.InsideLaws.{is_inside_from}
 use Rattle.h5_layout.specs.HeldChunks.{IsHeldChunk, IsChunkMet, held_chunks}
 use Rattle.h5_layout.proofs.CornerInside.{corner_inside, corner_whole}
 

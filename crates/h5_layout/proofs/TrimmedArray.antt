@@ -16,7 +16,8 @@ use Rattle.h5_model.specs.Format.Reached.{Shape}
 use Rattle.h5_model.specs.Format.Described.{Described}
 use Rattle.h5_model.specs.Tree.Grid.{corner_of, inner_of}
 use Rattle.h5_model.specs.Tree.Places.{IsInside, cells, index_of, is_inside, place_of}
-use Rattle.h5_model.proofs.PlaceLaws.{index-place, place_below}
+use Rattle.h5_model.proofs.Members.{filter_in, in_filter}
+use Rattle.h5_model.proofs.PlaceLaws.{index-place, inside_of, is_inside_from, place_below}
 use Rattle.h5_space.specs.Moves.{Moves}
 use Rattle.h5_space.specs.Space.{Space}
 use Rattle.h5_space.proofs.MovesLaws.{moves_none, moves_then}
@@ -25,7 +26,6 @@ use Rattle.h5_laws.proofs.Lists.{In, from_map, in_all, in_at, in_contains, in_ma
 use Rattle.h5_laws.proofs.Maps.{found_entry, get_of_entry}
 use Rattle.h5_chunks.specs.Read.{AreChunksRead}
 use Rattle.h5_chunks.specs.Told.{chunk_blocks_told, chunks_told}
-use Rattle.h5_chunks.proofs.InsideLaws.{inside_of, is_inside_from}
 use Rattle.h5_layout.specs.ArrayChunks.{ArrayChunks, AreSoundChunks, IsInChunksOf}
 use Rattle.h5_layout.specs.ArrayEdits.{IsArrayApart, IsArrayMoved, described_in}
 use Rattle.h5_chunks.specs.Edited.{AreChunksApart, HasChunksNow}
@@ -38,7 +38,6 @@ use Rattle.h5_layout.proofs.ArrayMoved.{array_still, data_moved, said_still}
 use Rattle.h5_layout.proofs.CornerInside.{corner_inside}
 use Rattle.h5_layout.proofs.EdgeCells.{reaches_outside, slices_index}
 use Rattle.h5_layout.proofs.LocateLaws.{inner_inside, some_cells}
-use Rattle.h5_layout.proofs.RisingLaws.{filter_in, in_filter}
 use Rattle.h5_layout.proofs.StoredWith.{held_there}
 use Rattle.h5_layout.proofs.TrimmedChunks.{AreTrimmedSo}
 

@@ -1,8 +1,5 @@
 -- Chunks whose cells outside an extent become the fill, one chunk after another.
-use Rattle.std.proofs.Common.{◌≡◌, ℕ, ◌+◌, ◌*◌, ◌<◌, ◌≤◌, ◌⊎◌, inl, inr, ℤ, List, [], ◌∷◌, ◌++◌, length, Bool, true, false, cond, Some, refl, sym, ap, ◌∙◌, subst, arith}
-use Rattle.std.specs.Ordering.{eq_by_cmp, nat_cmp}
-use Rattle.std.specs.Cmp.{IsEquivalence, eq_by_cmp_equiv}
-use Rattle.std.specs.Cmp.Lexicographic.{nat_list_cmp_total, same_text, slice_cmp, texts_ties}
+use Rattle.std.proofs.Common.{◌≡◌, ℕ, ◌+◌, ◌*◌, ◌<◌, ◌≤◌, inl, inr, ℤ, List, [], ◌∷◌, ◌++◌, length, Bool, true, false, cond, Some, refl, sym, ap, ◌∙◌, arith}
 use Rattle.std.specs.FinMap.{get}
 use Rattle.std.specs.List.{range_with_len}
 use Rattle.std.proofs.lemmas.List.FromFn.{length-map-range_with_len}
@@ -23,6 +20,7 @@ use Rattle.h5_space.specs.Space.{Space}
 use Rattle.h5_space.proofs.MovesLaws.{moves_none, moves_then, spends_none, spends_then}
 use Rattle.h5_header.proofs.BesideLaws.{spends_write}
 use Rattle.h5_laws.proofs.Lists.{In, in_either}
+use Rattle.h5_laws.proofs.SoundLaws.Inserted.{same_name_or_other}
 use Rattle.h5_msg.proofs.ValueBytes.{AreBytes}
 use Rattle.h5_chunks.specs.Told.{chunk_blocks_told, chunks_told}
 use Rattle.h5_layout.specs.ArrayChunks.{ArrayChunks, AreSoundChunks}
@@ -32,19 +30,6 @@ use Rattle.h5_layout.specs.Kept.{corner_value, slices_kept}
 use Rattle.h5_layout.specs.Trimmed.{trimmed_bytes}
 use Rattle.h5_layout.proofs.ChunkFilled.{written_apart, written_chunks, written_here, written_moves, written_others}
 use Rattle.h5_layout.proofs.GridLaws.{chunk_inside}
-
--- offsets are equal or not
-alike : IsEquivalence (eq_by_cmp (slice_cmp nat_cmp))
-alike = eq_by_cmp_equiv nat_list_cmp_total
-
-equal_or_not : (xs ys : List ℕ) → (xs ≡ ys) ⊎ (xs ≡ ys → ⊥)
-equal_or_not xs ys = by_test (eq_by_cmp (slice_cmp nat_cmp) xs ys) refl where
-  by_test : (b : Bool) → eq_by_cmp (slice_cmp nat_cmp) xs ys ≡ b → (xs ≡ ys) ⊎ (xs ≡ ys → ⊥)
-  by_test true tied = inl (same_text xs ys (sym (texts_ties xs ys ∙ tied)))
-  by_test false apart = inr (λ same.
-      let one : eq_by_cmp (slice_cmp nat_cmp) xs ys ≡ true = subst (λ (zs : List ℕ). eq_by_cmp (slice_cmp nat_cmp) xs zs ≡ true) same (alike.refl xs) in
-      let never : false ≡ true = sym apart ∙ one in
-      cc)
 
 -- Cells outside of the extent became the fill in these chunks. All chunks stand where they stood, and their other cells are as before.
 pub record AreTrimmedSo (k : ArrayChunks) (sizes : List ℕ) (root : ℕ) (start now : Space) (done : List (List ℕ)) : Type 0 where
@@ -139,7 +124,7 @@ module _ (k : ArrayChunks) (sound : AreSoundChunks k) (sizes : List ℕ) where
 
       filled_now : (o : List ℕ) (a place : ℕ) → In o (done ++ offsets ∷ []) → get (chunks_told start.bytes shape root) o ≡ Some a → place < cells k.chunk
           → IsWithin o place false → value_there new a place ≡ k.fill
-      filled_now o a place of there under out = elim (equal_or_not o offsets) [
+      filled_now o a place of there under out = elim (same_name_or_other o offsets) [
         | inl same ↦ here o a place same there under ∙ ap (λ b. cond b (value_there now a place) k.fill) out
         | inr differ ↦ there_still o a place differ there ∙ elim (in_either o done (offsets ∷ []) of) [
           | inl before ↦ so.filled o a place before there under out
@@ -157,7 +142,7 @@ module _ (k : ArrayChunks) (sound : AreSoundChunks k) (sizes : List ℕ) where
             (written_moves now new shape root so.stand offsets at found w long wrote);
         spent = spends_then start now new 0 0 0 0 so.spent (spends_write now new w at room wrote);
         inside = λ o a place there under within.
-            (elim (equal_or_not o offsets) [
+            (elim (same_name_or_other o offsets) [
               | inl same ↦ here o a place same there under ∙ ap (λ b. cond b (value_there now a place) k.fill) within
               | inr differ ↦ there_still o a place differ there
             ]) ∙ so.inside o a place there under within;

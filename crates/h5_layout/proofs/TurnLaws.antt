@@ -11,6 +11,7 @@ use Rattle.h5_model.specs.Format.Reached.{Shape}
 use Rattle.h5_model.proofs.TextOrder.{before_itself}
 use Rattle.h5_space.specs.Space.{Space}
 use Rattle.h5_laws.proofs.Lists.{In, in_all, in_contains}
+use Rattle.h5_shape.proofs.RisingBoxes.{Rises}
 use Rattle.h5_chunks.specs.Told.{chunks_told}
 use Rattle.h5_chunks.specs.Edited.{IsFullAt}
 use Rattle.h5_layout.specs.Filled.{AreToStore, HasFilledChunks}
@@ -18,7 +19,7 @@ use Rattle.h5_chunks.specs.Lists.{IsKeyOf, key_length}
 use Rattle.h5_chunks.specs.Lists.{ChunkOffsets}
 use Rattle.h5_layout.specs.Storage.{HasStoredMore, IsFullInTurn}
 use Rattle.h5_layout.proofs.FilledLaws.{filled_then}
-use Rattle.h5_layout.proofs.RisingLaws.{Rises, rising_rises}
+use Rattle.h5_layout.proofs.RisingLaws.{rising_rises}
 
 member : (xs : List (List ℕ)) (k : ℕ) → k < length xs → In (slice_index_or xs k []) xs
 member [] k low = absurd (omega (arith, low))

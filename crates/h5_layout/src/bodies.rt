@@ -1,17 +1,14 @@
 //! The bodies of messages of which a header has one.
 
-ghost use Rattle.std.specs.Prelude.{◌≡◌, Some, length};
+ghost use Rattle.std.specs.Prelude.{◌≡◌, Some};
 ghost use Rattle.h5_model.specs.Format.Messages.{count_of, first_body};
-ghost use Rattle.h5_header.specs.Listed.{messages_in, IsWithin};
 
-use h5_header::{Messages, find_body};
-use h5_space::Image;
+use h5_header::HeaderRef;
 
 /// The body of the message of a type of which there is one.
-pub(crate) fn one_body<'a>(image: &'a Image, messages: &Messages, kind: u16) -> &'a [u8]
-    requires within { IsWithin (length image.now.bytes) messages.now.list }
-    requires one { count_of kind (messages_in image.now.bytes messages.now.list) ≡ 1 }
-    ensures { first_body kind (messages_in image.now.bytes messages.now.list) ≡ Some result.now }
+pub(crate) fn one_body<'a>(header: &HeaderRef<'a>, kind: u16) -> &'a [u8]
+    requires { count_of kind header.now.messages ≡ 1 }
+    ensures { first_body kind header.now.messages ≡ Some result.now }
 {
-    find_body(image, messages, kind).unwrap()
+    header.find_body(kind).unwrap()
 }

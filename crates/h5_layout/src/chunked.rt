@@ -15,7 +15,7 @@ use crate::copied::CellsToFill;
 use crate::grid::{bytes_of, copy_sizes};
 use crate::read::known_array;
 use h5_chunks::ChunkShape;
-use h5_header::Messages;
+use h5_header::{HeaderRef, Messages};
 use h5_model::Fixed;
 use h5_msg::Layout;
 use h5_shape::MAX_RANK;
@@ -66,7 +66,7 @@ impl ChunkedArray {
         ensures chunks { IsInChunksOf (described_in image.now.bytes messages.now) result }
         ensures sound { AreSoundChunks result }
     {
-        let array = known_array(image, messages);
+        let array = known_array(&HeaderRef::new(image, messages));
         ChunkedArray::of(&array)
     }
 

@@ -6,7 +6,7 @@ ghost use Rattle.h5_model.specs.Tree.Places.{cells as cells_of};
 ghost use Rattle.h5_layout.specs.ArrayEdits.{IsArrayApart, described_in};
 
 use crate::read::known_array;
-use h5_header::Messages;
+use h5_header::{HeaderRef, Messages};
 use h5_model::Fixed;
 use h5_space::Image;
 
@@ -27,7 +27,7 @@ pub(crate) fn copied_cells(image: &Image, messages: &Messages) -> CellsToFill
         (described_in image.now.bytes messages.now).fill ≡ true }
     ensures count { result.count ≡ cells_of (described_in image.now.bytes messages.now).sizes }
 {
-    let array = known_array(image, messages);
+    let array = known_array(&HeaderRef::new(image, messages));
     CellsToFill {
         fixed: array.fixed(),
         fill: array.fill(),

@@ -3,15 +3,17 @@
 
 ghost use Rattle.std.specs.Prelude.{◌≡◌, ◌+◌, ◌*◌, ◌==◌, ◌≤◌, true, false, length, position};
 ghost use Rattle.h5_model.specs.Edits.Refusal.{are_maxima};
+ghost use Rattle.h5_model.specs.Format.Described.{HasArray};
 ghost use Rattle.h5_model.specs.Format.MessageTypes.{dataspace_kind};
 ghost use Rattle.h5_space.specs.Moves.{Spends};
 ghost use Rattle.h5_header.specs.Listed.{messages_in};
 ghost use Rattle.h5_layout.specs.ArrayEdits.{IsArrayApart, described_in};
 ghost use Rattle.h5_layout.specs.ExtentNow.{HasExtentNow};
+ghost use Rattle.h5_layout.specs.Told.{array_told};
 ghost use Rattle.h5_layout.specs.Extents.{CanHaveSizes, HasExtentRoom, HasSizesNow, MayHaveSizes, extent_room, lacks_maxima as lacks_any};
 
 use crate::bodies::one_body;
-use h5_header::{Messages, find_message};
+use h5_header::{HeaderRef, Messages, find_message};
 use h5_model::message_type::DATASPACE;
 use h5_msg::{dataspace_length, has_maxima, read_dataspace, write_bounded_dataspace};
 use h5_shape::MAX_RANK;
@@ -20,11 +22,11 @@ use h5_space::Image;
 /// Whether the Dataspace message of an array has no maxima, so that other sizes need another message. Takes no memory.
 ///
 /// That the array was read is the caller's condition.
-pub fn lacks_maxima(image: &Image, messages: &Messages) -> bool
-    requires array { IsArrayApart image.now messages.now }
-    ensures { result ≡ lacks_any (messages_in image.now.bytes messages.now.list) }
+pub fn lacks_maxima(header: &HeaderRef<'_>) -> bool
+    requires { HasArray header.now.messages (array_told header.now.messages) }
+    ensures { result ≡ lacks_any header.now.messages }
 {
-    !has_maxima(one_body(image, messages, DATASPACE))
+    !has_maxima(one_body(header, DATASPACE))
 }
 
 /// Gives an array in chunks other sizes in its header, where that stands. Its chunks stay. Takes no memory.
@@ -44,7 +46,7 @@ pub fn set_sizes(image: &mut Image, messages: &mut Messages, sizes: &[u64])
         (extent_room (messages_in image.old.bytes messages.old.list) sizes.now) 1 }
 {
     let mut room = [None; MAX_RANK];
-    let (lacks, maxima) = read_maxima(image, messages, &mut room);
+    let (lacks, maxima) = read_maxima(&HeaderRef::new(image, messages), &mut room);
     if lacks {
         add_extent(image, messages, sizes, maxima);
     } else {
@@ -55,15 +57,14 @@ pub fn set_sizes(image: &mut Image, messages: &mut Messages, sizes: &[u64])
 /// Whether the Dataspace message of an array has no maxima, and the largest sizes as it has them, written to the front of
 /// `room`; `None` is unlimited.
 fn read_maxima<'a>(
-    image: &Image,
-    messages: &Messages,
+    header: &HeaderRef<'_>,
     room: &'a mut [Option<u64>; MAX_RANK],
 ) -> (bool, &'a [Option<u64>])
-    requires array { IsArrayApart image.now messages.now }
-    ensures lacks { result.0 ≡ lacks_any (messages_in image.now.bytes messages.now.list) }
-    ensures maxima { result.1.now ≡ (described_in image.now.bytes messages.now).maxima }
+    requires { HasArray header.now.messages (array_told header.now.messages) }
+    ensures lacks { result.0 ≡ lacks_any header.now.messages }
+    ensures maxima { result.1.now ≡ (array_told header.now.messages).maxima }
 {
-    let body = one_body(image, messages, DATASPACE);
+    let body = one_body(header, DATASPACE);
     let extent = read_dataspace(body).unwrap();
     let rank = extent.rank();
     for k in 0..rank {
@@ -76,11 +77,11 @@ fn read_maxima<'a>(
 /// Takes no memory.
 ///
 /// That the array was read is the caller's condition.
-pub fn sizes_of<'r>(image: &Image, messages: &Messages, room: &'r mut [u64; MAX_RANK]) -> &'r [u64]
-    requires array { IsArrayApart image.now messages.now }
-    ensures { result.now ≡ (described_in image.now.bytes messages.now).sizes }
+pub fn sizes_of<'r>(header: &HeaderRef<'_>, room: &'r mut [u64; MAX_RANK]) -> &'r [u64]
+    requires { HasArray header.now.messages (array_told header.now.messages) }
+    ensures { result.now ≡ (array_told header.now.messages).sizes }
 {
-    let extent = read_dataspace(one_body(image, messages, DATASPACE)).unwrap();
+    let extent = read_dataspace(one_body(header, DATASPACE)).unwrap();
     let rank = extent.rank();
     for k in 0..rank {
         room[k] = extent.size(k);

@@ -43,7 +43,7 @@ pub fn missing_of(
     alloc: Global,
     image: &Image,
     array: &ArrayRef<'_>,
-    slab: &Slab,
+    slab: &Slab<'_>,
 ) -> Result<Option<Missing>, AllocError>
     requires data { AreDataRead image.now.bytes array.now.fixed array.now.layout }
     requires rank { length slab.now ≡ length array.now.sizes }
@@ -65,7 +65,7 @@ pub fn missing_of(
 }
 
 /// The block of an array, where it has none and a cell is selected.
-fn missing_block(block: Option<Block>, slab: &Slab) -> Option<Missing>
+fn missing_block(block: Option<Block>, slab: &Slab<'_>) -> Option<Missing>
     ensures { result ≡ (if is_some block || selected_cells slab.now == 0 then None else Some missing.Block) }
 {
     if block.is_some() || slab.cells() == 0 {

@@ -4,15 +4,14 @@
 ghost use Rattle.std.specs.Prelude.{◌≡◌, ℕ, Option, List, true, is_none};
 ghost use Rattle.h5_model.specs.Edits.Refusal.{is_chunked};
 ghost use Rattle.h5_model.specs.Format.Layout.{InChunks};
-ghost use Rattle.h5_model.specs.Format.Described.{storage_of};
-ghost use Rattle.h5_layout.specs.ArrayEdits.{IsArrayApart, described_in};
+ghost use Rattle.h5_model.specs.Format.Described.{HasArray, storage_of};
+ghost use Rattle.h5_layout.specs.Told.{array_told};
 ghost use Rattle.h5_layout.specs.Trimmed.{IsTrimmed};
 
 use crate::bodies::one_body;
 use h5_bytes::{UNDEF, u64_at};
-use h5_header::Messages;
+use h5_header::HeaderRef;
 use h5_model::message_type::DATA_LAYOUT;
-use h5_space::Image;
 
 /// Where the address of the tree stands in the body of a Data Layout message.
 const TREE: usize = 3;
@@ -21,15 +20,15 @@ const TREE: usize = 3;
 /// Layout message is read. Takes no memory.
 ///
 /// That the array was read, and that it is in chunks, are the caller's conditions.
-pub fn lacks_tree(image: &Image, messages: &Messages) -> bool
-    requires array { IsArrayApart image.now messages.now }
-    requires chunked { is_chunked (storage_of (described_in image.now.bytes messages.now).sizes
-        (described_in image.now.bytes messages.now).layout) ≡ true }
+pub fn lacks_tree(header: &HeaderRef<'_>) -> bool
+    requires array { HasArray header.now.messages (array_told header.now.messages) }
+    requires chunked { let a = array_told header.now.messages in
+        is_chunked (storage_of a.sizes a.layout) ≡ true }
     ensures exact { (chunk : List ℕ) (root : Option ℕ)
-        → (described_in image.now.bytes messages.now).layout ≡ InChunks chunk root
+        → (array_told header.now.messages).layout ≡ InChunks chunk root
         → result ≡ is_none root }
     ensures trimmed { result ≡ true → (sizes : List ℕ)
-        → IsTrimmed image.now.bytes (described_in image.now.bytes messages.now) sizes }
+        → IsTrimmed header.now.image (array_told header.now.messages) sizes }
 {
-    u64_at(one_body(image, messages, DATA_LAYOUT), TREE) == UNDEF
+    u64_at(one_body(header, DATA_LAYOUT), TREE) == UNDEF
 }

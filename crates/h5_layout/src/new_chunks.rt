@@ -35,7 +35,7 @@ pub fn missing_chunks(
     alloc: Global,
     image: &Image,
     array: &ArrayRef<'_>,
-    slab: &Slab,
+    slab: &Slab<'_>,
 ) -> Result<ChunkList, AllocError>
     requires data { AreDataRead image.now.bytes array.now.fixed array.now.layout }
     requires rank { length slab.now ≡ length array.now.sizes }

@@ -1,9 +1,8 @@
 //! Where the stored cells of an array stand, kept while they are written (File Format Specification 3.0, sections III.A.1
 //! and IV.A.2.i).
 
-ghost use Rattle.std.specs.Prelude.{◌≡◌, ℕ, ◌<◌, ◌≤◌, List, length};
+ghost use Rattle.std.specs.Prelude.{◌≡◌, ℕ, ◌<◌, ◌≤◌, List};
 ghost use Rattle.h5_header.specs.Kinds.{IsOfDataset};
-ghost use Rattle.h5_header.specs.Listed.{messages_in, IsWithin};
 ghost use Rattle.h5_header.specs.declared.message.Message.{Message as Placed};
 ghost use Rattle.h5_layout.specs.CellPlaces.{ArePlacesOf, DoStandAs, IsStoredAmong};
 ghost use Rattle.h5_layout.specs.Compact.{IsRunAt};
@@ -16,7 +15,7 @@ use crate::array::ArrayRef;
 use crate::compact::compact_place;
 use crate::index::ChunkIndex;
 use crate::read::known_array;
-use h5_header::Messages;
+use h5_header::HeaderRef;
 use h5_model::Fixed;
 use h5_msg::Layout;
 use h5_space::Image;
@@ -56,21 +55,17 @@ impl CellPlaces {
     /// The places of the cells of the array of these messages. Takes no memory.
     ///
     /// That the array was read, with its data, is the caller's condition.
-    pub fn new(image: &Image, messages: &Messages) -> CellPlaces
-        requires within { IsWithin (length image.now.bytes) messages.now.list }
-        requires dataset { IsOfDataset (messages_in image.now.bytes messages.now.list) }
-        requires array { HasArray (messages_in image.now.bytes messages.now.list)
-            (array_told (messages_in image.now.bytes messages.now.list)) }
-        requires read { AreDataRead image.now.bytes
-            (array_told (messages_in image.now.bytes messages.now.list)).fixed
-            (array_told (messages_in image.now.bytes messages.now.list)).layout }
-        ensures { ArePlacesOf image.now.bytes messages.now.list
-            (array_told (messages_in image.now.bytes messages.now.list)) result }
+    pub fn new(header: &HeaderRef<'_>) -> CellPlaces
+        requires dataset { IsOfDataset header.now.messages }
+        requires array { HasArray header.now.messages (array_told header.now.messages) }
+        requires read { let a = array_told header.now.messages in
+            AreDataRead header.now.image a.fixed a.layout }
+        ensures { ArePlacesOf header.now.image header.now.list (array_told header.now.messages) result }
     {
-        let array = known_array(image, messages);
+        let array = known_array(header);
         CellPlaces {
             fixed: array.fixed(),
-            stand: stand_of(image, messages, &array),
+            stand: stand_of(header, &array),
         }
     }
 
@@ -119,15 +114,16 @@ impl CellPlaces {
 }
 
 /// Where the cells of this array stand, whose header has these messages.
-fn stand_of(image: &Image, messages: &Messages, array: &ArrayRef<'_>) -> CellStand
-    requires within { IsWithin (length image.now.bytes) messages.now.list }
-    requires array { HasArray (messages_in image.now.bytes messages.now.list) array.now }
-    requires read { AreDataRead image.now.bytes array.now.fixed array.now.layout }
-    ensures { DoStandAs image.now.bytes messages.now.list array.now result }
+fn stand_of(header: &HeaderRef<'_>, array: &ArrayRef<'_>) -> CellStand
+    requires array { HasArray header.now.messages array.now }
+    requires read { AreDataRead header.now.image array.now.fixed array.now.layout }
+    ensures { DoStandAs header.now.image header.now.list array.now result }
 {
+    // The messages lie in the image.
+    let _list = header.list();
     match array.layout() {
         Layout::Compact(_) => CellStand::InLine {
-            at: compact_place(image, messages),
+            at: compact_place(header),
         },
         Layout::Contiguous(block) => match block {
             Some(block) => CellStand::InLine { at: block.at },

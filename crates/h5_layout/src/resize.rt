@@ -13,7 +13,7 @@ ghost use Rattle.h5_layout.specs.Trimmed.{AreOutside, IsTrimmedTo};
 use crate::extent::{set_sizes, sizes_of};
 use crate::held::copy_smaller;
 use crate::trimmed::{Outside, trim};
-use h5_header::Messages;
+use h5_header::{HeaderRef, Messages};
 use h5_shape::MAX_RANK;
 use h5_space::Image;
 
@@ -77,5 +77,6 @@ fn write_smaller(image: &Image, messages: &Messages, sizes: &[u64], smaller: &mu
     ensures { smaller.new ≡ smaller_sizes (described_in image.now.bytes messages.now).sizes sizes.now }
 {
     let mut room = [0; MAX_RANK];
-    copy_smaller(sizes_of(image, messages, &mut room), sizes, smaller);
+    let old = sizes_of(&HeaderRef::new(image, messages), &mut room);
+    copy_smaller(old, sizes, smaller);
 }

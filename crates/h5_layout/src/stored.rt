@@ -115,7 +115,7 @@ impl<'a> StoredArray<'a> {
     /// another, and the selected ones are one run. Takes no memory.
     ///
     /// That the selection has as many dimensions as the array, and is within its sizes, is the caller's condition.
-    pub fn lent(&self, slab: &Slab) -> Option<&'a [u8]>
+    pub fn lent(&self, slab: &Slab<'_>) -> Option<&'a [u8]>
         requires rank { length slab.now ≡ length self.now.sizes }
         requires within { Within self.now.sizes slab.now }
         ensures { MatchOption result (is_lent self.now slab.now ≡ false) (λ bytes.
@@ -191,7 +191,7 @@ impl<'a> StoredArray<'a> {
     /// The selected cells, in pieces, in row-major order. Takes no memory.
     ///
     /// That the selection is within the sizes is the caller's condition.
-    pub fn runs(&self, slab: &Slab) -> Runs<'a>
+    pub fn runs(&self, slab: &Slab<'_>) -> Runs<'a>
         requires rank { length slab.now ≡ length self.now.sizes }
         requires within { Within self.now.sizes slab.now }
         ensures { result ≡ record {
@@ -239,7 +239,7 @@ impl<'a> StoredArray<'a> {
 }
 
 /// The run of the selected cells, where they are one.
-fn single_run(slab: &Slab, dims: &Dims) -> Option<CellRun>
+fn single_run(slab: &Slab<'_>, dims: &Dims) -> Option<CellRun>
     requires rank { length dims.now ≡ length slab.now }
     requires within { Within dims.now slab.now }
     requires small { cells_of dims.now ≤ 2 ^ 40 }

@@ -4,15 +4,13 @@
 ghost use Rattle.std.specs.Prelude.{◌≡◌, ◌<◌, ◌≤◌, Some, length, slice_get, slice_index};
 ghost use Rattle.h5_model.specs.Edits.Refusal.{is_chunked};
 ghost use Rattle.h5_model.specs.Format.Described.{Described, HasArray, storage_of};
-ghost use Rattle.h5_header.specs.Listed.{messages_in, IsWithin};
 ghost use Rattle.h5_layout.specs.StoredExtent.{stored_extent};
 ghost use Rattle.h5_layout.specs.Told.{array_told};
 
 use crate::bodies::one_body;
-use h5_header::Messages;
+use h5_header::HeaderRef;
 use h5_model::message_type::{DATA_LAYOUT, DATASPACE};
 use h5_msg::{Dataspace, read_dataspace};
-use h5_space::Image;
 use std::marker::Model;
 
 /// Where the class of a layout stands in the body of a Data Layout message.
@@ -74,15 +72,14 @@ impl<'a> ArrayExtent<'a> {
 /// How large the array is of messages that are known to describe one. Only the Dataspace message and the class of the
 /// layout are read. Takes no memory.
 ///
-/// That they describe an array, and lie in the image, are the caller's conditions.
-pub fn known_extent<'a>(image: &'a Image, messages: &Messages) -> ArrayExtent<'a>
-    requires within { IsWithin (length image.now.bytes) messages.now.list }
-    requires array { (a : Described) × HasArray (messages_in image.now.bytes messages.now.list) a }
-    ensures { let a = array_told (messages_in image.now.bytes messages.now.list) in
+/// That they describe an array is the caller's condition.
+pub fn known_extent<'a>(header: &HeaderRef<'a>) -> ArrayExtent<'a>
+    requires { (a : Described) × HasArray header.now.messages a }
+    ensures { let a = array_told header.now.messages in
         result ≡ stored_extent a.sizes a.maxima (is_chunked (storage_of a.sizes a.layout)) }
 {
     ArrayExtent {
-        extent: read_dataspace(one_body(image, messages, DATASPACE)).unwrap(),
-        chunked: one_body(image, messages, DATA_LAYOUT)[CLASS] == CHUNKED,
+        extent: read_dataspace(one_body(header, DATASPACE)).unwrap(),
+        chunked: one_body(header, DATA_LAYOUT)[CLASS] == CHUNKED,
     }
 }

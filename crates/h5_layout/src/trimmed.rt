@@ -21,7 +21,7 @@ use crate::corner::{Span, fill_corner, write_spans};
 use crate::named_tree::lacks_tree;
 use h5_bytes::u64_at;
 use h5_chunks::{Beyond, ChunkList, OFFSETS, chunk_at, chunks_beyond, drop_outside};
-use h5_header::Messages;
+use h5_header::{HeaderRef, Messages};
 use h5_shape::MAX_RANK;
 use h5_space::Image;
 use std::alloc::{AllocError, Global};
@@ -95,7 +95,7 @@ pub fn trim(image: &mut Image, messages: &Messages, sizes: &[u64], outside: &Out
     ensures trimmed { IsTrimmedTo image.old image.new messages.now sizes.now }
     ensures spends { Spends image.old image.new 0 (16 * length outside.now.lost.offsets) }
 {
-    if lacks_tree(image, messages) {
+    if lacks_tree(&HeaderRef::new(image, messages)) {
         return;
     }
     let array = ChunkedArray::new(image, messages);

@@ -8,6 +8,7 @@ use Rattle.h5_bytes.specs.Bytes.{number_at, byte_at, part}
 use Rattle.h5_bytes.specs.Blocks.{block}
 use Rattle.h5_bytes.proofs.PartLaws.{part-part, part-appended}
 use Rattle.h5_bytes.proofs.FieldLaws.{number_at-part}
+use Rattle.h5_model.specs.Format.MessageTypes.{continuation_kind}
 use Rattle.h5_model.specs.Format.Messages.{Message, IsMessage, Fills, FillBlocks, HasMessages, continuations, prefix_at, reference_count, first_size, total_in, IsContinued}
 use Rattle.h5_bytes.specs.Numbers.{short, zeros}
 use Rattle.h5_model.specs.Format.Plain.{message_bytes, messages_bytes, header_bytes}
@@ -29,7 +30,7 @@ part-between front bytes rest = same_lists _ _ (search (rules, places)) (λ k d 
 -- a message that a header may have: a type of two bytes but no Continuation, and a body of a multiple of 8 bytes below 65536
 pub record IsPlain (m : ℕ × List ℕ) : Type 0 where
   pub kind : m.0 < 65536
-  pub own : (m.0 == 16) ≡ false
+  pub own : (m.0 == continuation_kind) ≡ false
   pub padded : length m.1 % 8 ≡ 0
   pub low : length m.1 < 65536
 
@@ -111,14 +112,14 @@ pub length-messages_from : (at : ℕ) (ms : List (ℕ × List ℕ)) → length (
 length-messages_from at [] = refl
 length-messages_from at (m ∷ ms) = ap (λ n. suc n) (length-messages_from (at + 8 + length m.1) ms)
 
-no_continuations : (at : ℕ) (ms : List (ℕ × List ℕ)) → AllByRecursion IsPlain ms → continuations (messages_from at ms) ≡ []
+pub no_continuations : (at : ℕ) (ms : List (ℕ × List ℕ)) → AllByRecursion IsPlain ms → continuations (messages_from at ms) ≡ []
 no_continuations at [] all = refl
 no_continuations at (m ∷ ms) all = rw (all.0.own, no_continuations (at + 8 + length m.1) ms all.1) refl
 
-none_continued : (at : ℕ) (ms : List (ℕ × List ℕ)) → AllByRecursion IsPlain ms → AllByRecursion IsContinued (messages_from at ms)
+pub none_continued : (at : ℕ) (ms : List (ℕ × List ℕ)) → AllByRecursion IsPlain ms → AllByRecursion IsContinued (messages_from at ms)
 none_continued at [] all = tt
 none_continued at (m ∷ ms) all = (
-  λ e. let other : (m.0 == 16) ≡ false = all.0.own in let sixteen : (m.0 == 16) ≡ true = ap (λ k. k == 16) e in absurd (cc),
+  λ e. let other : (m.0 == continuation_kind) ≡ false = all.0.own in let same : (m.0 == continuation_kind) ≡ true = ap (λ k. k == continuation_kind) e in absurd (cc),
   none_continued (at + 8 + length m.1) ms all.1,
 )
 

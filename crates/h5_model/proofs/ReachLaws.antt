@@ -14,6 +14,7 @@ use Rattle.std.proofs.lemmas.List.Folds.{list_any-append}
 use Rattle.std.proofs.lemmas.List.Concat.{flat_map-cons}
 use Rattle.std.proofs.lemmas.Bool.{or_right, or_cases}
 use Rattle.h5_model.specs.Tree.Objects.{Tree, Link, ToObject, Soft, Links, links_of, follow, object_of, named_by, within_names, is_reached}
+use Rattle.h5_model.proofs.Members.{In}
 use Rattle.h5_model.proofs.RowLaws.{same_number, equal_number}
 
 -- ---- entries and look-ups
@@ -57,11 +58,7 @@ find_entry {R = R} o (e ∷ es) k v sorted at =
 
 -- ---- members of lists of numbers
 
-abbrev Member : ℕ → List ℕ → Type 0
-Member x [] = ⊥
-Member x (y ∷ ys) = (y ≡ x) ⊎ Member x ys
-
-any_there : (p : ℕ → Bool) (f : ℕ → List ℕ) (x : ℕ) (xs : List ℕ) → Member x xs → list_any p (f x) ≡ true → list_any p (flat_map f xs) ≡ true
+any_there : (p : ℕ → Bool) (f : ℕ → List ℕ) (x : ℕ) (xs : List ℕ) → In x xs → list_any p (f x) ≡ true → list_any p (flat_map f xs) ≡ true
 any_there p f x [] at h = absurd at
 any_there p f x (y ∷ ys) at h = ap (list_any p) (flat_map-cons f y ys) ∙ list_any-append p (f y) (flat_map f ys) ∙ elim at [
   | inl here ↦ ap (λ b. b || list_any p (flat_map f ys)) (ap (λ z. list_any p (f z)) here ∙ h)
@@ -71,11 +68,11 @@ any_there p f x (y ∷ ys) at h = ap (list_any p) (flat_map-cons f y ys) ∙ lis
   or_true true = refl
   or_true false = refl
 
-any_from : (p : ℕ → Bool) (f : ℕ → List ℕ) (xs : List ℕ) → list_any p (flat_map f xs) ≡ true → (x : ℕ) × Member x xs × (list_any p (f x) ≡ true)
+any_from : (p : ℕ → Bool) (f : ℕ → List ℕ) (xs : List ℕ) → list_any p (flat_map f xs) ≡ true → (x : ℕ) × In x xs × (list_any p (f x) ≡ true)
 any_from p f [] h = absurd (cc)
 any_from p f (y ∷ ys) h = elim (or_cases (list_any p (f y)) (list_any p (flat_map f ys)) (sym (ap (list_any p) (flat_map-cons f y ys) ∙ list_any-append p (f y) (flat_map f ys)) ∙ h)) [
   | inl here ↦ (y, inl refl, here)
-  | inr later ↦ let rest : (x : ℕ) × Member x ys × (list_any p (f x) ≡ true) = any_from p f ys later in (rest.0, inr rest.1, rest.2)
+  | inr later ↦ let rest : (x : ℕ) × In x ys × (list_any p (f x) ≡ true) = any_from p f ys later in (rest.0, inr rest.1, rest.2)
 ]
 
 -- ---- the objects that links name
@@ -86,18 +83,18 @@ same_object a b h = ap (λ o. option_map_or (λ n. n) (option_and_then object_of
 soft_is_none : (text : List ℕ) (next : ℕ) → Some (Soft text) ≡ Some (ToObject next) → ⊥
 soft_is_none text next e = let no : None ≡ Some next = ap (λ o. option_and_then object_of o) e in absurd (cc)
 
-named_found : (q : List ℕ) (es : List (List ℕ × Link)) (next : ℕ) → find (slice_cmp nat_cmp) q es ≡ Some (ToObject next) → Member next (filter_map object_of (map (λ e. e.1) es))
+named_found : (q : List ℕ) (es : List (List ℕ × Link)) (next : ℕ) → find (slice_cmp nat_cmp) q es ≡ Some (ToObject next) → In next (filter_map object_of (map (λ e. e.1) es))
 named_found q [] next h = absurd (cc)
-named_found q ((k, ToObject m) ∷ es) next h = elim (eq_by_cmp (slice_cmp nat_cmp) q k) as (λ b. cond b (Some (ToObject m)) (find (slice_cmp nat_cmp) q es) ≡ Some (ToObject next) → Member next (m ∷ filter_map object_of (map (λ e. e.1) es))) [
+named_found q ((k, ToObject m) ∷ es) next h = elim (eq_by_cmp (slice_cmp nat_cmp) q k) as (λ b. cond b (Some (ToObject m)) (find (slice_cmp nat_cmp) q es) ≡ Some (ToObject next) → In next (m ∷ filter_map object_of (map (λ e. e.1) es))) [
   | true ↦ λ here. inl (same_object m next here)
   | false ↦ λ later. inr (named_found q es next later)
 ] h
-named_found q ((k, Soft text) ∷ es) next h = elim (eq_by_cmp (slice_cmp nat_cmp) q k) as (λ b. cond b (Some (Soft text)) (find (slice_cmp nat_cmp) q es) ≡ Some (ToObject next) → Member next (filter_map object_of (map (λ e. e.1) es))) [
+named_found q ((k, Soft text) ∷ es) next h = elim (eq_by_cmp (slice_cmp nat_cmp) q k) as (λ b. cond b (Some (Soft text)) (find (slice_cmp nat_cmp) q es) ≡ Some (ToObject next) → In next (filter_map object_of (map (λ e. e.1) es))) [
   | true ↦ λ no. absurd (soft_is_none text next no)
   | false ↦ λ later. named_found q es next later
 ] h
 
-entry_named : (es : List (List ℕ × Link)) (next : ℕ) → Member next (filter_map object_of (map (λ e. e.1) es)) → (k : List ℕ) × Entry es k (ToObject next)
+entry_named : (es : List (List ℕ × Link)) (next : ℕ) → In next (filter_map object_of (map (λ e. e.1) es)) → (k : List ℕ) × Entry es k (ToObject next)
 entry_named [] next at = absurd at
 entry_named ((k, ToObject m) ∷ es) next at = elim at [
   | inl here ↦ (k, inl (refl, ap (λ n. ToObject n) here))
@@ -148,9 +145,9 @@ Leads tree n from number = (names : List (List ℕ)) × (length names ≤ n) × 
 at_once : (tree : Tree) (n from number : ℕ) → from ≡ number → Leads tree n from number
 at_once tree n from number h = ([], omega arith, ap (λ x. Some (ToObject x)) h)
 
-longer : (tree : Tree) (n from next number : ℕ) → Member next (named_by tree from) → Leads tree n next number → Leads tree (suc n) from number
+longer : (tree : Tree) (n from next number : ℕ) → In next (named_by tree from) → Leads tree n next number → Leads tree (suc n) from number
 longer tree n from next number named rest = elim (links_of tree from) as (λ o. links_of tree from ≡ o
-    → Member next (option_map_or (λ links. filter_map object_of (values links)) o []) → Leads tree (suc n) from number) [
+    → In next (option_map_or (λ links. filter_map object_of (values links)) o []) → Leads tree (suc n) from number) [
       | None ↦ λ _ no. absurd no
       | Some links ↦ λ there at.
           let entry : (k : List ℕ) × Entry (entries links) k (ToObject next) = entry_named (entries links) next at in
@@ -172,7 +169,7 @@ follow-within_names tree zero from number h = elim (or_cases (from == number) fa
 ]
 follow-within_names tree (suc n) from number h = elim (or_cases (from == number) _ h) [
   | inl same ↦ at_once tree (suc n) from number (equal_number from number same)
-  | inr below ↦ let next : (x : ℕ) × Member x (named_by tree from) × (list_any (λ x. x == number) (within_names tree n x) ≡ true)
+  | inr below ↦ let next : (x : ℕ) × In x (named_by tree from) × (list_any (λ x. x == number) (within_names tree n x) ≡ true)
       = any_from (λ x. x == number) (within_names tree n) (named_by tree from) below in
       longer tree n from next.0 number next.1 (follow-within_names tree n next.0 number next.2)
 ]

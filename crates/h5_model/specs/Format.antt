@@ -1,3 +1,4 @@
+pub mod Limits
 pub mod Superblock
 pub mod MessageTypes
 pub mod Messages

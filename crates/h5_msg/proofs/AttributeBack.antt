@@ -1,5 +1,6 @@
 -- An attribute that was written reads as its name, type, sizes and values.
 use Rattle.std.proofs.Common.{◌≡◌, ℕ, zero, suc, ◌+◌, ◌-◌, ◌*◌, ◌<◌, ◌≤◌, List, [], ◌∷◌, ◌++◌, length, length-append, append_assoc, map, replicate, take, drop, refl, sym, ap, ◌∙◌, arith, true, false, ℤ, Some, None}
+use Rattle.std.proofs.lemmas.Bool.{or_parts}
 use Rattle.std.proofs.lemmas.Bool.Decides.{nat_tests}
 use Rattle.std.proofs.lemmas.List.{drop-drop, length-replicate, take_all}
 use Rattle.std.proofs.Math.Seq.{take-append_seam, drop-append_seam}
@@ -23,7 +24,6 @@ use Rattle.h5_msg.proofs.DataspaceLaws.{Small, plain_alone, plain_back}
 use Rattle.h5_model.proofs.StoredValues.{fits_value_at}
 use Rattle.h5_msg.proofs.AttributeLaws.{size_positive, length-values}
 use Rattle.h5_msg.proofs.ValueBytes.{AreBytes, stored_back}
-use Rattle.h5_msg.proofs.LayoutLaws.{or_left, or_right}
 use Rattle.h5_msg.proofs.CellLaws.{values_back}
 
 -- ---- over any body
@@ -50,9 +50,9 @@ named : (name : List ℕ) (m : ℕ) (rest : List ℕ) → 1 ≤ m → list_any (
 named [] zero rest some text = absurd (omega arith)
 named [] (suc m) rest some text = refl
 named (b ∷ bs) m rest some text =
-    let own : (b == 0) ≡ false = or_left (b == 0) (list_any (λ b. b == 0) bs) text in
+    let own : (b == 0) ≡ false = (or_parts (b == 0) (list_any (λ b. b == 0) bs) text).0 in
     let next : length (b ∷ bs) + 1 ≡ suc (length bs + 1) = omega arith in
-    rw (next, own) (ap (λ (xs : List ℕ). b ∷ xs) (named bs m rest some (or_right (b == 0) (list_any (λ b. b == 0) bs) text)))
+    rw (next, own) (ap (λ (xs : List ℕ). b ∷ xs) (named bs m rest some (or_parts (b == 0) (list_any (λ b. b == 0) bs) text).1))
 
 -- ---- the body that is written
 

@@ -1,5 +1,6 @@
 -- Values that were written one after another are read as those values.
 use Rattle.std.proofs.Common.{◌≡◌, ℕ, zero, suc, ◌+◌, ◌-◌, ◌*◌, ◌<◌, ◌≤◌, List, [], ◌∷◌, ◌++◌, length, length-append, append_assoc, append-nil, take, drop, get_or, refl, sym, ap, ◌∙◌, arith, true, ℤ, pos}
+use Rattle.std.proofs.lemmas.Bool.{and_parts}
 use Rattle.std.proofs.lemmas.List.{take_more, take_all, drop_all, drop-drop, length-take, length-drop}
 use Rattle.std.proofs.Math.Nat.{mul-le-mul_right}
 use Rattle.std.proofs.lemmas.List.FromFn.{fill_by_all}
@@ -13,13 +14,12 @@ use Rattle.h5_model.specs.Format.AttributeBody.{values_at}
 use Rattle.h5_model.proofs.FixedLaws.{value_back, length-bytes_of}
 use Rattle.h5_model.specs.Format.Plain.{cells_bytes}
 use Rattle.h5_model.proofs.PlainValues.{length-cells_bytes}
-use Rattle.h5_msg.proofs.WordLaws.{and_left, and_right}
 use Rattle.h5_model.proofs.ValueLaws.{value_at-drop}
 
 pub all_at : (t : Fixed) (values : List ℤ) (k : ℕ) → list_all (fits t) values ≡ true → k < length values → fits t (get_or values k (pos 0)) ≡ true
 all_at t [] k all low = absurd (omega arith)
-all_at t (v ∷ vs) zero all low = and_left (fits t v) (list_all (fits t) vs) all
-all_at t (v ∷ vs) (suc k) all low = all_at t vs k (and_right (fits t v) (list_all (fits t) vs) all) (omega arith)
+all_at t (v ∷ vs) zero all low = (and_parts (fits t v) (list_all (fits t) vs) all).0
+all_at t (v ∷ vs) (suc k) all low = all_at t vs k (and_parts (fits t v) (list_all (fits t) vs) all).1 (omega arith)
 
 -- one more value is written behind those that are
 pub one_more : (t : Fixed) (values : List ℤ) (k : ℕ) (old now : List ℕ) → k < length values → length old ≡ length values * t.size → k * t.size + t.size ≤ length old
@@ -61,7 +61,7 @@ value_back_at t (v ∷ vs) rest zero some all low =
     let start : 0 * t.size ≡ 0 = omega arith in
     let joined : (bytes_of t v ++ cells_bytes t vs) ++ rest ≡ bytes_of t v ++ (cells_bytes t vs ++ rest) = append_assoc (bytes_of t v) (cells_bytes t vs) rest in
     ap (value_at t ((bytes_of t v ++ cells_bytes t vs) ++ rest)) start ∙ ap (value_of t) joined
-    ∙ value_back t v (cells_bytes t vs ++ rest) some (and_left (fits t v) (list_all (fits t) vs) all)
+    ∙ value_back t v (cells_bytes t vs ++ rest) some (and_parts (fits t v) (list_all (fits t) vs) all).0
 value_back_at t (v ∷ vs) rest (suc k) some all low =
     let size : length (bytes_of t v) ≡ t.size = length-bytes_of t v in
     let next : suc k * t.size ≡ length (bytes_of t v) + k * t.size = omega arith in
@@ -70,7 +70,7 @@ value_back_at t (v ∷ vs) rest (suc k) some all low =
     ∙ value_at-drop t (bytes_of t v ++ (cells_bytes t vs ++ rest)) (length (bytes_of t v) + k * t.size)
     ∙ ap (value_of t) (drop-append-add (bytes_of t v) (cells_bytes t vs ++ rest) (k * t.size))
     ∙ sym (value_at-drop t (cells_bytes t vs ++ rest) (k * t.size))
-    ∙ value_back_at t vs rest k some (and_right (fits t v) (list_all (fits t) vs) all) (omega arith)
+    ∙ value_back_at t vs rest k some (and_parts (fits t v) (list_all (fits t) vs) all).1 (omega arith)
 
 -- values at a place where they begin
 pub values_back : (t : Fixed) (values : List ℤ) (bytes rest : List ℕ) (place : ℕ) → 1 ≤ t.size → list_all (fits t) values ≡ true

@@ -1,5 +1,6 @@
 -- A dataspace that was written reads as its sizes and maxima.
 use Rattle.std.proofs.Common.{◌≡◌, ℕ, zero, suc, ◌+◌, ◌-◌, ◌*◌, ◌^◌, ◌<◌, ◌≤◌, List, [], ◌∷◌, ◌++◌, length, length-append, map, get_or, drop, Option, Some, None, refl, sym, ap, ◌∙◌, arith, true, false, Bool, replicate, append_assoc}
+use Rattle.std.proofs.lemmas.Bool.{and_parts}
 use Rattle.std.proofs.lemmas.Bool.Decides.{nat_tests}
 use Rattle.std.proofs.lemmas.List.FromFn.{fill_by_all}
 use Rattle.std.specs.Prelude.{nat_le, ◌==◌}
@@ -12,7 +13,8 @@ use Rattle.h5_model.specs.Format.Extent.{extent_of, is_dataspace, size_in, maxim
 use Rattle.h5_model.specs.Format.Bodies.{dataspace_bytes, bounded_bytes, or_undefined, words}
 use Rattle.h5_model.specs.Format.Plain.{with_zeros}
 use Rattle.h5_model.proofs.PaddedLaws.{padded_full}
-use Rattle.h5_msg.proofs.WordLaws.{words_long, bounds_long, as_many_maxima, length-numbers, number_at-drop, number_at-words, and_left, and_right}
+use Rattle.h5_model.proofs.EditLaws.{length-are_maxima}
+use Rattle.h5_msg.proofs.WordLaws.{words_long, bounds_long, length-numbers, number_at-drop, number_at-words}
 
 -- numbers that fit in 8 bytes
 abbrev pub Small : List ℕ → Type 0
@@ -62,18 +64,18 @@ number_of [] sizes k fit low = absurd (omega arith)
 number_of (m ∷ ms) [] k fit low = absurd (cc)
 number_of (None ∷ ms) (d ∷ ds) zero fit low = refl
 number_of (Some n ∷ ms) (d ∷ ds) zero fit low =
-    let own : is_maximum d (Some n) ≡ true = and_left (is_maximum d (Some n)) (are_maxima ds ms) fit in
+    let own : is_maximum d (Some n) ≡ true = (and_parts (is_maximum d (Some n)) (are_maxima ds ms) fit).0 in
     let below : (n == undefined_address) ≡ false = grind (arith, nat_tests) in
     rw below refl
-number_of (m ∷ ms) (d ∷ ds) (suc k) fit low = number_of ms ds k (and_right (is_maximum d m) (are_maxima ds ms) fit) (omega arith)
+number_of (m ∷ ms) (d ∷ ds) (suc k) fit low = number_of ms ds k (and_parts (is_maximum d m) (are_maxima ds ms) fit).1 (omega arith)
 
 above_size : (sizes : List ℕ) (maxima : List (Option ℕ)) (k : ℕ) → Small sizes → are_maxima sizes maxima ≡ true → k < length sizes
     → nat_le (get_or sizes k 0) (get_or (map or_undefined maxima) k 0) ≡ true
 above_size [] maxima k small fit low = absurd (omega arith)
 above_size (d ∷ ds) [] k small fit low = absurd (cc)
 above_size (d ∷ ds) (None ∷ ms) zero small fit low = let fits : d < 2 ^ 64 = small 0 in grind (arith, nat_tests)
-above_size (d ∷ ds) (Some n ∷ ms) zero small fit low = let own : is_maximum d (Some n) ≡ true = and_left (is_maximum d (Some n)) (are_maxima ds ms) fit in grind (arith, nat_tests)
-above_size (d ∷ ds) (m ∷ ms) (suc k) small fit low = above_size ds ms k (λ j. small (suc j)) (and_right (is_maximum d m) (are_maxima ds ms) fit) (omega arith)
+above_size (d ∷ ds) (Some n ∷ ms) zero small fit low = let own : is_maximum d (Some n) ≡ true = (and_parts (is_maximum d (Some n)) (are_maxima ds ms) fit).0 in grind (arith, nat_tests)
+above_size (d ∷ ds) (m ∷ ms) (suc k) small fit low = above_size ds ms k (λ j. small (suc j)) (and_parts (is_maximum d m) (are_maxima ds ms) fit).1 (omega arith)
 
 each_below_all : (n : ℕ) (test : ℕ → Bool) → ((k : ℕ) → k < n → test k ≡ true) → each_below n test ≡ true
 each_below_all zero test all = refl
@@ -113,12 +115,12 @@ module _ (sizes : List ℕ) (maxima : List (Option ℕ)) (rest : List ℕ) (rank
   none_below : each_below (length sizes) (maximum_fits bounded) ≡ true
   unfolding maximum_fits
   none_below = each_below_all (length sizes) (maximum_fits bounded) (λ k low.
-      let same = as_many_maxima sizes maxima fit in
+      let same = length-are_maxima sizes maxima fit in
       rw (size_read k low, maximum_read k (omega arith)) (above_size sizes maxima k small fit low))
 
   bounded_form : is_dataspace bounded ≡ true
   bounded_form =
-      let same = as_many_maxima sizes maxima fit in
+      let same = length-are_maxima sizes maxima fit in
       let both : length (words sizes ++ words (map or_undefined maxima)) ≡ 16 * length sizes = bounds_long sizes maxima same in
       let twice : length sizes * (1 + 1) ≡ 2 * length sizes = omega arith in
       let long : length ((words sizes ++ words (map or_undefined maxima)) ++ rest) ≡ 16 * length sizes + length rest
@@ -131,7 +133,7 @@ module _ (sizes : List ℕ) (maxima : List (Option ℕ)) (rest : List ℕ) (rank
   pub bounded_reads : extent_of bounded ≡ Some (record { sizes = sizes; maxima = maxima })
   unfolding extent_of
   bounded_reads =
-      let same = as_many_maxima sizes maxima fit in
+      let same = length-are_maxima sizes maxima fit in
       let read : map (size_in bounded) (range_with_len 0 (length sizes)) ≡ sizes = sizes_of bounded sizes behind joined small in
       let bounds : map (maximum_in bounded) (range_with_len 0 (length sizes)) ≡ maxima
       = sym (fill_by_all (maximum_in bounded) maxima (length sizes) None same (λ k low.

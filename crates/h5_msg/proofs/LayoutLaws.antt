@@ -1,7 +1,7 @@
 -- A layout that was written reads as that layout.
-use Rattle.std.proofs.Common.{◌≡◌, ◌≢◌, ℕ, zero, suc, ◌+◌, ◌-◌, ◌*◌, ◌^◌, ◌<◌, ◌≤◌, inl, inr, min, List, [], ◌∷◌, ◌++◌, map, length, length-append, append_assoc, replicate, get_or, slice_index, take, drop, refl, sym, ap, ◌∙◌, arith, ◌||◌, Bool, true, false, Option, Some, None, eq-eqb}
+use Rattle.std.proofs.Common.{◌≡◌, ◌≢◌, ℕ, zero, suc, ◌+◌, ◌-◌, ◌*◌, ◌^◌, ◌<◌, ◌≤◌, inl, inr, min, List, [], ◌∷◌, ◌++◌, map, length, length-append, append_assoc, replicate, get_or, slice_index, take, drop, refl, sym, ap, ◌∙◌, arith, ◌||◌, true, false, Option, Some, None, eq-eqb}
 use Rattle.std.proofs.lemmas.Bool.Decides.{nat_tests}
-use Rattle.std.proofs.lemmas.Bool.{cases_lt}
+use Rattle.std.proofs.lemmas.Bool.{or_parts, cases_lt}
 use Rattle.std.proofs.lemmas.List.{take_all}
 use Rattle.std.proofs.lemmas.List.FromFn.{fill_by_all, length-map-range_with_len, get_or-map-range_with_len}
 use Rattle.std.proofs.Math.Nat.{mul_assoc, mul-le-mul_left}
@@ -187,15 +187,7 @@ chunk_size_at body value rank k is low =
     let long = length-chunk body value rank is in
     ap (λ (xs : List ℕ). slice_index xs k) (sym is) ∙ get_or-map-range_with_len (λ i. number_at body (11 + 4 * i) 4) 0 rank k k 0 (omega arith) (omega arith)
 
-pub or_left : (a b : Bool) → (a || b) ≡ false → a ≡ false
-or_left true b h = h
-or_left false b h = refl
-
-pub or_right : (a b : Bool) → (a || b) ≡ false → b ≡ false
-or_right true b h = absurd (cc)
-or_right false b h = h
-
 pub none_is_zero : (xs : List ℕ) (k : ℕ) → list_any (λ n. n == 0) xs ≡ false → k < length xs → 1 ≤ slice_index xs k
 none_is_zero [] k none low = absurd (omega arith)
-none_is_zero (x ∷ xs) zero none low = let own : (x == 0) ≡ false = or_left (x == 0) (list_any (λ n. n == 0) xs) none in grind (arith, nat_tests)
-none_is_zero (x ∷ xs) (suc k) none low = none_is_zero xs k (or_right (x == 0) (list_any (λ n. n == 0) xs) none) (omega arith)
+none_is_zero (x ∷ xs) zero none low = let own : (x == 0) ≡ false = (or_parts (x == 0) (list_any (λ n. n == 0) xs) none).0 in grind (arith, nat_tests)
+none_is_zero (x ∷ xs) (suc k) none low = none_is_zero xs k (or_parts (x == 0) (list_any (λ n. n == 0) xs) none).1 (omega arith)

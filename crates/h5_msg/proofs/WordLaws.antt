@@ -1,29 +1,15 @@
 -- Numbers of 8 bytes that were written one after another are read as those numbers.
-use Rattle.std.proofs.Common.{◌≡◌, Option, map, length-append, true, false, Bool, ◌&&◌, ℕ, zero, suc, ◌+◌, ◌*◌, ◌^◌, ◌<◌, List, [], ◌∷◌, ◌++◌, length, get_or, drop, refl, sym, ap, ◌∙◌, arith}
+use Rattle.std.proofs.Common.{◌≡◌, Option, map, length-append, ℕ, zero, suc, ◌+◌, ◌*◌, ◌^◌, ◌<◌, List, [], ◌∷◌, ◌++◌, length, get_or, drop, refl, sym, ap, ◌∙◌, arith}
 use Rattle.std.proofs.lemmas.List.{get_or-drop}
 use Rattle.byteorder.specs.Numbers.{little_number-reads_back}
 use Rattle.h5_bytes.specs.Bytes.{number_at}
 use Rattle.h5_model.specs.Format.Bodies.{words, or_undefined}
-use Rattle.h5_model.specs.Edits.Refusal.{are_maxima}
 use Rattle.h5_model.proofs.ValueLaws.{little_moved}
-
-pub and_left : (a b : Bool) → (a && b) ≡ true → a ≡ true
-and_left true b h = refl
-and_left false b h = h
-
-pub and_right : (a b : Bool) → (a && b) ≡ true → b ≡ true
-and_right true b h = h
-and_right false b h = absurd (cc)
+pub use Rattle.h5_model.proofs.EditLaws.{length-are_maxima as as_many_maxima}
 
 pub words_long : (xs : List ℕ) → length (words xs) ≡ 8 * length xs
 words_long [] = omega arith
 words_long (x ∷ xs) = omega (arith, words_long xs)
-
-pub as_many_maxima : (sizes : List ℕ) (maxima : List (Option ℕ)) → are_maxima sizes maxima ≡ true → length maxima ≡ length sizes
-as_many_maxima [] [] h = refl
-as_many_maxima [] (m ∷ ms) h = absurd (cc)
-as_many_maxima (d ∷ ds) [] h = absurd (cc)
-as_many_maxima (d ∷ ds) (m ∷ ms) h = let rest = as_many_maxima ds ms (and_right _ _ h) in omega arith
 
 pub length-numbers : (maxima : List (Option ℕ)) → length (map or_undefined maxima) ≡ length maxima
 length-numbers [] = refl

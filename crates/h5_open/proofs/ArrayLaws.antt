@@ -4,6 +4,7 @@ use Rattle.std.specs.Prelude.{◌==◌}
 use Rattle.std.specs.List.{find}
 use Rattle.h5_bytes.specs.Blocks.{cover, Separate, Inside}
 use Rattle.h5_bytes.specs.declared.Block.{Block}
+use Rattle.h5_model.specs.Format.MessageTypes.{data_layout_kind}
 use Rattle.h5_model.specs.Format.Messages.{Message, HasMessages}
 use Rattle.h5_model.specs.Format.Extent.{Extent}
 use Rattle.h5_model.specs.Format.Layout.{Layout, InMessage, InBlock, InChunks}
@@ -47,7 +48,7 @@ module _ (image : List ℕ) (header : ℕ) (ms : List Message) (blocks : List Bl
     -- ---- the data of an array are claimed behind its header
 
     module _ (now : List Block) (claimed : (p : ℕ) → cover p now ≡ cover p held + cover p blocks) (separate : Separate now) (a : Described) (array : HasArray ms a) where
-      pub first : (m : Message) × (find (λ (x : Message). x.kind == 8) ms ≡ Some m)
+      pub first : (m : Message) × (find (λ (x : Message). x.kind == data_layout_kind) ms ≡ Some m)
       first = let one = array.one_layout in counted_found 8 ms (omega (arith, one))
 
       abbrev pub extent : Extent

@@ -6,6 +6,7 @@ use Rattle.h5_bytes.specs.Blocks.{block, holds, cover, Separate}
 use Rattle.h5_bytes.specs.declared.Block.{Block}
 use Rattle.h5_bytes.proofs.BlockLaws.{all_append, all_so, cover-append}
 use Rattle.h5_model.specs.Faults.Breaches.{is_header}
+use Rattle.h5_model.specs.Format.MessageTypes.{data_layout_kind}
 use Rattle.h5_model.specs.Format.Messages.{Message, HasMessages}
 use Rattle.h5_model.specs.Format.Nodes.{tree_blocks}
 use Rattle.h5_model.specs.Format.Reached.{Named, Shape, length_of, shape_kind}
@@ -66,7 +67,7 @@ module _ (image : List ℕ) (held now : List Block) (followed : List Named) (fie
   has = (done.read).has
 
   -- the message that names the data
-  abbrev found : (x : Message) × (find (λ (y : Message). y.kind == 8) ms ≡ Some x)
+  abbrev found : (x : Message) × (find (λ (y : Message). y.kind == data_layout_kind) ms ≡ Some x)
   found = first image m.header ms m.blocks has (done.read).inside held followed field depth done.met now done.claimed separate (array_told ms) list.array
 
   free : (f : ℕ) → found.0.at ≤ f → f < found.0.at + 8 + length found.0.body → cover (f - 8) held ≡ 0

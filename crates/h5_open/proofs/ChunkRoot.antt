@@ -62,7 +62,7 @@ chunks_long sizes size body chunk_sizes root is = go (nat_le 2 (length body) && 
 -- ---- the field that names the tree
 
 module _ (image : List ℕ) (header : ℕ) (ms : List Message) (blocks : List Block) (has : HasMessages image header ms blocks) (inside : Inside (length image) blocks)
-    (m : Message) (first : find (λ (x : Message). x.kind == 8) ms ≡ Some m) (t : Fixed) (e : Extent) (sizes : List ℕ) (root : ℕ)
+    (m : Message) (first : find (λ (x : Message). x.kind == data_layout_kind) ms ≡ Some m) (t : Fixed) (e : Extent) (sizes : List ℕ) (root : ℕ)
     (extent : extent_among ms ≡ Some e) (type : type_among ms ≡ Some t) (layout : layout_among ms ≡ Some (InChunks sizes (Some root))) where
   long : 15 ≤ length m.body
   long =

@@ -3,6 +3,7 @@ use Rattle.std.proofs.Common.{◌≡◌, ℕ, ◌+◌, ◌*◌, ◌≤◌, ◌==
 use Rattle.std.specs.Prelude.{slice_get}
 use Rattle.std.specs.BTreeMap.{BTreeMap}
 use Rattle.std.specs.List.{find}
+use Rattle.h5_model.specs.Format.MessageTypes.{data_layout_kind}
 use Rattle.h5_bytes.specs.declared.Block.{Block}
 use Rattle.h5_model.specs.Format.Fixed.{IsFixed}
 use Rattle.h5_model.specs.Format.Layout.{Layout, InMessage}
@@ -35,7 +36,7 @@ module _ (old : Space) (slots : List (Option OpenedObject)) (numbers : BTreeMap 
   abbrev a : Described
   a = it old slots numbers opened number p stands d place values run
 
-  x : (x : Listed) × (find (λ (m : Listed). m.kind == 8) p.messages.list ≡ Some x) × (x.at + 4 ≡ base)
+  x : (x : Listed) × (find (λ (m : Listed). m.kind == data_layout_kind) p.messages.list ≡ Some x) × (x.at + 4 ≡ base)
   x = compact_message p.messages.list base there
 
   array : p.content ≡ content.Array

@@ -14,6 +14,7 @@ use Rattle.h5_model.specs.Edits.Applied.{with_dataset}
 use Rattle.h5_model.specs.Format.AttributeBody.{attribute_of}
 use Rattle.h5_model.specs.Format.Fixed.{IsFixed, fits}
 use Rattle.h5_model.specs.Format.Layout.{Layout, InMessage}
+use Rattle.h5_model.specs.Format.MessageTypes.{data_layout_kind, comment_kind, old_modification_time_kind, modification_time_kind, attribute_kind}
 use Rattle.h5_model.specs.Format.Messages.{Message, count_of, reference_count}
 use Rattle.h5_model.specs.Format.Plain.{cells_bytes}
 use Rattle.h5_model.specs.Format.Reads.{HasAttributes, is_attribute_message, is_kept, kept_of}
@@ -30,11 +31,11 @@ use Rattle.h5_header.specs.declared.message.Message.{Message as Listed}
 use Rattle.h5_header.specs.Standing.{IsStanding}
 use Rattle.h5_header.proofs.FoundLaws.{within_at}
 use Rattle.h5_header.proofs.FirstWritten.{IsBodyWritten, body_written, same_count, same_filter, written_covered}
+use Rattle.h5_header.proofs.BesideLaws.{moves_covered}
 use Rattle.h5_attr.specs.Attributes.{attributes_of, HasNamesOnce}
 use Rattle.h5_layout.specs.Data.{AreDataRead, data_blocks, dataset_told}
 use Rattle.h5_layout.specs.Told.{array_told, layout_told, type_told}
 use Rattle.h5_layout.proofs.CompactWritten.{array_with, compact_array, compact_high, compact_inside, compact_low, compact_told}
-use Rattle.h5_layout.proofs.StandingWritten.{moves_within}
 use Rattle.h5_layout.proofs.ToldLaws.{told}
 use Rattle.h5_open.specs.declared.opened.object.OpenedObject.{OpenedObject}
 use Rattle.h5_open.specs.declared.opened.object.OpenedContent.{OpenedContent}
@@ -94,7 +95,7 @@ pub record IsCompactWritten (old new : Space) (slots : List (Option OpenedObject
 
 module _ (old : Space) (slots : List (Option OpenedObject)) (numbers : BTreeMap ℕ ℕ) (opened : IsOpened old slots numbers) (number : ℕ) (p : OpenedObject) (at : slice_get slots number ≡ Some (Some p))
     (is_array : p.content ≡ content.Array) (bytes : List ℕ) (laid : layout_told (messages_in old.bytes p.messages.list) ≡ InMessage bytes)
-    (x : Listed) (found : find (λ (m : Listed). m.kind == 8) p.messages.list ≡ Some x) where
+    (x : Listed) (found : find (λ (m : Listed). m.kind == data_layout_kind) p.messages.list ≡ Some x) where
   abbrev table : FinMap nat_cmp ℕ
   table = table_of slots
 
@@ -153,8 +154,8 @@ module _ (old : Space) (slots : List (Option OpenedObject)) (numbers : BTreeMap 
       high : start + length w ≤ x.at + x.size
       high = compact_high old.bytes p.messages.list it.kept.header.within a (kept.0).array bytes laid x found place values room
 
-      body : IsBodyWritten old.bytes new.bytes p.messages 8 x
-      body = body_written old.bytes p.messages standing 8 (λ e. omega (arith, e)) x found w start low high
+      body : IsBodyWritten old.bytes new.bytes p.messages data_layout_kind x
+      body = body_written old.bytes p.messages standing data_layout_kind (λ e. omega (arith, e)) x found w start low high
 
       covered : (q : ℕ) → holds q start (length w) ≤ cover q p.messages.blocks
       covered = written_covered old.bytes p.messages standing 8 (λ e. omega (arith, e)) x found w start low high
@@ -166,7 +167,7 @@ module _ (old : Space) (slots : List (Option OpenedObject)) (numbers : BTreeMap 
       long = length-with_part start w old.bytes fit
 
       moves : Moves old new p.messages.blocks p.messages.blocks
-      moves = moves_within old new start w p.messages.blocks fit refl refl covered
+      moves = moves_covered old new w start p.messages.blocks covered fit refl refl
 
       -- ---- what the messages tell now
 
@@ -183,13 +184,13 @@ module _ (old : Space) (slots : List (Option OpenedObject)) (numbers : BTreeMap 
       changed = compact_told old.bytes p.messages.list it.kept.header.within a (kept.0).array bytes laid x found place values room of_type fixed
 
       counts : (k : ℕ) → count_of k list' ≡ count_of k list
-      counts = same_count 8 list list' (part x.at x.size new.bytes) body.messages
+      counts = same_count data_layout_kind list list' (part x.at x.size new.bytes) body.messages
 
       attributes_same : filter is_attribute_message list' ≡ filter is_attribute_message list
-      attributes_same = same_filter 8 list list' (part x.at x.size new.bytes) body.messages (λ (k : ℕ). k == 12) refl
+      attributes_same = same_filter data_layout_kind list list' (part x.at x.size new.bytes) body.messages (λ (k : ℕ). k == attribute_kind) refl
 
       kept_same : filter is_kept list' ≡ filter is_kept list
-      kept_same = same_filter 8 list list' (part x.at x.size new.bytes) body.messages (λ (k : ℕ). (k == 13 || k == 14) || k == 18) refl
+      kept_same = same_filter data_layout_kind list list' (part x.at x.size new.bytes) body.messages (λ (k : ℕ). (k == comment_kind || k == old_modification_time_kind) || k == modification_time_kind) refl
 
       has_attributes : HasAttributes list' (attributes_of list')
       has_attributes = subst (HasAttributes list') (sym (same_attributes list list' attributes_same)) (has_still list list' attributes_same (attributes_of list) it.kept.header.attributes)

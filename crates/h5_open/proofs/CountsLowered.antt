@@ -1,5 +1,6 @@
 -- Headers of several objects in which the counts of links are set, one after another: no other header changes with one of them.
 use Rattle.std.proofs.Common.{◌≡◌, inl, inr, ℕ, ◌+◌, ◌<◌, ◌≤◌, List, [], ◌++◌, length, refl, sym, ap, ◌∙◌, subst, arith, Option, Some}
+use Rattle.std.proofs.lemmas.Bool.{cases_eq}
 use Rattle.std.specs.Prelude.{slice_get}
 use Rattle.std.specs.Option.{option_flatten, option_map_or}
 use Rattle.std.proofs.lemmas.Option.{same_Some, slice_get_within}
@@ -16,7 +17,6 @@ use Rattle.h5_header.specs.Standing.{IsStanding}
 use Rattle.h5_header.proofs.BlockPuts.{count_kept, standing_kept}
 use Rattle.h5_header.proofs.KeptLaws.{listed-same}
 use Rattle.h5_laws.proofs.Lists.{in_at, in_contains, contains_in, stands_at}
-use Rattle.h5_laws.proofs.SoundLaws.Inserted.{same_number_or_other}
 use Rattle.h5_open.specs.declared.opened.object.OpenedObject.{OpenedObject}
 use Rattle.h5_open.specs.LinkTaken.{AreCountsLowered, AreHeadersStanding, header_blocks_at, lowered_blocks}
 use Rattle.h5_open.specs.Opened.Objects.{header_of}
@@ -134,14 +134,14 @@ module _ (old : Space) (slots : List (Option OpenedObject)) (less : List (ℕ ×
         same_object slots m n x o (sym (ap (λ (l : ℕ × ℕ). l.0) (one_of k m rest same at'))) there' there
 
     each_next : (k m rest : ℕ) (x : OpenedObject) → slice_get less k ≡ Some (m, rest) → slice_get slots m ≡ Some (Some x) → IsHeaderStill old.bytes next.bytes x
-    each_next k m rest x at' there' = elim (same_number_or_other k i) [
+    each_next k m rest x at' there' = elim (cases_eq k i) [
       | inl same ↦ subst (IsHeaderStill old.bytes next.bytes) (object_is k m rest x same at' there') still
       | inr other ↦ stays k m rest x at' there' other
     ]
 
     counts_next : (k m rest : ℕ) (x : OpenedObject) → k < i + 1 → slice_get less k ≡ Some (m, rest) → slice_get slots m ≡ Some (Some x)
         → reference_count (prefix_at next.bytes (header_of x)) ≡ rest
-    counts_next k m rest x low at' there' = elim (same_number_or_other k i) [
+    counts_next k m rest x low at' there' = elim (cases_eq k i) [
       | inl same ↦
           ap (λ (y : OpenedObject). reference_count (prefix_at next.bytes (header_of y))) (sym (object_is k m rest x same at' there')) ∙ count
           ∙ ap (λ (l : ℕ × ℕ). l.1) (one_of k m rest same at')

@@ -3,6 +3,7 @@ use Rattle.std.proofs.Common.{Bor, ap, ◌≡◌, ◌≢◌, ◌==◌, inl, ℕ,
 use Rattle.std.specs.List.{Contains}
 use Rattle.std.specs.Prelude.{slice_get}
 use Rattle.std.proofs.lemmas.List.{append-nil}
+use Rattle.h5_model.specs.Format.MessageTypes.{symbol_table_kind}
 use Rattle.h5_bytes.specs.declared.Block.{Block}
 use Rattle.h5_model.specs.Format.Reached.{Named, naming_of, ObjectHeader}
 use Rattle.h5_model.specs.Faults.HeaderFaults.{SomeMessage}
@@ -85,7 +86,7 @@ twice image held followed objects field header depth ready o among same group =
         subst (λ (h : ℕ). h + 16 ≤ length image) same (prefix_there image o.messages.header (messages_in image o.messages.list) o.messages.blocks (kept.header).has (kept.header).inside),
         (
           refl,
-          subst (λ (h : ℕ). SomeMessage image h (λ kind. kind == 17)) same (group_at image o.messages.header (messages_in image o.messages.list) o.messages.blocks (kept.header).has (group_of image o kept group)),
+          subst (λ (h : ℕ). SomeMessage image h (λ kind. kind == symbol_table_kind)) same (group_at image o.messages.header (messages_in image o.messages.list) o.messages.blocks (kept.header).has (group_of image o kept group)),
           (by.0, is.reached, other, by.2 ∙ same, by.3),
         ),
       ),

@@ -5,6 +5,7 @@ use Rattle.std.specs.List.{find}
 use Rattle.std.proofs.lemmas.Bool.Decides.{nat_tests}
 use Rattle.std.proofs.lemmas.Option.{same_Some}
 use Rattle.h5_bytes.specs.declared.Block.{Block}
+use Rattle.h5_model.specs.Format.MessageTypes.{symbol_table_kind}
 use Rattle.h5_model.specs.Format.Messages.{Message, HasMessages, count_of}
 use Rattle.h5_model.specs.Format.Reached.{kind_at}
 use Rattle.h5_model.specs.Faults.HeaderFaults.{SomeMessage}
@@ -29,10 +30,10 @@ counted_found k (x ∷ ms) some = elim (x.kind == k) as (λ b. 1 ≤ cond b 1 0 
 ] some
 
 -- a header of a group has a Symbol Table at some place
-pub group_at : (image : List ℕ) (header : ℕ) (ms : List Message) (blocks : List Block) → HasMessages image header ms blocks → IsOfGroup ms → SomeMessage image header (λ kind. kind == 17)
+pub group_at : (image : List ℕ) (header : ℕ) (ms : List Message) (blocks : List Block) → HasMessages image header ms blocks → IsOfGroup ms → SomeMessage image header (λ kind. kind == symbol_table_kind)
 group_at image header ms blocks has is =
     let one = is.table in
     let found = counted_found 17 ms (omega (arith, one)) in
     let placed : IsPlacedMessage image header found.0 = found_all (IsPlacedMessage image header) 17 ms found.0 (messages_placed image header ms blocks has) found.1 in
-    let kind : kind_at image placed.0 ≡ 17 = sym (placed.1).kind ∙ found_kind 17 ms found.0 found.1 in
+    let kind : kind_at image placed.0 ≡ symbol_table_kind = sym (placed.1).kind ∙ found_kind symbol_table_kind ms found.0 found.1 in
     (placed.0, ((placed.1).fits).0, rw kind refl)

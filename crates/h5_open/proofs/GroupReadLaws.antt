@@ -96,7 +96,7 @@ module _ (image : List ℕ) (held now : List Block) (followed : List Named) (fie
   abbrev has : HasMessages image m.header ms m.blocks
   has = (done.read).has
 
-  pub found : (x : Message) × (find (λ (y : Message). y.kind == 17) ms ≡ Some x) × (symbol_table_of x.body ≡ Some table)
+  pub found : (x : Message) × (find (λ (y : Message). y.kind == symbol_table_kind) ms ≡ Some x) × (symbol_table_of x.body ≡ Some table)
   found = found_table ms table list.chosen
 
   abbrev pub first : ℕ

@@ -9,7 +9,7 @@ use Rattle.h5_bytes.specs.Blocks.{cover}
 use Rattle.h5_bytes.proofs.BlockLaws.{cover-append}
 use Rattle.h5_model.specs.Format.Symbols.{Target, Header, Text}
 use Rattle.h5_laws.proofs.Lists.{In, contains_in}
-use Rattle.h5_laws.proofs.Pigeonhole.{Apart, apart_of_distinct, distinct_of_apart}
+use Rattle.h5_laws.proofs.Pigeonhole.{Apart, apart_of_distinct, distinct_of_apart, apart_push}
 use Rattle.h5_open.specs.declared.opened.object.OpenedObject.{OpenedObject}
 use Rattle.h5_open.specs.Opened.Objects.{headers, content_links, object_blocks}
 use Rattle.h5_open.specs.Placed.Whole.{IsLedTo, HasHeight, IsLed, AreLed, HasParent, AreNamed}
@@ -54,15 +54,6 @@ cover-objects image p objects more = ap (cover p) (flat_map-append (object_block
 
 pub cover-object : (image : List ℕ) (p : ℕ) (o : OpenedObject) → cover p (flat_map (object_blocks image) (o ∷ [])) ≡ cover p (object_blocks image o)
 cover-object image p o = ap (cover p) (append-nil (object_blocks image o))
-
-pub apart_push : (xs : List ℕ) (y : ℕ) → Apart xs → (In y xs → ⊥) → Apart (xs ++ y ∷ [])
-apart_push [] y apart none = ((λ at. at), tt)
-apart_push (x ∷ xs) y apart none = ((λ at. either x xs y apart.0 (λ e. none (inl e)) at), apart_push xs y apart.1 (λ at. none (inr at))) where
-  either : (x : ℕ) (xs : List ℕ) (y : ℕ) → (In x xs → ⊥) → (x ≡ y → ⊥) → In x (xs ++ y ∷ []) → ⊥
-  either x [] y other apart (inl e) = apart (sym e)
-  either x [] y other apart (inr at) = at
-  either x (z ∷ xs) y other apart (inl e) = other (inl e)
-  either x (z ∷ xs) y other apart (inr at) = either x xs y (λ in_rest. other (inr in_rest)) apart at
 
 pub distinct_push : (objects : List OpenedObject) (o : OpenedObject) → IsDistinct (eq_by_cmp nat_cmp) (headers objects) → (Contains (headers objects) o.messages.header → ⊥)
     → IsDistinct (eq_by_cmp nat_cmp) (headers (objects ++ o ∷ []))

@@ -9,7 +9,7 @@ use Rattle.std.specs.Map.{lookup as find}
 use Rattle.std.specs.List.{Contains}
 use Rattle.std.specs.Ordering.{nat_cmp, eq_by_cmp}
 use Rattle.h5_laws.proofs.Lists.{In, contains_in, in_contains, in_either, in_left, in_right}
-use Rattle.h5_laws.proofs.Pigeonhole.{Apart, apart_of_distinct, distinct_of_apart}
+use Rattle.h5_laws.proofs.Pigeonhole.{Apart, apart_of_distinct, distinct_of_apart, apart_push}
 use Rattle.h5_open.specs.LostLinks.{HaveLostLinks, AreMoreLost, links_lost}
 use Rattle.h5_open.specs.declared.opened.losses.LostLinks.{LostLinks}
 
@@ -64,17 +64,6 @@ lost_put old new number before had is n = go (n == number) refl where
       let other : eq_by_cmp nat_cmp number n ≡ false = unsigned_tied number n ∙ let tested : (number == n) ≡ false = grind (arith, nat_tests, e) in tested in
       let kept = ap (λ o. unwrap_or o 0) (is.2 n other) in
       omega (arith, kept)
-
--- a number more, which was none of them
-pub apart_push : (xs : List ℕ) (y : ℕ) → Apart xs → (In y xs → ⊥) → Apart (xs ++ y ∷ [])
-apart_push [] y apart other = ((λ never. never), tt)
-apart_push (x ∷ xs) y apart other = (
-  (λ at. elim (in_either x xs (y ∷ []) at) [
-    | inl there ↦ apart.0 there
-    | inr last ↦ elim last [ inl same ↦ other (inl (sym same)) | inr never ↦ never ]
-  ]),
-  apart_push xs y apart.1 (λ at. other (inr at)),
-)
 
 module _ (numbers : List ℕ) (old new : BTreeMap ℕ ℕ) (number : ℕ) (are : HaveLostLinks numbers old) (more : (n : ℕ) → links_lost new n ≡ links_lost old n + (if n == number then 1 else 0)) where
   -- it has lost one now, and any other as many as before

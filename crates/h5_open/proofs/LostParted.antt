@@ -10,8 +10,8 @@ use Rattle.h5_bytes.specs.Blocks.{cover}
 use Rattle.h5_bytes.specs.declared.Block.{Block}
 use Rattle.h5_bytes.proofs.BlockLaws.{cover-append}
 use Rattle.h5_laws.proofs.Lists.{In, contains_in, from_map, in_contains, in_either, in_left, in_right}
-use Rattle.h5_laws.proofs.Pigeonhole.{Apart, apart_of_distinct, distinct_of_apart}
-use Rattle.h5_open.proofs.LostLaws.{apart_push, apart_take}
+use Rattle.h5_laws.proofs.Pigeonhole.{Apart, apart_of_distinct, distinct_of_apart, apart_push}
+use Rattle.h5_open.proofs.LostLaws.{apart_take}
 use Rattle.h5_open.specs.LostLinks.{AreLossesParted}
 
 -- ---- an element more at the end

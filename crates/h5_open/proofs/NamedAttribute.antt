@@ -8,6 +8,7 @@ use Rattle.std.specs.FinMap.{contains_key, get, get-remove, remove}
 use Rattle.std.proofs.lemmas.Bool.Decides.{nat_tests}
 use Rattle.std.proofs.lemmas.List.{get_or-map, length-map}
 use Rattle.std.proofs.lemmas.List.Quantifiers.{position-Some}
+use Rattle.h5_model.specs.Format.MessageTypes.{attribute_kind}
 use Rattle.h5_model.specs.Format.Messages.{Message}
 use Rattle.h5_model.specs.Format.Reads.{HasAttributes}
 use Rattle.h5_model.specs.Tree.Objects.{Attribute, Attributes}
@@ -43,9 +44,9 @@ module _ (name : List ℕ) where
     pub named_at : is_attribute_named name (slice_index_or (messages_in image list) k nothing) ≡ true
     named_at = at.1
 
-    pub named_kind : (kept_at list k).kind ≡ 12
+    pub named_kind : (kept_at list k).kind ≡ attribute_kind
     named_kind =
         let message = get_or (messages_in image list) k nothing in
-        let tested : (message.kind == 12) ≡ true = (named name message at.1).0 in
-        let twelve : message.kind ≡ 12 = grind (arith, nat_tests, tested) in
-        sym (ap (λ (m : Message). m.kind) (get_or-map (message_in image) list k nowhere nothing named_known)) ∙ twelve
+        let tested : (message.kind == attribute_kind) ≡ true = (named name message at.1).0 in
+        let attribute : message.kind ≡ attribute_kind = grind (arith, nat_tests, tested) in
+        sym (ap (λ (m : Message). m.kind) (get_or-map (message_in image) list k nowhere nothing named_known)) ∙ attribute

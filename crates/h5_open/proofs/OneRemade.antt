@@ -1,5 +1,6 @@
 -- One object that is made anew, whose links stay: the image is opened as it is now, and in the tree that object alone is another.
 use Rattle.std.proofs.Common.{◌≡◌, ℕ, zero, suc, ◌+◌, ◌<◌, ◌≤◌, Bool, true, false, cond, List, [], ◌∷◌, length, refl, sym, ap, ◌∙◌, subst, arith, Option, Some, None}
+use Rattle.std.proofs.Math.Bool.{or-false}
 use Rattle.std.specs.Prelude.{option_map, slice_get, ◌==◌, ◌||◌, if◌then◌else◌}
 use Rattle.std.specs.Option.{option_flatten, option_map_or}
 use Rattle.std.specs.Ordering.{nat_cmp}
@@ -46,10 +47,7 @@ use Rattle.h5_open.proofs.ToldObject.{told_object}
 -- ---- one number
 
 one_among : (number n : ℕ) → is_among (number ∷ []) n ≡ (number == n)
-one_among number n = go (number == n) where
-  go : (b : Bool) → (b || false) ≡ b
-  go true = refl
-  go false = refl
+one_among number n = or-false (number == n)
 
 none_chosen : (m n : ℕ) (slots : List (Option OpenedObject)) → m < n → chosen_slots (is_among (m ∷ [])) n slots ≡ []
 none_chosen m n [] low = refl

@@ -18,6 +18,7 @@ use Rattle.h5_laws.proofs.Pigeonhole.{Apart}
 use Rattle.h5_group.specs.Nodes.Trees.{kind_in, group_nodes_blocks}
 use Rattle.h5_group.specs.Told.{nodes_told, symbol_nodes_told, links_told, blocks_told}
 use Rattle.h5_group.specs.Walk.{IsGroupFollowed, IsHard}
+use Rattle.h5_group.proofs.DropExact.{begins_in}
 use Rattle.h5_open.specs.Read.{AreWaiting}
 
 -- ---- lists
@@ -32,20 +33,12 @@ range_apart from (suc n) = ((λ at. let place = from_range (from + 1) n from at 
 
 -- ---- symbol nodes that share no byte differ
 
-covered_symbol : (leaf node : ℕ) (nodes : List ℕ) → In node nodes → 1 ≤ cover node (map (symbol_block leaf) nodes)
-covered_symbol leaf node [] at = absurd at
-covered_symbol leaf node (x ∷ xs) (inl e) =
-    let here : holds node node (8 + 80 * leaf) ≡ 1 = holds_in node node (8 + 80 * leaf) (omega arith) (omega arith) in
-    let there : holds node x (8 + 80 * leaf) ≡ 1 = subst (λ (y : ℕ). holds node y (8 + 80 * leaf) ≡ 1) (sym e) here in
-    omega (arith, there)
-covered_symbol leaf node (x ∷ xs) (inr at) = omega (arith, covered_symbol leaf node xs at)
-
 nodes_apart : (leaf : ℕ) (nodes : List ℕ) → ((p : ℕ) → cover p (map (symbol_block leaf) nodes) ≤ 1) → Apart nodes
 nodes_apart leaf [] once = tt
 nodes_apart leaf (x ∷ xs) once = (
   (λ at.
       let here : holds x x (8 + 80 * leaf) ≡ 1 = holds_in x x (8 + 80 * leaf) (omega arith) (omega arith) in
-      omega (arith, here, covered_symbol leaf x xs at, once x)),
+      omega (arith, here, begins_in leaf x xs at, once x)),
   nodes_apart leaf xs (λ p. omega (arith, once p)),
 )
 

@@ -1,5 +1,6 @@
 -- The table of an opened image with one object more: its header has the next number, and each other header the one that it had.
 use Rattle.std.proofs.Common.{◌≡◌, inl, inr, ℕ, List, [], ◌∷◌, ◌++◌, length, refl, sym, ap, ◌∙◌, arith, Option, Some}
+use Rattle.std.proofs.lemmas.Bool.{cases_eq}
 use Rattle.std.specs.Prelude.{option_map}
 use Rattle.std.specs.Option.{option_flatten}
 use Rattle.std.specs.Ordering.{nat_cmp}
@@ -8,7 +9,6 @@ use Rattle.std.proofs.lemmas.Option.{same_Some, slice_get_within}
 use Rattle.h5_model.specs.Format.Symbols.{Target, Header, Text}
 use Rattle.h5_model.specs.Tree.Objects.{Link, ToObject}
 use Rattle.h5_laws.proofs.Lists.{In}
-use Rattle.h5_laws.proofs.SoundLaws.Inserted.{same_number_or_other}
 use Rattle.h5_open.specs.declared.opened.object.OpenedObject.{OpenedObject}
 use Rattle.h5_open.specs.Opened.Objects.{header_of, link_to, links_by, number_in, table_of}
 use Rattle.h5_open.specs.Opened.Sound.{IsHeaderIn}
@@ -56,12 +56,12 @@ module _ (slots : List (Option OpenedObject)) (o : OpenedObject) where
     at_next n h here at = same_Some (header_of o) h (sym pushed_new ∙ ap (get table') (sym here) ∙ at)
 
     own' : (a b h : ℕ) → get table' a ≡ Some h → get table' b ≡ Some h → a ≡ b
-    own' a b h first second = elim (same_number_or_other a next) [
-      | inl here ↦ elim (same_number_or_other b next) [
+    own' a b h first second = elim (cases_eq a next) [
+      | inl here ↦ elim (cases_eq b next) [
         | inl there ↦ here ∙ sym there
         | inr other ↦ absurd (not_new b h other second (at_next a h here first))
       ]
-      | inr other ↦ elim (same_number_or_other b next) [
+      | inr other ↦ elim (cases_eq b next) [
         | inl there ↦ absurd (not_new a h other first (at_next b h there second))
         | inr apart ↦ own a b h (sym (others a other) ∙ first) (sym (others b apart) ∙ second)
       ]

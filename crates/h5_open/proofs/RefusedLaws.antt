@@ -13,6 +13,7 @@ use Rattle.h5_header.specs.Walk.Walked.{Breaches}
 use Rattle.h5_header.specs.Walk.Met.{IsHeaderMet}
 use Rattle.h5_header.proofs.WalkLaws.WalkedLaws.{IsOther}
 use Rattle.h5_header.proofs.WalkLaws.HeaderLaws.{header_refused}
+use Rattle.h5_header.proofs.WalkLaws.MetHeader.{header_others}
 use Rattle.h5_open.specs.Opened.Refused.{IsOpenRefusedAt, ReadsSome}
 
 pub as_refused : (image : List ℕ) (cause : Cause) (address : ℕ) → (cause ≢ NoMemory → Breaches image cause address) → IsOpenRefusedAt image cause address
@@ -28,11 +29,6 @@ pub only_memory : (image : List ℕ) (cause : Cause) (address : ℕ) → IsOpenR
 only_memory image cause address h r = memory_alone image cause cause address refl h r
 
 -- ---- headers that are met
-
-header_others : (field header depth : ℕ) (followed : List Named) → AllByRecursion (λ (y : Named). y.field ≢ field) followed
-    → AllByRecursion (λ (y : Named). y.at ≡ header → is_header y.role ≡ false) followed → AllByRecursion (IsOther (naming_of field ObjectHeader header depth)) followed
-header_others field header depth [] fresh alone = tt
-header_others field header depth (y ∷ ys) fresh alone = ((fresh.0, λ e. rw (alone.0 e) refl), header_others field header depth ys fresh.1 alone.1)
 
 pub met_refused : (image : List ℕ) (held : List Block) (followed : List Named) (field header depth : ℕ) → IsHeaderMet image held followed field header depth
     → (cause : Cause) (address : ℕ) → IsHeaderRefused image header held cause address → IsOpenRefusedAt image cause address

@@ -1,5 +1,6 @@
 -- Cells of an array that are written run by run: what one run leaves, and what two of them make.
 use Rattle.std.proofs.Common.{◌≡◌, ℕ, zero, suc, ◌+◌, inl, inr, ℤ, List, [], ◌∷◌, ◌++◌, length, length-append, refl, sym, ap, ◌∙◌, subst, arith, Option, Some, None}
+use Rattle.std.proofs.lemmas.Bool.{cases_eq}
 use Rattle.std.specs.Prelude.{slice_set}
 use Rattle.std.specs.Cmp.{nat_cmp_total}
 use Rattle.std.specs.FinMap.{get, insert, nat_cmp-IsAntisymmetric, same_map}
@@ -11,7 +12,8 @@ use Rattle.h5_bytes.specs.Blocks.{cover}
 use Rattle.h5_bytes.specs.declared.Block.{Block}
 use Rattle.h5_model.specs.Edits.Applied.{with_cells, with_dataset}
 use Rattle.h5_model.specs.Tree.Objects.{Tree, Object, Content, Group, Array, Dataset, dataset_in, dataset_of, with_object}
-use Rattle.h5_laws.proofs.SoundLaws.Inserted.{number_here, number_other, same_number_or_other}
+use Rattle.h5_model.proofs.SelectionLaws.{range-append}
+use Rattle.h5_laws.proofs.SoundLaws.Inserted.{number_here, number_other}
 use Rattle.h5_layout.proofs.StandingWritten.{parts_of_type}
 use Rattle.h5_open.specs.ChangedInPlace.{IsChangedInPlace}
 use Rattle.h5_open.specs.Opened.Sound.{IsSound}
@@ -28,17 +30,6 @@ cells_append cs [] qs [] ws same = refl
 cells_append cs [] qs (v ∷ vs) ws same = absurd (omega (arith, same))
 cells_append cs (p ∷ ps) qs [] ws same = absurd (omega (arith, same))
 cells_append cs (p ∷ ps) qs (v ∷ vs) ws same = cells_append (slice_set cs p v) ps qs vs ws (omega (arith, same))
-
-range_append : (from n m : ℕ) → range_with_len from (n + m) ≡ range_with_len from n ++ range_with_len (from + n) m
-range_append from zero m =
-    let here : from ≡ from + 0 = omega arith in
-    let all : 0 + m ≡ m = omega arith in
-    ap (range_with_len from) all ∙ ap (λ (k : ℕ). range_with_len k m) here
-range_append from (suc n) m =
-    let more : suc n + m ≡ suc (n + m) = omega arith in
-    let on : (from + 1) + n ≡ from + suc n = omega arith in
-    ap (range_with_len from) more
-    ∙ ap (λ (ks : List ℕ). from ∷ ks) (range_append (from + 1) n m ∙ ap (λ (k : ℕ). range_with_len (from + 1) n ++ range_with_len k m) on)
 
 no_cells : (o : Object) → with_dataset (with_places [] []) o ≡ o
 no_cells o = go o.content where
@@ -58,13 +49,13 @@ both_cells ps qs vs ws same o = go o.content where
 
 module _ (tree : Tree) (number : ℕ) where
   insert_again : (a b : Object) → insert (insert tree number a) number b ≡ insert tree number b
-  insert_again a b = same_map nat_cmp_total nat_cmp-IsAntisymmetric (insert (insert tree number a) number b) (insert tree number b) (λ n. elim (same_number_or_other n number) [
+  insert_again a b = same_map nat_cmp_total nat_cmp-IsAntisymmetric (insert (insert tree number a) number b) (insert tree number b) (λ n. elim (cases_eq n number) [
     | inl same ↦ ap (get (insert (insert tree number a) number b)) same ∙ number_here (insert tree number a) number b ∙ sym (number_here tree number b) ∙ ap (get (insert tree number b)) (sym same)
     | inr other ↦ number_other (insert tree number a) number b n other ∙ number_other tree number a n other ∙ sym (number_other tree number b n other)
   ])
 
   insert_same : (o : Object) → get tree number ≡ Some o → insert tree number o ≡ tree
-  insert_same o there = same_map nat_cmp_total nat_cmp-IsAntisymmetric (insert tree number o) tree (λ n. elim (same_number_or_other n number) [
+  insert_same o there = same_map nat_cmp_total nat_cmp-IsAntisymmetric (insert tree number o) tree (λ n. elim (cases_eq n number) [
     | inl same ↦ ap (get (insert tree number o)) same ∙ number_here tree number o ∙ sym there ∙ ap (get tree) (sym same)
     | inr other ↦ number_other tree number o n other
   ])
@@ -81,7 +72,7 @@ unchanged tree number change same = go (get tree number) refl where
   go None none = changed_none tree number change none
   go (Some o) there = changed_some tree number change o there ∙ ap (insert tree number) (same o) ∙ insert_same tree number o there
 
-changed_twice : (tree : Tree) (number : ℕ) (first next both : Object → Object) → ((o : Object) → next (first o) ≡ both o)
+pub changed_twice : (tree : Tree) (number : ℕ) (first next both : Object → Object) → ((o : Object) → next (first o) ≡ both o)
     → with_object (with_object tree number first) number next ≡ with_object tree number both
 changed_twice tree number first next both same = go (get tree number) refl where
   go : (x : Option Object) → get tree number ≡ x → with_object (with_object tree number first) number next ≡ with_object tree number both
@@ -191,5 +182,5 @@ module _ (f g : FileState) (number place : ℕ) (vs : List ℤ) (first : AreCell
   pub more_written : IsSound f → (ws : List ℤ) (h : FileState) → AreCellsWritten g number (place + length vs) ws h → AreCellsWritten f number place (vs ++ ws) h
   more_written sound ws h next =
       subst (λ (qs : List ℕ). AreWrittenAt f number qs (vs ++ ws) h)
-      (sym (ap (range_with_len place) (length-append vs ws) ∙ range_append place (length vs) (length ws)))
+      (sym (ap (range_with_len place) (length-append vs ws) ∙ range-append place (length vs) (length ws)))
       (both_written f g number ps vs as_many first sound (range_with_len (place + length vs) (length ws)) ws h next)

@@ -1,5 +1,6 @@
 -- Slots that are cleared one after another, and their headers' numbers with them.
 use Rattle.std.proofs.Common.{◌≡◌, inl, inr, ℕ, ◌+◌, ◌<◌, ◌≤◌, ◌==◌, false, cond, List, length, refl, sym, ap, ◌∙◌, arith, Option, Some, None, get_or}
+use Rattle.std.proofs.lemmas.Bool.{cases_eq}
 use Rattle.std.specs.Prelude.{option_map, slice_get, slice_set}
 use Rattle.std.specs.Option.{option_flatten}
 use Rattle.std.specs.Ordering.{eq_by_cmp, nat_cmp}
@@ -12,7 +13,6 @@ use Rattle.std.proofs.lemmas.List.{length-set}
 use Rattle.std.proofs.lemmas.Map.Keys.{apart_from_distinct}
 use Rattle.std.proofs.lemmas.Option.{get_or_from_slice_get, same_Some, slice_get_within}
 use Rattle.h5_laws.proofs.Lists.{contains_in, in_at, in_contains, stands_at}
-use Rattle.h5_laws.proofs.SoundLaws.Inserted.{same_number_or_other}
 use Rattle.h5_open.specs.declared.opened.object.OpenedObject.{OpenedObject}
 use Rattle.h5_open.specs.LinkTaken.{AreSlotsCleared, IsOwnTable}
 use Rattle.h5_open.specs.Opened.Kept.{IsIndex}
@@ -78,12 +78,12 @@ module _ (slots : List (Option OpenedObject)) (gone : List ℕ) where
     header = header_at now n o there
 
     cleared_next : (k m : ℕ) → k < i + 1 → slice_get gone k ≡ Some m → slice_get next m ≡ Some None
-    cleared_next k m low at' = elim (same_number_or_other m n) [
+    cleared_next k m low at' = elim (cases_eq m n) [
       | inl same ↦ ap (slice_get next) same ∙ slot_gone
       | inr other ↦ slot_stays m other ∙ so_far.cleared k m (before k m low at' other) at'
     ] where
       before : (k m : ℕ) → k < i + 1 → slice_get gone k ≡ Some m → (m ≡ n → ⊥) → k < i
-      before k m low at' other = elim (same_number_or_other k i) [
+      before k m low at' other = elim (cases_eq k i) [
         | inl same ↦ absurd (other (same_Some m n (sym at' ∙ ap (slice_get gone) same ∙ at)))
         | inr apart ↦ omega (arith, low, apart)
       ]

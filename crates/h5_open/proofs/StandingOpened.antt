@@ -26,12 +26,13 @@ use Rattle.h5_space.specs.Lending.{with_bytes_at}
 use Rattle.h5_space.specs.Moves.{Moves}
 use Rattle.h5_space.specs.Space.{Space}
 use Rattle.h5_header.specs.Listed.{messages_in}
+use Rattle.h5_header.proofs.BesideLaws.{moves_covered}
 use Rattle.h5_layout.specs.CellPlaces.{ArePlacesOf, KeptPlaces}
 use Rattle.h5_layout.specs.Data.{dataset_told, stored_chunks}
 use Rattle.h5_layout.specs.Standing.{IsStandingAt, blocks_with_cells, cell_blocks, is_stored_cell, is_stored_in}
 use Rattle.h5_layout.specs.Told.{array_told}
 use Rattle.h5_layout.proofs.PlacesWritten.{stored_places}
-use Rattle.h5_layout.proofs.StandingWritten.{byte_beside, moves_within, parts_of_type, stored_among, stored_blocks_stay, stored_chunks_stay, stored_covered, stored_fit, stored_inside, stored_long, stored_read, stored_told}
+use Rattle.h5_layout.proofs.StandingWritten.{byte_beside, parts_of_type, stored_among, stored_blocks_stay, stored_chunks_stay, stored_covered, stored_fit, stored_inside, stored_long, stored_read, stored_told}
 use Rattle.h5_layout.proofs.StandsAt.{cells_low}
 use Rattle.h5_open.specs.declared.opened.object.OpenedObject.{OpenedObject}
 use Rattle.h5_open.specs.declared.opened.object.OpenedContent.{OpenedContent}
@@ -187,7 +188,7 @@ module _ (old : Space) (slots : List (Option OpenedObject)) (numbers : BTreeMap 
           let trimmed = written_trimmed old.bytes it messages has fixed read (λ q. omega (arith, once q)) place at first first_stand first_room fit new.bytes bytes_are chunks in
           let covered = stored_covered old.bytes it messages has fixed read once whole place at first first_some first_stand first_room in
           let moves : Moves old new (its_blocks old slots numbers opened number p stands kind) (its_blocks old slots numbers opened number p stands kind)
-          = moves_within old new at (cells_bytes it.fixed first) (its_blocks old slots numbers opened number p stands kind) fit bytes_are free_is covered in
+          = moves_covered old new (cells_bytes it.fixed first) at (its_blocks old slots numbers opened number p stands kind) covered fit bytes_are free_is in
           let still = still_opened old slots numbers opened number p stands kind new moves long now blocks trimmed (with_run place first) changed in
           let all = array_changed old slots numbers opened number p stands kind new moves long now blocks trimmed (with_run place first) changed in
           let same = same_messages old slots numbers opened number p stands kind new moves long in

@@ -2,7 +2,7 @@
 use Rattle.std.proofs.Common.{◌≡◌, ℕ, ◌==◌, ◌||◌, Bool, false, IsTrue, Option, Some, List, [], ◌∷◌, map, refl, sym, ap, ◌∙◌, subst, arith}
 use Rattle.std.specs.Prelude.{option_and_then}
 use Rattle.std.specs.List.{AllByRecursion, filter}
-use Rattle.h5_model.specs.Format.MessageTypes.{symbol_table_kind}
+use Rattle.h5_model.specs.Format.MessageTypes.{symbol_table_kind, nil_kind, dataspace_kind, datatype_kind, old_fill_value_kind, fill_value_kind, data_layout_kind, attribute_kind, comment_kind, old_modification_time_kind, continuation_kind, modification_time_kind}
 use Rattle.h5_model.specs.Format.Addresses.{SymbolTable, symbol_table_of}
 use Rattle.h5_model.specs.Format.Extent.{extent_of}
 use Rattle.h5_model.specs.Format.Fill.{fill_value, old_fill_value}
@@ -27,21 +27,21 @@ pub attributes_now : (ms : List Message) (attributes : Attributes) → HasAttrib
 attributes_now ms attributes has = subst (HasAttributes ms) (attributes-is ms attributes has) has
 
 module _ (ms ms' : List Message) (still : IsSaidStill ms ms') where
-  same_count : (kind : ℕ) → (0 == kind) ≡ false → (12 == kind) ≡ false → (16 == kind) ≡ false → count_of kind ms' ≡ count_of kind ms
+  same_count : (kind : ℕ) → (nil_kind == kind) ≡ false → (attribute_kind == kind) ≡ false → (continuation_kind == kind) ≡ false → count_of kind ms' ≡ count_of kind ms
   same_count kind a b c = still.counts kind (a, (b, (c, tt)))
 
-  same_body : (kind : ℕ) → (0 == kind) ≡ false → (3 == kind) ≡ false → (12 == kind) ≡ false → (16 == kind) ≡ false → (17 == kind) ≡ false
+  same_body : (kind : ℕ) → (nil_kind == kind) ≡ false → (datatype_kind == kind) ≡ false → (attribute_kind == kind) ≡ false → (continuation_kind == kind) ≡ false → (symbol_table_kind == kind) ≡ false
       → first_body kind ms' ≡ first_body kind ms
   same_body kind a b c d e = still.bodies kind (a, (b, (c, (d, (e, tt)))))
 
   pub group_still : IsOfGroup ms → IsOfGroup ms'
   group_still is = record {
-    table = same_count 17 refl refl refl ∙ is.table;
+    table = same_count symbol_table_kind refl refl refl ∙ is.table;
     alone = (
-      same_count 1 refl refl refl ∙ (is.alone).0,
+      same_count dataspace_kind refl refl refl ∙ (is.alone).0,
       (
-        same_count 3 refl refl refl ∙ ((is.alone).1).0,
-        (same_count 4 refl refl refl ∙ (((is.alone).1).1).0, (same_count 5 refl refl refl ∙ ((((is.alone).1).1).1).0, (same_count 8 refl refl refl ∙ (((((is.alone).1).1).1).1).0, tt))),
+        same_count datatype_kind refl refl refl ∙ ((is.alone).1).0,
+        (same_count old_fill_value_kind refl refl refl ∙ (((is.alone).1).1).0, (same_count fill_value_kind refl refl refl ∙ ((((is.alone).1).1).1).0, (same_count data_layout_kind refl refl refl ∙ (((((is.alone).1).1).1).1).0, tt))),
       ),
     );
   }
@@ -52,28 +52,28 @@ module _ (ms ms' : List Message) (still : IsSaidStill ms ms') where
 
   pub kinds_still : IsOfDataset ms → IsOfDataset ms'
   kinds_still is = record {
-    no_table = same_count 17 refl refl refl ∙ is.no_table;
-    once = (same_count 1 refl refl refl ∙ (is.once).0, (same_count 3 refl refl refl ∙ ((is.once).1).0, (same_count 8 refl refl refl ∙ (((is.once).1).1).0, tt)));
-    fills = (omega (arith, same_count 4 refl refl refl, (is.fills).0), (omega (arith, same_count 5 refl refl refl, ((is.fills).1).0), tt));
+    no_table = same_count symbol_table_kind refl refl refl ∙ is.no_table;
+    once = (same_count dataspace_kind refl refl refl ∙ (is.once).0, (same_count datatype_kind refl refl refl ∙ ((is.once).1).0, (same_count data_layout_kind refl refl refl ∙ (((is.once).1).1).0, tt)));
+    fills = (omega (arith, same_count old_fill_value_kind refl refl refl, (is.fills).0), (omega (arith, same_count fill_value_kind refl refl refl, ((is.fills).1).0), tt));
   }
 
   pub array_still : (a : Described) → HasArray ms a → HasArray ms' a
   array_still a has = record {
-    one_space = same_count 1 refl refl refl ∙ has.one_space;
-    one_type = same_count 3 refl refl refl ∙ has.one_type;
-    one_layout = same_count 8 refl refl refl ∙ has.one_layout;
-    old_fills = omega (arith, same_count 4 refl refl refl, has.old_fills);
-    fills = omega (arith, same_count 5 refl refl refl, has.fills);
-    space = ap (option_and_then extent_of) (same_body 1 refl refl refl refl refl) ∙ has.space;
+    one_space = same_count dataspace_kind refl refl refl ∙ has.one_space;
+    one_type = same_count datatype_kind refl refl refl ∙ has.one_type;
+    one_layout = same_count data_layout_kind refl refl refl ∙ has.one_layout;
+    old_fills = omega (arith, same_count old_fill_value_kind refl refl refl, has.old_fills);
+    fills = omega (arith, same_count fill_value_kind refl refl refl, has.fills);
+    space = ap (option_and_then extent_of) (same_body dataspace_kind refl refl refl refl refl) ∙ has.space;
     type = still.datatype (omega (arith, has.one_type)) ∙ has.type;
     filled = record {
       old_fill = (has.filled).old_fill;
       new_fill = (has.filled).new_fill;
-      old_filled = subst (λ (b : Option (List ℕ)). IsFill (old_fill_value a.fixed) b (has.filled).old_fill) (sym (same_body 4 refl refl refl refl refl)) (has.filled).old_filled;
-      new_filled = subst (λ (b : Option (List ℕ)). IsFill (fill_value a.fixed) b (has.filled).new_fill) (sym (same_body 5 refl refl refl refl refl)) (has.filled).new_filled;
+      old_filled = subst (λ (b : Option (List ℕ)). IsFill (old_fill_value a.fixed) b (has.filled).old_fill) (sym (same_body old_fill_value_kind refl refl refl refl refl)) (has.filled).old_filled;
+      new_filled = subst (λ (b : Option (List ℕ)). IsFill (fill_value a.fixed) b (has.filled).new_fill) (sym (same_body fill_value_kind refl refl refl refl refl)) (has.filled).new_filled;
       filled = (has.filled).filled;
     };
-    laid_out = ap (option_and_then (layout_of a.sizes a.fixed.size)) (same_body 8 refl refl refl refl refl) ∙ has.laid_out;
+    laid_out = ap (option_and_then (layout_of a.sizes a.fixed.size)) (same_body data_layout_kind refl refl refl refl refl) ∙ has.laid_out;
     small = has.small;
     chunk_small = has.chunk_small;
   }
@@ -90,7 +90,7 @@ module _ (ms ms' : List Message) (still : IsSaidStill ms ms') where
   }
 
   pub kept_still : map kept_of (filter is_kept ms') ≡ map kept_of (filter is_kept ms)
-  kept_still = ap (map kept_of) (still.others (λ (kind : ℕ). (kind == 13 || kind == 14) || kind == 18) (refl, (refl, (refl, (refl, (refl, tt))))))
+  kept_still = ap (map kept_of) (still.others (λ (kind : ℕ). (kind == comment_kind || kind == old_modification_time_kind) || kind == modification_time_kind) (refl, (refl, (refl, (refl, (refl, tt))))))
 
 -- what holds of the types of messages holds of those of what they say
 said_types : (p : ℕ → Bool) (image : List ℕ) (list : List Placed) → AllByRecursion (λ (x : Placed). IsTrue (p x.kind)) list → AllByRecursion (λ (m : Message). IsTrue (p m.kind)) (messages_in image list)

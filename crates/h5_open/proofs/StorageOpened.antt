@@ -31,6 +31,7 @@ use Rattle.h5_layout.specs.Lacking.{lacks_cells, stored_all, stored_storage}
 use Rattle.h5_layout.specs.RunStorage.{IsMadeAt}
 use Rattle.h5_layout.specs.Storage.{IsStorageMade}
 use Rattle.h5_layout.proofs.RunStorageLaws.{made_inside}
+use Rattle.h5_layout.proofs.LackingLaws.{none_passes}
 use Rattle.h5_open.specs.ChangedInPlace.{IsChangedInPlace}
 use Rattle.h5_open.specs.Opened.Kept.{IsContentTidy, IsOpened}
 use Rattle.h5_open.specs.Opened.Objects.{tree_of}
@@ -43,23 +44,12 @@ use Rattle.h5_open.proofs.StandingOpened.{array_is}
 
 -- ---- cells that are stored
 
-none_of : (p : ℕ → Bool) (xs : List ℕ) (x : ℕ) → list_any p xs ≡ false → In x xs → p x ≡ false
-none_of p [] x none at = absurd at
-none_of p (y ∷ ys) x none (inl e) = subst (λ (z : ℕ). p z ≡ false) e (by_first (p y) (list_any p ys) none) where
-  by_first : (b c : Bool) → (b || c) ≡ false → b ≡ false
-  by_first true c never = never
-  by_first false c is = refl
-none_of p (y ∷ ys) x none (inr at) = none_of p ys x (by_rest (p y) (list_any p ys) none) at where
-  by_rest : (b c : Bool) → (b || c) ≡ false → c ≡ false
-  by_rest true c never = absurd (let no : true ≡ false = never in cc)
-  by_rest false c is = is
-
 -- where no selected cell lacks storage, each is stored
 all_stored : (image : List ℕ) (a : Described) (slab : Slab) → lacks_cells image a slab ≡ false
     → (place : ℕ) → Contains (selection_of a.sizes slab) place → is_stored_cell image a place ≡ true
 all_stored image a slab none place at =
     not-false (is_stored_cell image a place)
-    (none_of (λ (q : ℕ). not (is_stored_cell image a q)) (selection_of a.sizes slab) place none (in_contains place (selection_of a.sizes slab) at))
+    (none_passes (λ (q : ℕ). not (is_stored_cell image a q)) place (selection_of a.sizes slab) none (in_contains place (selection_of a.sizes slab) at))
 
 -- storage that is made leaves an array in chunks, or out of them
 stored_chunked : (sizes : List ℕ) (s : Storage) → is_chunked (stored_storage sizes s) ≡ is_chunked s

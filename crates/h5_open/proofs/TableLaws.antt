@@ -35,17 +35,17 @@ table_numbers body table is = go (nat_le 16 (length body)) refl is where
 
 -- the message that is found, with what its body says
 pub found_table : (ms : List Message) (table : SymbolTable) → option_and_then symbol_table_of (first_body symbol_table_kind ms) ≡ Some table
-    → (m : Message) × (find (λ (x : Message). x.kind == 17) ms ≡ Some m) × (symbol_table_of m.body ≡ Some table)
-found_table ms table is = go (find (λ (x : Message). x.kind == 17) ms) refl is where
-  go : (o : Option Message) → find (λ (x : Message). x.kind == 17) ms ≡ o → option_and_then symbol_table_of (option_map (λ (x : Message). x.body) o) ≡ Some table
-      → (m : Message) × (find (λ (x : Message). x.kind == 17) ms ≡ Some m) × (symbol_table_of m.body ≡ Some table)
+    → (m : Message) × (find (λ (x : Message). x.kind == symbol_table_kind) ms ≡ Some m) × (symbol_table_of m.body ≡ Some table)
+found_table ms table is = go (find (λ (x : Message). x.kind == symbol_table_kind) ms) refl is where
+  go : (o : Option Message) → find (λ (x : Message). x.kind == symbol_table_kind) ms ≡ o → option_and_then symbol_table_of (option_map (λ (x : Message). x.body) o) ≡ Some table
+      → (m : Message) × (find (λ (x : Message). x.kind == symbol_table_kind) ms ≡ Some m) × (symbol_table_of m.body ≡ Some table)
   go None e said = absurd (cc)
   go (Some m) e said = (m, e, said)
 
 module _ (image : List ℕ) (header : ℕ) (ms : List Message) (blocks : List Block) (has : HasMessages image header ms blocks) (inside : Inside (length image) blocks)
     (held : List Block) (followed : List Named) (field depth : ℕ) (met : IsHeaderMet image held followed field header depth)
     (now : List Block) (claimed : (p : ℕ) → cover p now ≡ cover p held + cover p blocks) (separate : Separate now)
-    (table : SymbolTable) (m : Message) (first : find (λ (x : Message). x.kind == 17) ms ≡ Some m) (said : symbol_table_of m.body ≡ Some table) where
+    (table : SymbolTable) (m : Message) (first : find (λ (x : Message). x.kind == symbol_table_kind) ms ≡ Some m) (said : symbol_table_of m.body ≡ Some table) where
   placed : IsPlacedMessage image header m
   placed = found_all (IsPlacedMessage image header) 17 ms m (messages_placed image header ms blocks has) first
 
@@ -58,8 +58,8 @@ module _ (image : List ℕ) (header : ℕ) (ms : List Message) (blocks : List Bl
   long : length m.body ≤ size_at image at
   long = subst (λ (bs : List ℕ). length bs ≤ size_at image at) (sym (placed.1).body) (length-part-le (at + 8) (size_at image at) image)
 
-  is_17 : kind_at image at ≡ 17
-  is_17 = sym (placed.1).kind ∙ found_kind 17 ms m first
+  is_table : kind_at image at ≡ symbol_table_kind
+  is_table = sym (placed.1).kind ∙ found_kind symbol_table_kind ms m first
 
   tree_is : number_at image (at + 8) 8 ≡ table.tree
   tree_is =
@@ -78,14 +78,14 @@ module _ (image : List ℕ) (header : ℕ) (ms : List Message) (blocks : List Bl
   tree_reached =
       let place : at + 8 ≡ m.at = sym (placed.1).place in
       by_block {y = naming_of m.at (group_root image table.tree table.heap) table.tree depth} (met.met).reached
-      (inl (at, (placed.1).fits, omega (arith, numbers.0, long), inr (inl (is_17, λ i. naming_of (sym place i) (group_root image (sym tree_is i) (sym heap_is i)) (sym tree_is i) depth))))
+      (inl (at, (placed.1).fits, omega (arith, numbers.0, long), inr (inl (is_table, λ i. naming_of (sym place i) (group_root image (sym tree_is i) (sym heap_is i)) (sym tree_is i) depth))))
       (omega (arith, numbers.0, long, there, (placed.1).place))
 
   pub heap_reached : Reached image (naming_of (m.at + 8) (HeapHeader table.tree) table.heap depth)
   heap_reached =
       let place : m.at + 8 ≡ at + 16 = omega (arith, (placed.1).place) in
       by_block {y = naming_of (m.at + 8) (HeapHeader table.tree) table.heap depth} (met.met).reached
-      (inl (at, (placed.1).fits, omega (arith, numbers.0, long), inr (inr (is_17, λ i. naming_of (place i) (HeapHeader (sym tree_is i)) (sym heap_is i) depth))))
+      (inl (at, (placed.1).fits, omega (arith, numbers.0, long), inr (inr (is_table, λ i. naming_of (place i) (HeapHeader (sym tree_is i)) (sym heap_is i) depth))))
       (omega (arith, numbers.0, long, there, (placed.1).place))
 
   pub tree_met : IsMet image now (with_header field header depth ms followed) (naming_of m.at (group_root image table.tree table.heap) table.tree depth)

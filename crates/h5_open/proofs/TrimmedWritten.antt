@@ -14,11 +14,10 @@ use Rattle.h5_model.specs.Format.Messages.{Message}
 use Rattle.h5_model.specs.Format.Plain.{cells_bytes}
 use Rattle.h5_model.specs.Format.Described.{storage_of, Described, HasArray}
 use Rattle.h5_model.specs.Tree.Places.{IsInside, cells, index_of, place_of}
-use Rattle.h5_model.proofs.PlaceLaws.{index-place, inside-index, place_below}
+use Rattle.h5_model.proofs.PlaceLaws.{index-place, inside-index, place_below, is_inside_from}
 use Rattle.h5_model.proofs.PlainValues.{length-cells_bytes, size-low}
 use Rattle.h5_model.proofs.ValueLaws.{value_at-same}
 use Rattle.h5_header.proofs.FoundLaws.{among_some}
-use Rattle.h5_chunks.proofs.InsideLaws.{is_inside_from}
 use Rattle.h5_layout.specs.Data.{AreDataRead, data_blocks, stored_chunks}
 use Rattle.h5_layout.specs.Standing.{IsStandingAt, address_of}
 use Rattle.h5_layout.specs.Stored.{has_room}

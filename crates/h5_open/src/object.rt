@@ -26,7 +26,7 @@ use h5_chunks::{ChunkShape, read_chunks};
 use h5_group::{
     Links, SymbolTable, group_links, has_exact_keys, links_at, read_group, symbol_nodes,
 };
-use h5_header::{Messages, ObjectKind, claim};
+use h5_header::{HeaderRef, Messages, ObjectKind, claim};
 use h5_layout::{ArrayRef, ChunkSizes, Layout, known_array};
 use h5_model::{Cause, Fixed, OpenFault};
 use h5_space::{Claims, Image, fault};
@@ -61,7 +61,7 @@ pub(crate) fn read_object(
         IsObjectFault image.now.bytes claims.old.held header depth fault.cause fault.address) }
 {
     let messages = h5_header::messages(alloc, image, claims, header)?;
-    match judge_kind(image, &messages, depth)? {
+    match judge_kind(&HeaderRef::new(image, &messages), depth)? {
         ObjectKind::Group => read_group_object(alloc, image, claims, messages, depth),
         ObjectKind::Dataset => read_array_object(alloc, image, claims, messages),
     }
@@ -91,7 +91,7 @@ fn read_group_object(
     ensures refused { IfErr result (λ fault.
         IsContentFault image.now.bytes claims.old.held messages depth fault.cause fault.address) }
 {
-    let table = judge_group(alloc, image, &messages)?;
+    let table = judge_group(alloc, &HeaderRef::new(image, &messages))?;
     read_group(alloc, image, claims, table)?;
     check_depth(alloc, image, table, depth)?;
     Ok(OpenedObject {
@@ -124,7 +124,7 @@ fn read_array_object(
     ensures refused { IfErr result (λ fault. (depth : ℕ)
         → IsContentFault image.now.bytes claims.old.held messages depth fault.cause fault.address) }
 {
-    let array = judge_array(alloc, image, &messages)?;
+    let array = judge_array(alloc, &HeaderRef::new(image, &messages))?;
     claim_data(alloc, image, claims, &array)?;
     Ok(OpenedObject {
         messages,
@@ -233,7 +233,7 @@ pub(crate) fn claim_object(
     match &object.content {
         OpenedContent::Group(table) => read_group(alloc, image, claims, *table),
         OpenedContent::Array => {
-            let array = known_array(image, &object.messages);
+            let array = known_array(&HeaderRef::new(image, &object.messages));
             claim_data(alloc, image, claims, &array)
         }
     }

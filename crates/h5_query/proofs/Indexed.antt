@@ -4,7 +4,7 @@ use Rattle.std.specs.Prelude.{option_and_then, IsSome, MatchOption}
 use Rattle.std.specs.FinMap.{get}
 use Rattle.h5_model.specs.Tree.Objects.{Object, Dataset, links_of, dataset_of, links_in, dataset_in as dataset_by}
 use Rattle.h5_model.specs.Format.Addresses.{SymbolTable}
-use Rattle.h5_header.specs.Listed.{messages_in}
+use Rattle.h5_header.specs.Listed.{header_told, messages_in}
 use Rattle.h5_open.specs.GroupTold.{links_told}
 use Rattle.h5_open.specs.Links.{IsGroupRead}
 use Rattle.h5_open.specs.declared.opened.object.OpenedObject.{OpenedObject}
@@ -65,10 +65,10 @@ module _ (f : FileState) (k : ℕ) (o : OpenedObject) (of : IsObjectOf f k o) wh
         ∙ ap (λ (c : OpenedContent). dataset_by (content_in f.image f.table (messages_in f.image o.messages.list) c)) is
 
     -- the messages describe it, and its data stand in the image
-    pub array_kept : IsArrayKept f.image o.messages
+    pub array_kept : IsArrayKept (header_told f.image o.messages)
     array_kept =
         let array = subst (IsContentKept f.image (messages_in f.image o.messages.list)) is of.kept.content in
-        record { within = (of.kept.header).within; list = array.0; stored = array.1 }
+        record { list = array.0; stored = array.1 }
 
     -- and so they are those of its header
     pub array_described : IsArrayThere f k (array_told (messages_in f.image o.messages.list))

@@ -1,5 +1,5 @@
 -- What an opened image keeps of the object at a path, and of the cells of its array (File Format Specification 3.0, section IV.A).
-use Rattle.std.specs.Prelude.{◌≡◌, ℕ, Some, None, List, length, map}
+use Rattle.std.specs.Prelude.{◌≡◌, ℕ, Some, None, List, map}
 use Rattle.std.specs.FinMap.{get}
 use Rattle.std.specs.Option.{option_and_then}
 use Rattle.h5_model.specs.Tree.Objects.{Tree, Object, Dataset}
@@ -14,7 +14,7 @@ use Rattle.h5_model.specs.Format.Addresses.{SymbolTable}
 use Rattle.h5_open.specs.Data.{AreDataRead, dataset_told}
 use Rattle.h5_open.specs.StoredExtent.{StoredExtent, stored_extent}
 use Rattle.h5_open.specs.Opened.Judged.{IsArrayList}
-use Rattle.h5_header.specs.Listed.{Listed, messages_in, IsWithin}
+use Rattle.h5_header.specs.Listed.{HeaderIn, Listed, messages_in}
 use Rattle.h5_open.specs.Attributes.{attributes_of}
 use Rattle.h5_open.specs.Opened.Headers.{IsHeaderKept}
 
@@ -31,10 +31,9 @@ abbrev pub array_dataset : List ℕ → List Message → Dataset
 array_dataset image ms = dataset_told image (array_told ms)
 
 -- the messages are those of an array, and its data stand in the image
-pub record IsArrayKept (image : List ℕ) (m : Listed) : Type 0 where
-  pub within : IsWithin (length image) m.list
-  pub list : IsArrayList (messages_in image m.list)
-  pub stored : AreDataRead image (type_told (messages_in image m.list)) (layout_told (messages_in image m.list))
+pub record IsArrayKept (h : HeaderIn) : Type 0 where
+  pub list : IsArrayList h.messages
+  pub stored : AreDataRead h.image (type_told h.messages) (layout_told h.messages)
 
 -- this dataset stands there, and has this number
 pub record IsArrayAt (tree : Tree) (path : List ℕ) (at : ℕ × Dataset) : Type 0 where

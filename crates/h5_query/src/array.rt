@@ -1,7 +1,6 @@
 //! Arrays of an opened image, by their paths and by their numbers (File Format Specification 3.0, section IV.A.2.i).
 
 ghost use Rattle.std.specs.Prelude.{◌≡◌, Some, MatchOption, MatchResult};
-ghost use Rattle.h5_header.specs.Listed.{messages_in};
 ghost use Rattle.h5_model.specs.Edits.Refusal.{first_holding};
 ghost use Rattle.h5_model.specs.Scripts.Reading.{dataset_rules};
 ghost use Rattle.h5_model.specs.Tree.Objects.{Dataset, dataset_of};
@@ -13,12 +12,11 @@ ghost use Rattle.h5_query.specs.Told.{array_told};
 ghost use Rattle.h5_query.specs.Written.{IsArrayThere};
 
 use crate::place::{Place, look};
-use h5_header::Messages;
+use h5_header::HeaderRef;
 use h5_model::{EditFault, ObjectNo};
 use h5_open::{
     ArrayExtent, ArrayRef, Opened, OpenedContent, StoredArray, known_array, known_extent,
 };
-use h5_space::Image;
 
 /// The array at the path, with its number. Takes no memory.
 ///
@@ -69,9 +67,10 @@ pub fn extent_at<'a>(opened: &'a Opened, path: &[u8]) -> Result<(u32, ArrayExten
         first_holding (dataset_rules tree path.now) ≡ Some e) }
     ensures sound { IsSound opened.now }
 {
-    let image = opened.image();
+    // Its objects are sound, also where none is an array at the path.
+    let _image = opened.image();
     let number = array_number(opened, path)?;
-    let extent = known_extent(image, array_messages(opened, number));
+    let extent = known_extent(&array_header(opened, number));
     Ok((number, extent))
 }
 
@@ -83,20 +82,21 @@ pub fn described_of<'a>(opened: &'a Opened, number: u32) -> ArrayRef<'a>
     ensures there { IsArrayThere opened.now number result }
     ensures stored { AreDataRead opened.now.image result.fixed result.layout }
 {
-    known_array(opened.image(), array_messages(opened, number))
+    known_array(&array_header(opened, number))
 }
 
-/// The messages of the array with this number.
+/// The header of the array with this number.
 ///
 /// That an array has the number is the caller's condition.
-fn array_messages(opened: &Opened, number: u32) -> &Messages
+fn array_header(opened: &Opened, number: u32) -> HeaderRef<'_>
     requires { (d : Dataset) × dataset_of opened.now.tree number ≡ Some d }
-    ensures kept { IsArrayKept opened.now.image result.now }
-    ensures there { let ms = messages_in opened.now.image result.now.list in
-        IsArrayThere opened.now number (array_told ms) }
+    ensures image { result.image ≡ opened.now.image }
+    ensures kept { IsArrayKept result }
+    ensures there { IsArrayThere opened.now number (array_told result.messages) }
     ensures sound { IsSound opened.now }
 {
-    &opened.object(number).unwrap().messages
+    let object = opened.object(number).unwrap();
+    HeaderRef::new(opened.image(), &object.messages)
 }
 
 /// The array with this number, or `None` where no array has it. Takes no memory.
@@ -106,16 +106,18 @@ pub fn array_of<'a>(opened: &'a Opened, number: ObjectNo) -> Option<StoredArray<
 {
     let object = opened.object(number.0)?;
     match &object.content {
-        OpenedContent::Array => Some(stored_array(opened.image(), &object.messages)),
+        OpenedContent::Array => {
+            let header = HeaderRef::new(opened.image(), &object.messages);
+            Some(stored_array(&header))
+        }
         OpenedContent::Group(_) => None,
     }
 }
 
 /// The array that the messages of a header describe.
-pub(crate) fn stored_array<'a>(image: &'a Image, messages: &Messages) -> StoredArray<'a>
-    requires { IsArrayKept image.now.bytes messages.now }
-    ensures { let ms = messages_in image.now.bytes messages.now.list in
-        result ≡ array_dataset image.now.bytes ms }
+pub(crate) fn stored_array<'a>(header: &HeaderRef<'a>) -> StoredArray<'a>
+    requires { IsArrayKept header.now }
+    ensures { result ≡ array_dataset header.now.image header.now.messages }
 {
-    StoredArray::new(image, known_array(image, messages))
+    StoredArray::new(header.image(), known_array(header))
 }

@@ -1,6 +1,7 @@
 //! The attributes of the object at a path (File Format Specification 3.0, section IV.A.2.m).
 
 ghost use Rattle.std.specs.Prelude.{◌≡◌, Some, MatchResult, map};
+ghost use Rattle.h5_header.specs.Listed.{Listed, header_told};
 ghost use Rattle.h5_model.specs.Edits.Refusal.{first_holding};
 ghost use Rattle.h5_model.specs.Scripts.Reading.{attribute_rules};
 ghost use Rattle.h5_query.specs.Kept.{IsHeaderThere};
@@ -8,7 +9,7 @@ ghost use Rattle.h5_query.specs.Look.{HasAttribute, HasAttributeNames, HasAttrib
 ghost use Rattle.h5_query.specs.Place.{IsNoObject};
 
 use crate::place::{Place, look};
-use h5_header::Messages;
+use h5_header::HeaderRef;
 use h5_model::EditFault;
 use h5_open::{AttrRef, Opened, get, list, sorted};
 use std::alloc::Global;
@@ -28,7 +29,7 @@ pub fn names_of_attributes<'a>(
         MatchResult result (λ names.
         HasAttributeNames tree path.now (map (λ name. name.now) names.items)) (IsUnlisted tree path.now) }
 {
-    match list(alloc, opened.image(), messages_at(opened, path)?) {
+    match list(alloc, &header_at(opened, path)?) {
         Ok(names) => Ok(names),
         Err(_) => Err(EditFault::NoMemory),
     }
@@ -47,7 +48,7 @@ pub fn attributes_at<'a>(
     ensures { let tree = opened.now.tree in
         MatchResult result (λ list. HasAttributesOf tree path.now list.items) (IsUnlisted tree path.now) }
 {
-    match sorted(alloc, opened.image(), messages_at(opened, path)?) {
+    match sorted(alloc, &header_at(opened, path)?) {
         Ok(attributes) => Ok(attributes),
         Err(_) => Err(EditFault::NoMemory),
     }
@@ -67,20 +68,21 @@ pub fn one_attribute<'a>(
         MatchResult result (HasAttribute tree path.now name.now) (λ e.
         first_holding (attribute_rules tree path.now name.now) ≡ Some e) }
 {
-    match get(opened.image(), messages_at(opened, path)?, name) {
+    match get(&header_at(opened, path)?, name) {
         Some(attribute) => Ok(attribute),
         None => Err(EditFault::NoSuchAttribute),
     }
 }
 
-/// The messages of the object at the path.
-fn messages_at<'a>(opened: &'a Opened, path: &[u8]) -> Result<&'a Messages, EditFault>
-    ensures { let tree = opened.now.tree in
-        MatchResult result (λ messages.
-        IsHeaderThere opened.now.image tree path.now messages.now) (IsNoObject tree path.now) }
+/// The header of the object at the path.
+fn header_at<'a>(opened: &'a Opened, path: &[u8]) -> Result<HeaderRef<'a>, EditFault>
+    ensures { let f = opened.now in
+        MatchResult result (λ header. (m : Listed)
+        × IsHeaderThere f.image f.tree path.now m
+        × (header ≡ header_told f.image m)) (IsNoObject f.tree path.now) }
 {
     match look(opened, path)? {
-        Place::Object { object, .. } => Ok(&object.messages),
+        Place::Object { object, .. } => Ok(HeaderRef::new(opened.image(), &object.messages)),
         Place::Soft(_) => Err(EditFault::NotFound),
     }
 }

@@ -5,6 +5,7 @@ ghost use Rattle.h5_query.specs.Found.{HasFound, IsUnfound};
 
 use crate::array::stored_array;
 use crate::place::{Place, look};
+use h5_header::HeaderRef;
 use h5_model::{EditFault, ObjectNo};
 use h5_open::{AttrRef, Opened, OpenedContent, StoredArray, sorted};
 use std::alloc::Global;
@@ -40,13 +41,14 @@ pub fn found_at<'a>(alloc: Global, opened: &'a Opened, path: &[u8]) -> Result<Fo
         Place::Object { number, object } => (ObjectNo(number), object),
         Place::Soft(text) => return Ok(Found::Soft(text)),
     };
-    let attributes = sorted(alloc, opened.image(), &object.messages)?;
+    let header = HeaderRef::new(opened.image(), &object.messages);
+    let attributes = sorted(alloc, &header)?;
     match &object.content {
         OpenedContent::Group(_) => Ok(Found::Group { number, attributes }),
         OpenedContent::Array => Ok(Found::Array {
             number,
             attributes,
-            array: stored_array(opened.image(), &object.messages),
+            array: stored_array(&header),
         }),
     }
 }

@@ -10,6 +10,7 @@ ghost use Rattle.h5_query.specs.Look.{HasKind, IsArrayKind, IsStored};
 use crate::array::stored_array;
 use crate::kind::Kind;
 use crate::place::{Place, look};
+use h5_header::HeaderRef;
 use h5_model::{EditFault, Store};
 use h5_open::{ArrayRef, Dims, Layout, MAX_RANK, Opened, OpenedContent, StoredArray};
 
@@ -29,7 +30,8 @@ pub fn kind_at<'a>(opened: &'a Opened, path: &[u8]) -> Result<Kind<'a>, EditFaul
         Place::Object { object, .. } => match &object.content {
             OpenedContent::Group(_) => Ok(Kind::Group),
             OpenedContent::Array => {
-                let array = stored_array(opened.image(), &object.messages);
+                let header = HeaderRef::new(opened.image(), &object.messages);
+                let array = stored_array(&header);
                 Ok(array_kind(&array))
             }
         },

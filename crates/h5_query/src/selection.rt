@@ -36,11 +36,11 @@ pub fn runs_at<'a>(
 /// # Errors
 ///
 /// Those of [`crate::array_at`], then those of [`slab_within`].
-pub fn selected_at<'a>(
+pub fn selected_at<'a, 'b>(
     opened: &'a Opened,
     path: &[u8],
-    hyper: &HyperRef<'_>,
-) -> Result<(u32, StoredArray<'a>, Slab), EditFault>
+    hyper: &HyperRef<'b>,
+) -> Result<(u32, StoredArray<'a>, Slab<'b>), EditFault>
     ensures { let tree = opened.now.tree in
         MatchResult result (IsSelectedAt tree path.now hyper.now) (λ e.
         first_holding (selection_rules tree path.now hyper.now) ≡ Some e) }
@@ -69,7 +69,7 @@ pub fn standing_cells<'a>(array: &StoredArray<'a>, hyper: &HyperRef<'_>) -> Opti
 /// - `StrideZero`: a stride is 0.
 /// - `BlocksOverlap`: a stride is below its block, and there is more than one block.
 /// - `OutOfExtent`: a selected cell is outside the sizes.
-pub fn slab_within(dims: &Dims, hyper: &HyperRef<'_>) -> Result<Slab, EditFault>
+pub fn slab_within<'a>(dims: &Dims, hyper: &HyperRef<'a>) -> Result<Slab<'a>, EditFault>
     ensures rules { let rules = hyper_rules dims.now hyper.now in
         MatchResult result (λ slab. (first_holding rules ≡ None) × (slab ≡ axes_of hyper.now)) (λ e.
         first_holding rules ≡ Some e) }

@@ -9,6 +9,7 @@ use Rattle.std.specs.Cmp.{nat_cmp_total, unsigned_tied}
 use Rattle.std.specs.Cmp.Lexicographic.{slice_cmp}
 use Rattle.std.specs.declared.alloc.Global.{Global}
 use Rattle.std.specs.FinMap.{FinMap, get, entries, empty, len-empty, entries-insert, get-insert, get-empty, put}
+use Rattle.h5_model.specs.Format.MessageTypes.{symbol_table_kind}
 use Rattle.h5_model.specs.Format.Empty.{empty_file, new_k, root_table, root_tree, root_object}
 use Rattle.h5_model.specs.Format.Bodies.{pair_bytes}
 use Rattle.h5_model.specs.Format.Plain.{superblock_bytes, header_bytes}
@@ -169,13 +170,13 @@ none_written : (counts : ℕ → ℕ) → written_links new_k root_tree (table_o
 none_written counts = ap (map (written_link new_k root_tree (table_of new_k counts root_order))) (entries-empty {X = Link} (slice_cmp nat_cmp))
 
 parts : (stored : StoredIn) → plain_image new_k stored root_tree root_order
-    ≡ superblock_bytes new_k 800 96 136 680 ++ ((header_bytes 1 ((17, pair_bytes 136 680) ∷ []) ++ links_bytes 4 16 136 []) ++ [])
+    ≡ superblock_bytes new_k 800 96 136 680 ++ ((header_bytes 1 ((symbol_table_kind, pair_bytes 136 680) ∷ []) ++ links_bytes 4 16 136 []) ++ [])
 unfolding plain_image
 parts stored = λ i. superblock_bytes new_k (ends (counts_of stored) i) 96 (tree_at i) (heap_at i)
-    ++ ((header_bytes 1 ((17, pair_bytes (tree_behind (counts_of stored) i) (heap_behind (counts_of stored) i)) ∷ no_others i)
+    ++ ((header_bytes 1 ((symbol_table_kind, pair_bytes (tree_behind (counts_of stored) i) (heap_behind (counts_of stored) i)) ∷ no_others i)
     ++ links_bytes 4 16 (tree_behind (counts_of stored) i) (none_written (counts_of stored) i)) ++ [])
 
-same_bytes : superblock_bytes new_k 800 96 136 680 ++ ((header_bytes 1 ((17, pair_bytes 136 680) ∷ []) ++ links_bytes 4 16 136 []) ++ []) ≡ empty_file
+same_bytes : superblock_bytes new_k 800 96 136 680 ++ ((header_bytes 1 ((symbol_table_kind, pair_bytes 136 680) ∷ []) ++ links_bytes 4 16 136 []) ++ []) ≡ empty_file
 unfolding links_bytes tree_bytes heap_bytes empty_file
 same_bytes = refl
 

@@ -8,6 +8,7 @@ use Rattle.std.specs.Prelude.{slice_get, slice_index, unwrap_or}
 use Rattle.std.specs.FinMap.{FinMap, get, entries, len, len-entries}
 use Rattle.std.specs.List.{AllZip, flat_map}
 use Rattle.std.specs.Option.{option_map_or, option_flatten}
+use Rattle.h5_model.specs.Format.MessageTypes.{symbol_table_kind}
 use Rattle.h5_model.specs.Format.Bodies.{pair_bytes}
 use Rattle.h5_model.specs.Format.Plain.{header_bytes, superblock_bytes}
 use Rattle.h5_model.specs.Format.PlainLength.{nodes_over, rows_of}
@@ -163,12 +164,12 @@ module _ (k : KValues) (objects : List (Option NewObject)) (tree : Tree) (held :
       → laid_object layout h count (record { object = o; chunks = stored n }) ≡ object_bytes k stored tree table (n, o)
   object_here n o h count place links (Group g) e =
       let laid : object_bytes k stored tree table (n, o)
-      ≡ header_bytes 1 ((17, pair_bytes (content_place o (header_in table n)) (group_heap_place k o g (header_in table n))) ∷ others_of o)
+      ≡ header_bytes 1 ((symbol_table_kind, pair_bytes (content_place o (header_in table n)) (group_heap_place k o g (header_in table n))) ∷ others_of o)
       ++ links_bytes k.leaf k.internal (content_place o (header_in table n)) (written_links k tree table g) = rw e refl in
       let written : map (written_at layout) (entries g) ≡ written_links k tree table g
       = map_same (written_at layout) (written_link k tree table) (entries g) link_here in
       ap (content_at layout h count (record { object = o; chunks = stored n })) e
-      ∙ (λ i. header_bytes 1 ((17, pair_bytes (content_place o (place i)) (group_heap_place k o g (place i))) ∷ others_of o)
+      ∙ (λ i. header_bytes 1 ((symbol_table_kind, pair_bytes (content_place o (place i)) (group_heap_place k o g (place i))) ∷ others_of o)
       ++ links_bytes k.leaf k.internal (content_place o (place i)) (written i)) ∙ sym laid
   object_here n o h count place links (Array d) e =
       let laid : object_bytes k stored tree table (n, o)

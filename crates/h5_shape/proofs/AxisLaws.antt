@@ -15,17 +15,16 @@ use Rattle.h5_shape.proofs.LoopLaws.{same_flat, flat_flat}
 pub tail_is : {X : Type 0} (x : X) (xs : List X) → take (length (x ∷ xs) - 1) xs ≡ xs
 tail_is x xs = let less : length (x ∷ xs) - 1 ≡ length xs = omega arith in rw less (take-length xs)
 
-pub select_step : (sizes : List ℕ) (slab : Slab) (d0 : ℕ) (a0 : Axis) → 1 ≤ length sizes → 1 ≤ length slab → (f g h : ℕ → List ℕ) (c : ℕ)
+pub select_step : (sizes : List ℕ) (a : Axis) (rest : Slab) (d0 : ℕ) → 1 ≤ length sizes → (f g h : ℕ → List ℕ) (c : ℕ)
     → c ≡ cells (take (length sizes - 1) (drop 1 sizes))
-    → ((p : ℕ) → f p ≡ selected_from (take (length sizes - 1) (drop 1 sizes)) (take (length slab - 1) (drop 1 slab)) p)
-    → ((p : ℕ) → g p ≡ flat_map f (spaced_places (get_or slab 0 a0).block c p))
-    → ((p : ℕ) → h p ≡ flat_map g (spaced_places (get_or slab 0 a0).count ((get_or slab 0 a0).stride * c) p))
-    → (p : ℕ) → h p ≡ selected_from sizes slab p
-select_step [] slab d0 a0 long wide f g h c below first second third p = absurd (omega arith)
-select_step (d ∷ ds) [] d0 a0 long wide f g h c below first second third p = absurd (omega arith)
-select_step (d ∷ ds) (a ∷ rest) d0 a0 long wide f g h c below first second third p =
+    → ((p : ℕ) → f p ≡ selected_from (take (length sizes - 1) (drop 1 sizes)) rest p)
+    → ((p : ℕ) → g p ≡ flat_map f (spaced_places a.block c p))
+    → ((p : ℕ) → h p ≡ flat_map g (spaced_places a.count (a.stride * c) p))
+    → (p : ℕ) → h p ≡ selected_from sizes (a ∷ rest) p
+select_step [] a rest d0 long f g h c below first second third p = absurd (omega arith)
+select_step (d ∷ ds) a rest d0 long f g h c below first second third p =
     let under : c ≡ cells ds = rw (tail_is d ds) at below in
-    let inner : (q : ℕ) → f q ≡ selected_from ds rest q = rw (tail_is d ds, tail_is a rest) at first in
+    let inner : (q : ℕ) → f q ≡ selected_from ds rest q = rw (tail_is d ds) at first in
     let outer = spaced_places a.count (a.stride * c) p in
     third p ∙ same_flat g (λ q. flat_map f (spaced_places a.block c q)) second outer
     ∙ sym (flat_flat f (spaced_places a.block c) outer)
@@ -49,12 +48,11 @@ axis_room a d c fits more =
     let whole : suc (a.count - 1) ≡ a.count = omega arith in
     rw whole at (steps_room (a.count - 1) a.stride d c (omega arith) (omega arith))
 
-pub step_room : (sizes : List ℕ) (slab : Slab) (a0 : Axis) → 1 ≤ length sizes → 1 ≤ length slab → fits_all sizes slab ≡ true
-    → 1 < (get_or slab 0 a0).count → cells sizes ≤ 2 ^ 40 → (c : ℕ) → c ≡ cells (take (length sizes - 1) (drop 1 sizes))
-    → (get_or slab 0 a0).count * ((get_or slab 0 a0).stride * c) < 2 ^ 64
-step_room [] slab a0 long wide fits more small c below = absurd (omega arith)
-step_room (d ∷ ds) [] a0 long wide fits more small c below = absurd (omega arith)
-step_room (d ∷ ds) (a ∷ rest) a0 long wide fits more small c below =
+pub step_room : (sizes : List ℕ) (a : Axis) (rest : Slab) → 1 ≤ length sizes → fits_all sizes (a ∷ rest) ≡ true
+    → 1 < a.count → cells sizes ≤ 2 ^ 40 → (c : ℕ) → c ≡ cells (take (length sizes - 1) (drop 1 sizes))
+    → a.count * (a.stride * c) < 2 ^ 64
+step_room [] a rest long fits more small c below = absurd (omega arith)
+step_room (d ∷ ds) a rest long fits more small c below =
     let under : c ≡ cells ds = rw (tail_is d ds) at below in
     let split : (fits_along d a ≡ true) × (fits_all ds rest ≡ true) = and_parts (fits_along d a) (fits_all ds rest) fits in
     let room : a.count * (a.stride * cells ds) ≤ 2 * (d * cells ds) = axis_room a d (cells ds) split.0 more in
@@ -77,21 +75,19 @@ origin_below (d ∷ ds) (a ∷ rest) same fits some =
           let block : 0 < a.block = grind (arith, nat_tests) in
           omega arith
 
-pub origin_room : (sizes : List ℕ) (slab : Slab) (a0 : Axis) → 1 ≤ length sizes → 1 ≤ length slab → length sizes ≡ length slab → fits_all sizes slab ≡ true
-    → selects_none slab ≡ false → (c o : ℕ) → c ≡ cells (take (length sizes - 1) (drop 1 sizes))
-    → o ≡ first_place (take (length sizes - 1) (drop 1 sizes)) (take (length slab - 1) (drop 1 slab))
-    → o + (get_or slab 0 a0).start * c < cells sizes
-origin_room [] slab a0 long wide same fits some c o below start = absurd (omega arith)
-origin_room (d ∷ ds) [] a0 long wide same fits some c o below start = absurd (omega arith)
-origin_room (d ∷ ds) (a ∷ rest) a0 long wide same fits some c o below start =
+pub origin_room : (sizes : List ℕ) (a : Axis) (rest : Slab) → 1 ≤ length sizes → length sizes ≡ length (a ∷ rest) → fits_all sizes (a ∷ rest) ≡ true
+    → selects_none (a ∷ rest) ≡ false → (c o : ℕ) → c ≡ cells (take (length sizes - 1) (drop 1 sizes))
+    → o ≡ first_place (take (length sizes - 1) (drop 1 sizes)) rest
+    → o + a.start * c < cells sizes
+origin_room [] a rest long same fits some c o below start = absurd (omega arith)
+origin_room (d ∷ ds) a rest long same fits some c o below start =
     let under : c ≡ cells ds = rw (tail_is d ds) at below in
-    let from : o ≡ first_place ds rest = rw (tail_is d ds, tail_is a rest) at start in
+    let from : o ≡ first_place ds rest = rw (tail_is d ds) at start in
     let whole : a.start * cells ds + first_place ds rest < d * cells ds = origin_below (d ∷ ds) (a ∷ rest) same fits some in
     rw (under, from) (omega arith)
 
-pub some_count : (slab : Slab) (a0 : Axis) → 1 ≤ length slab → selects_none slab ≡ false → 0 < (get_or slab 0 a0).count
-some_count [] a0 wide some = absurd (omega arith)
-some_count (a ∷ rest) a0 wide some =
+pub some_count : (a : Axis) (rest : Slab) → selects_none (a ∷ rest) ≡ false → 0 < a.count
+some_count a rest some =
     let parts : (has_no_cell a ≡ false) × (selects_none rest ≡ false) = or_parts (has_no_cell a) (selects_none rest) some in
     grind (arith, nat_tests, parts.0)
 
@@ -111,12 +107,11 @@ axis_cells a d fits apart some =
     ]
 
 -- so do as many things as there are cells in the dimensions below, or fewer, once for each cell of a block, and once for each block
-pub depth_room : (sizes : List ℕ) (slab : Slab) (a0 : Axis) → 1 ≤ length sizes → 1 ≤ length slab → fits_all sizes slab ≡ true → selects_none slab ≡ false
-    → list_any overlaps slab ≡ false → (c n m : ℕ) → c ≡ cells (take (length sizes - 1) (drop 1 sizes)) → n ≤ c → m ≤ n * (get_or slab 0 a0).block
-    → (m ≤ cells sizes) × (m * (get_or slab 0 a0).count ≤ cells sizes)
-depth_room [] slab a0 long wide fits some apart c n m below low few = absurd (omega arith)
-depth_room (d ∷ ds) [] a0 long wide fits some apart c n m below low few = absurd (omega arith)
-depth_room (d ∷ ds) (a ∷ rest) a0 long wide fits some apart c n m below low few =
+pub depth_room : (sizes : List ℕ) (a : Axis) (rest : Slab) → 1 ≤ length sizes → fits_all sizes (a ∷ rest) ≡ true → selects_none (a ∷ rest) ≡ false
+    → list_any overlaps (a ∷ rest) ≡ false → (c n m : ℕ) → c ≡ cells (take (length sizes - 1) (drop 1 sizes)) → n ≤ c → m ≤ n * a.block
+    → (m ≤ cells sizes) × (m * a.count ≤ cells sizes)
+depth_room [] a rest long fits some apart c n m below low few = absurd (omega arith)
+depth_room (d ∷ ds) a rest long fits some apart c n m below low few =
     let under : c ≡ cells ds = rw (tail_is d ds) at below in
     let split : (fits_along d a ≡ true) × (fits_all ds rest ≡ true) = and_parts (fits_along d a) (fits_all ds rest) fits in
     let parts : (has_no_cell a ≡ false) × (selects_none rest ≡ false) = or_parts (has_no_cell a) (selects_none rest) some in

@@ -1,6 +1,6 @@
 -- One more dimension around the selected cells of the inner ones.
 use Rattle.std.proofs.Common.{◌≡◌, ℕ, zero, suc, ◌+◌, ◌-◌, ◌*◌, ◌<◌, ◌≤◌, ◌⊎◌, inl, inr, List, [], ◌∷◌, ◌++◌, length, drop, get_or, refl, sym, ap, ◌∙◌, arith, true, false, not, ◌||◌}
-use Rattle.std.proofs.lemmas.List.{drop_all}
+use Rattle.std.proofs.lemmas.List.{drop_all, drop_more}
 use Rattle.std.proofs.Math.Nat.{mul-le-mul_right}
 use Rattle.std.specs.List.{flat_map, list_any}
 use Rattle.std.proofs.lemmas.Bool.{not-true, and_parts, or_parts}
@@ -13,20 +13,12 @@ use Rattle.h5_shape.specs.InnerRuns.{HasNoInnerRun, IsInnerRun, IsSelecting, fol
 use Rattle.h5_shape.proofs.JoinLaws.{IsFree, free_axis, follow_cases, numbers_from, joined, run_front, unjoined}
 
 -- the axis of a dimension, and those of the dimensions behind it
-pub axis_first : (k : ℕ) (s t n b : List ℕ) → k < length s → k < length t → k < length n → k < length b
-    → drop k (axes_from s t n b) ≡ record { start = get_or s k 0; stride = get_or t k 0; count = get_or n k 0; block = get_or b k 0 } ∷ drop (k + 1) (axes_from s t n b)
-axis_first k [] t n b hs ht hn hb = absurd (omega arith)
-axis_first k (x ∷ s) [] n b hs ht hn hb = absurd (omega arith)
-axis_first k (x ∷ s) (y ∷ t) [] b hs ht hn hb = absurd (omega arith)
-axis_first k (x ∷ s) (y ∷ t) (z ∷ n) [] hs ht hn hb = absurd (omega arith)
-axis_first zero (x ∷ s) (y ∷ t) (z ∷ n) (w ∷ b) hs ht hn hb = refl
-axis_first (suc k) (x ∷ s) (y ∷ t) (z ∷ n) (w ∷ b) hs ht hn hb =
-    let more : suc k + 1 ≡ suc (k + 1) = omega arith in
-    rw more (axis_first k s t n b (omega arith) (omega arith) (omega arith) (omega arith))
+pub axis_here : (slab : Slab) (k : ℕ) (a : Axis) → k < length slab → a ≡ get_or slab k a → drop k slab ≡ a ∷ drop (k + 1) slab
+axis_here slab k a there is = drop_more slab k a there ∙ ap (λ (b : Axis). b ∷ drop (k + 1) slab) (sym is)
 
 -- ---- what the axes keep to
 
-split_axis : (d : ℕ) (ds : List ℕ) (a : Axis) (rest : Slab) → IsSelecting (d ∷ ds) (a ∷ rest) → (selects_along d a ≡ true) × IsSelecting ds rest
+pub split_axis : (d : ℕ) (ds : List ℕ) (a : Axis) (rest : Slab) → IsSelecting (d ∷ ds) (a ∷ rest) → (selects_along d a ≡ true) × IsSelecting ds rest
 split_axis d ds a rest h =
     let strides : (has_no_stride a ≡ false) × (list_any has_no_stride rest ≡ false) = or_parts (has_no_stride a) (list_any has_no_stride rest) h.strides in
     let apart : (overlaps a ≡ false) × (list_any overlaps rest ≡ false) = or_parts (overlaps a) (list_any overlaps rest) h.apart in

@@ -1,6 +1,7 @@
 pub mod Products
 pub mod LoopLaws
 pub mod SelectedPlaces
+pub mod AxesLaws
 pub mod AxisLaws
 pub mod RunLaws
 pub mod JoinLaws
@@ -20,7 +21,6 @@ pub mod PartExamples
 pub mod AxisNumbers
 pub mod InBoxLaws
 pub mod InBoxCells
-pub mod Members
 pub mod RisingBoxes
 pub mod GridBoxes
 pub mod MetTests

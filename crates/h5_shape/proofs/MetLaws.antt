@@ -1,22 +1,23 @@
 -- The boxes that an edit and a view both meet, from the parts of one selection.
 use Rattle.std.proofs.Common.{◌≡◌, ℕ, zero, suc, ◌*◌, ◌<◌, ◌≤◌, inl, inr, List, [], ◌∷◌, length, get_or, map, refl, sym, ap, ap₂, ◌∙◌, subst, arith, Bool, true, false, cond, ◌&&◌}
-use Rattle.std.specs.Prelude.{◌==◌, nat_lt}
+use Rattle.std.specs.Prelude.{◌==◌}
 use Rattle.std.proofs.lemmas.Bool.Decides.{nat_tests}
-use Rattle.std.specs.List.{filter, list_any, range_with_len}
+use Rattle.std.specs.List.{AllByRecursion, filter, list_any, range_with_len}
 use Rattle.std.proofs.lemmas.Bool.{or_parts, or_cases, and_parts}
 use Rattle.h5_model.specs.Tree.Grid.{boxes_of, in_box, some_in_box}
 use Rattle.h5_model.specs.Tree.Places.{IsInside, cells, index_of, is_inside}
 use Rattle.h5_model.specs.Views.Selection.{Slab, Selected, Within, is_selected}
 use Rattle.h5_model.specs.Views.Shown.{met_boxes}
+use Rattle.h5_model.proofs.Members.{In, all_in, contains_in, filter_in, from_map, in_contains, in_filter, in_map}
+use Rattle.h5_model.proofs.PlaceLaws.{is_inside_from}
 use Rattle.h5_model.proofs.SelectionLaws.{from_is_selected, to_is_selected}
-use Rattle.h5_shape.proofs.Members.{In, all_in, contains_in, from_map, in_contains, in_map}
 use Rattle.h5_shape.specs.declared.parts.Span.{Span}
 use Rattle.h5_shape.specs.MetFirsts.{AreRanked, first_of_box, is_lost_at, is_reduced, is_written_at, loses_box, meets_box, met_firsts, reaches_past}
 use Rattle.h5_shape.specs.PartCells.{AreParted, HoldsCell, part_corner, selection_shape}
 use Rattle.h5_shape.proofs.CornerLaws.{corner-met}
 use Rattle.h5_shape.proofs.GridBoxes.{IsHeldIn, box_among, box_long, boxes_rise, held_some, product, some_held}
 use Rattle.h5_shape.proofs.MetTests.{IsFirst, held_loses, held_meets, loses_held, meets_held, none_loses}
-use Rattle.h5_shape.proofs.RisingBoxes.{Rises, filter_in, filter_rises, in_filter, pairs_rise, same_members}
+use Rattle.h5_shape.proofs.RisingBoxes.{Rises, filter_rises, pairs_rise, same_members}
 
 -- ---- the boxes of the definition
 
@@ -81,15 +82,6 @@ selected_long [] (x ∷ xs) h = absurd h
 selected_long (a ∷ rest) [] h = absurd h
 selected_long (a ∷ rest) (x ∷ xs) h = ap suc (selected_long rest xs h.1)
 
-inside_test : (sizes index : List ℕ) → IsInside sizes index → is_inside sizes index ≡ true
-inside_test [] [] h = refl
-inside_test [] (x ∷ xs) h = absurd h
-inside_test (d ∷ ds) [] h = absurd h
-inside_test (d ∷ ds) (x ∷ xs) h =
-    let low : x < d = h.0 in
-    let test : nat_lt x d ≡ true = grind (arith, nat_tests, low) in
-    ap₂ (λ (p q : Bool). p && q) test (inside_test ds xs h.1)
-
 module _ (slab : Slab) (box : List ℕ) (parts : List (List Span)) (rank : length box ≡ length slab) (parted : AreParted slab box parts) where
   pub corners_rise : Rises (map part_corner parts)
   corners_rise = pairs_rise (map part_corner parts) parted.order
@@ -122,7 +114,7 @@ written_met sizes box written view parts wide rank same within some parted =
         index = held.index;
         long = held.long;
         corner = held.corner;
-        passes = ap₂ (λ (p q : Bool). p && q) (inside_test sizes held.index (within held.index (from_is_selected written held.index held.passes))) held.passes;
+        passes = ap₂ (λ (p q : Bool). p && q) (is_inside_from sizes held.index (within held.index (from_is_selected written held.index held.passes))) held.passes;
       },
       meets_held view box first (rank ∙ sym same) some (is_first box first (is_selected written) held) there.1,
     ))
@@ -199,9 +191,14 @@ long_position (a ∷ rest) [] h = absurd h
 long_position (a ∷ rest) (t ∷ ts) h = ap suc (long_position rest ts h.1)
 
 -- a span for each dimension
-pub parts_long : (slab : Slab) (box : List ℕ) (parts : List (List Span)) → length box ≡ length slab → AreParted slab box parts → AreRanked box parts
-parts_long slab box parts rank h = all_in (λ (part : List Span). length part ≡ length box) parts (λ part at.
+pub parts_ranked : (slab : Slab) (box : List ℕ) (parts : List (List Span)) → AreParted slab box parts
+    → AllByRecursion (λ (part : List Span). length part ≡ length slab) parts
+parts_ranked slab box parts h = all_in (λ (part : List Span). length part ≡ length slab) parts (λ part at.
     let there = contains_in part parts at in
     let some = h.some there.0 part there.1 in
     let inside = (h.cells there.0 part there.1 some.0 some.1).0 in
-    ap (λ (p : List Span). length p) (sym there.2) ∙ long_part _ some.0 some.1 ∙ long_position slab some.0 inside ∙ sym rank)
+    ap (λ (p : List Span). length p) (sym there.2) ∙ long_part _ some.0 some.1 ∙ long_position slab some.0 inside)
+
+pub parts_long : (slab : Slab) (box : List ℕ) (parts : List (List Span)) → length box ≡ length slab → AreParted slab box parts → AreRanked box parts
+parts_long slab box parts rank h =
+    subst (λ (n : ℕ). AllByRecursion (λ (part : List Span). length part ≡ n) parts) (sym rank) (parts_ranked slab box parts h)

@@ -1,9 +1,9 @@
 -- Lists of indexes that rise in row-major order: two with the same members are one.
-use Rattle.std.proofs.Common.{◌≡◌, ℕ, suc, inl, inr, List, [], ◌∷◌, refl, sym, ap, ap₂, ◌∙◌, subst, arith, Bool, true, false, cond}
+use Rattle.std.proofs.Common.{◌≡◌, ℕ, suc, inl, inr, List, [], ◌∷◌, refl, sym, ap₂, ◌∙◌, subst, arith, Bool, true, false, cond}
 use Rattle.std.specs.List.{AllPairs, filter}
 use Rattle.h5_model.specs.Format.Links.{Before}
+use Rattle.h5_model.proofs.Members.{In, contains_in, filter_in}
 use Rattle.h5_model.proofs.TextOrder.{after_trans, before_itself, before_le}
-use Rattle.h5_shape.proofs.Members.{In, contains_in}
 
 -- each is before all behind it
 abbrev pub Rises : List (List ℕ) → Type 0
@@ -11,25 +11,6 @@ Rises [] = Unit {0}
 Rises (x ∷ xs) = ((y : List ℕ) → In y xs → Before x y) × Rises xs
 
 -- ---- some of them
-
-pub filter_in : {X : Type 0} (test : X → Bool) (x : X) (xs : List X) → In x (filter test xs) → In x xs × (test x ≡ true)
-filter_in {X} test x [] at = absurd at
-filter_in {X} test x (y ∷ ys) at = by_test (filter_in test x ys) (test y) refl at where
-  by_test : (In x (filter test ys) → In x ys × (test x ≡ true)) → (b : Bool) → test y ≡ b → In x (cond b (y ∷ filter test ys) (filter test ys))
-      → In x (y ∷ ys) × (test x ≡ true)
-  by_test below true is (inl e) = (inl e, ap test (sym e) ∙ is)
-  by_test below true is (inr there) = let rest = below there in (inr rest.0, rest.1)
-  by_test below false is there = let rest = below there in (inr rest.0, rest.1)
-
-pub in_filter : {X : Type 0} (test : X → Bool) (x : X) (xs : List X) → In x xs → test x ≡ true → In x (filter test xs)
-in_filter {X} test x [] at passes = absurd at
-in_filter {X} test x (y ∷ ys) (inl e) passes =
-    let own : test y ≡ true = ap test e ∙ passes in
-    subst (λ b. In x (cond b (y ∷ filter test ys) (filter test ys))) (sym own) (inl e)
-in_filter {X} test x (y ∷ ys) (inr there) passes = by_test (in_filter test x ys there passes) (test y) where
-  by_test : In x (filter test ys) → (b : Bool) → In x (cond b (y ∷ filter test ys) (filter test ys))
-  by_test below true = inr below
-  by_test below false = below
 
 pub filter_rises : (test : List ℕ → Bool) (xs : List (List ℕ)) → Rises xs → Rises (filter test xs)
 filter_rises test [] h = tt

@@ -12,18 +12,11 @@ use Rattle.std.specs.List.{flat_map, filter, range_with_len, list_any}
 use Rattle.h5_model.specs.Tree.Places.{cells, index_of}
 use Rattle.h5_model.specs.declared.Axis.{Axis}
 use Rattle.h5_model.specs.Views.Selection.{Slab, in_block, is_selected_along, is_selected, selection_of, fits_along, fits_all, overlaps}
-use Rattle.h5_model.proofs.SelectionLaws.{from_some_below, to_some_below}
+use Rattle.h5_model.proofs.SelectionLaws.{from_some_below, range-append, to_some_below}
 use Rattle.h5_shape.specs.Loops.{spaced_places, selected_from, first_place}
 use Rattle.h5_shape.proofs.LoopLaws.{same_flat}
 
 -- ---- ranges
-
-range-append : (a m n : ℕ) → range_with_len a (m + n) ≡ range_with_len a m ++ range_with_len (a + m) n
-range-append a zero n = let first : zero + n ≡ n = omega arith in let second : a + zero ≡ a = omega arith in rw (first, second) refl
-range-append a (suc m) n =
-    let sum : suc m + n ≡ suc (m + n) = omega arith in
-    let shift : a + suc m ≡ (a + 1) + m = omega arith in
-    rw (sum, shift) (ap (λ (xs : List ℕ). a ∷ xs) (range-append (a + 1) m n))
 
 pub filter_none : (p : ℕ → Bool) (a n : ℕ) → ((x : ℕ) → a ≤ x → x < a + n → p x ≡ false) → filter p (range_with_len a n) ≡ []
 filter_none p a zero none = refl

@@ -1,10 +1,10 @@
 -- The runs of a selection.
-use Rattle.std.proofs.Common.{◌≡◌, ℕ, zero, suc, ◌+◌, ◌≤◌, List, [], ◌∷◌, length, map, take, refl, sym, ap, ◌∙◌, arith, Bool, true, false, cond, ◌||◌}
+use Rattle.std.proofs.Common.{◌≡◌, ℕ, zero, suc, ◌+◌, ◌≤◌, List, [], ◌∷◌, length, map, take, sym, ap, ◌∙◌, arith, Bool, true, false, cond, ◌||◌}
 use Rattle.std.specs.List.{filter, range_with_len, list_any}
 use Rattle.h5_model.specs.Tree.Places.{cells, index_of}
 use Rattle.h5_model.specs.Views.Selection.{Slab, Within, is_selected, selection_of, fits_all, selects_none, overlaps, is_within}
-use Rattle.h5_model.proofs.SelectionLaws.{from_is_selected}
-use Rattle.h5_model.proofs.WithinLaws.{no_cell, to_is_within}
+use Rattle.h5_model.proofs.CountLaws.{none_selected}
+use Rattle.h5_model.proofs.WithinLaws.{to_is_within}
 use Rattle.h5_shape.specs.declared.loops.LoopNest.{LoopNest}
 use Rattle.h5_shape.specs.Loops.{spaced_places, nest_places, AreAtStart, ArePlacesBelow, nest_cells, selected_from, first_place}
 use Rattle.h5_shape.specs.Left.{cells_at, left_of}
@@ -42,12 +42,6 @@ below_filter p bound a (suc n) room = elim (p a) as (λ b. ArePlacesBelow bound 
 pub below_selection : (bound : ℕ) (sizes : List ℕ) (slab : Slab) → cells sizes ≤ bound → ArePlacesBelow bound (selection_of sizes slab)
 unfolding selection_of
 below_selection bound sizes slab room = below_filter (λ place. is_selected slab (index_of sizes place)) bound 0 (cells sizes) (omega arith)
-
-none_selected : (slab : Slab) (index : List ℕ) → selects_none slab ≡ true → is_selected slab index ≡ false
-none_selected slab index h = elim (is_selected slab index) as (λ b. is_selected slab index ≡ b → b ≡ false) [
-  | false ↦ λ _. refl
-  | true ↦ λ yes. let some : selects_none slab ≡ false = no_cell slab index (from_is_selected slab index yes) in absurd (cc)
-] refl
 
 pub selection_none : (sizes : List ℕ) (slab : Slab) → selects_none slab ≡ true → selection_of sizes slab ≡ []
 unfolding selection_of

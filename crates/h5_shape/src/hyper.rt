@@ -50,6 +50,13 @@ impl<'a> HyperRef<'a> {
         }
     }
 
+    /// The same lists, lent once more.
+    pub fn lend(&self) -> HyperRef<'a>
+        ensures { result ≡ self.now }
+    {
+        HyperRef::new(self.start, self.stride, self.count, self.block)
+    }
+
     /// The first index that is selected in each dimension.
     pub fn start(&self) -> &'a [u64]
         ensures { result.now ≡ self.now.start }

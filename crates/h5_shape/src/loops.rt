@@ -5,7 +5,7 @@ ghost use Rattle.h5_model.specs.Tree.Places.{cells};
 ghost use Rattle.h5_model.specs.Views.Selection.{fits_all, overlaps, selects_none};
 ghost use Rattle.h5_shape.specs.Loops.{ahead, nest_ahead, GoesOn, IsRepeated, IsStanding, AreAtStart, ArePlacesBelow, nest_cells, selected_from, first_place};
 
-use h5_model::Axis;
+use crate::axes::Axes;
 
 /// The largest number of loops. Each has two places or more, and all together have no more than the array has cells.
 const MAX_LOOPS: usize = 40;
@@ -63,7 +63,7 @@ impl LoopNest {
     }
 
     /// Goes from one cell over to the cells of a selection. Returns how many cells the sizes have.
-    pub(crate) fn select(&mut self, sizes: &[u64], axes: &[Axis]) -> u64
+    pub(crate) fn select(&mut self, sizes: &[u64], axes: &Axes<'_>) -> u64
         requires rank { length sizes.now ≡ length axes.now }
         requires fits { fits_all sizes.now axes.now ≡ true }
         requires some { selects_none axes.now ≡ false }
@@ -82,10 +82,10 @@ impl LoopNest {
         let [size, sizes @ ..] = sizes else {
             return 1;
         };
-        let [axis, axes @ ..] = axes else {
+        let Some(axis) = axes.first() else {
             return 1;
         };
-        let below = self.select(sizes, axes);
+        let below = self.select(sizes, &axes.rest());
         self.repeat(axis.block, below);
         if axis.count > 1 {
             self.repeat(axis.count, axis.stride * below);

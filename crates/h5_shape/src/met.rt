@@ -7,6 +7,7 @@ ghost use Rattle.h5_shape.specs.MetFirsts.{AreRanked, AreTestedOf, HasCorner, Ha
 ghost use Rattle.h5_shape.specs.PartCells.{part_corner};
 ghost use Rattle.h5_shape.specs.declared.parts.Span.{Span as SpanOfPart};
 
+use crate::axes::Axes;
 use crate::dims::{Dims, MAX_RANK, is_inside};
 use crate::parts::{ChunkParts, Span};
 use crate::slab::Slab;
@@ -18,7 +19,7 @@ use std::marker::Model;
 #[derive(Clone, Copy)]
 enum MetTest<'a> {
     /// An index that these axes select.
-    Selects(&'a [Axis]),
+    Selects(&'a Axes<'a>),
     /// An index inside the sizes that is not inside those kept.
     Loses { sizes: &'a [u64], kept: &'a [u64] },
 }
@@ -48,7 +49,7 @@ impl<'a> Model for MetBoxes<'a> {
 /// says `false`, `written_boxes` tells which boxes are met, if any.
 ///
 /// That there are as many dimensions of each is the caller's condition.
-pub fn lie_apart(grid: &Dims, written: &Slab, view: &Slab) -> bool
+pub fn lie_apart(grid: &Dims, written: &Slab<'_>, view: &Slab<'_>) -> bool
     requires grid { length grid.now ≡ length written.now }
     ensures { IsTrue result → (sizes : List ℕ) → length sizes ≡ length written.now
         → met_firsts sizes grid.now (is_written_at sizes written.now) view.now ≡ [] }
@@ -62,7 +63,11 @@ pub fn lie_apart(grid: &Dims, written: &Slab, view: &Slab) -> bool
 ///
 /// Each box that the write meets is looked at once, in time by the number of dimensions. That there are as many
 /// dimensions of each, and that no selected index of the write passes `u64::MAX`, are the caller's conditions.
-pub fn written_boxes<'a>(grid: &'a Dims, written: &'a Slab, view: &'a Slab) -> Option<MetBoxes<'a>>
+pub fn written_boxes<'a>(
+    grid: &'a Dims,
+    written: &'a Slab<'a>,
+    view: &'a Slab<'a>,
+) -> Option<MetBoxes<'a>>
     requires grid { length grid.now ≡ length written.now }
     requires view { length view.now ≡ length written.now }
     requires top { Within (replicate (length written.now) (2 ^ 64)) written.now }
@@ -87,7 +92,7 @@ pub fn lost_boxes<'a>(
     sizes: &'a Dims,
     kept: &'a Dims,
     grid: &'a Dims,
-    view: &'a Slab,
+    view: &'a Slab<'a>,
 ) -> Option<MetBoxes<'a>>
     requires sizes { length sizes.now ≡ length view.now }
     requires kept { length kept.now ≡ length view.now }
@@ -111,7 +116,7 @@ pub fn lost_boxes<'a>(
 }
 
 /// The boxes of these sizes, none of them 0, that hold a selected index and pass a test.
-fn tested_boxes<'a>(slab: &'a Slab, grid: &'a [u64], test: MetTest<'a>) -> MetBoxes<'a>
+fn tested_boxes<'a>(slab: &'a Slab<'a>, grid: &'a [u64], test: MetTest<'a>) -> MetBoxes<'a>
     requires few { length grid.now ≤ 32 }
     requires sized { list_any (λ d. d == 0) grid.now ≡ false }
     requires rank { length grid.now ≡ length slab.now }
@@ -164,20 +169,20 @@ fn is_reduced(sizes: &[u64], kept: &[u64]) -> bool
 }
 
 /// Whether in some dimension one selection ends before the box in which the other one begins.
-fn lie_beside(grid: &[u64], one: &[Axis], other: &[Axis]) -> bool
+fn lie_beside(grid: &[u64], one: &Axes<'_>, other: &Axes<'_>) -> bool
     requires { list_any (λ d. d == 0) grid.now ≡ false }
     ensures { IsTrue result → LieBeside grid.now one.now other.now }
 {
     let [size, grid @ ..] = grid else {
         return false;
     };
-    let [axis, one @ ..] = one else {
+    let Some(axis) = one.first() else {
         return false;
     };
-    let [beside, other @ ..] = other else {
+    let Some(beside) = other.first() else {
         return false;
     };
-    are_boxes_apart(*size, axis, beside) || lie_beside(grid, one, other)
+    are_boxes_apart(*size, &axis, &beside) || lie_beside(grid, &one.rest(), &other.rest())
 }
 
 /// Whether the axis that starts first ends before the box in which the other one starts.
@@ -260,11 +265,11 @@ fn passes(test: MetTest<'_>, grid: &[u64], first: &[u64]) -> bool
 }
 
 /// Whether the axes select an index of the box.
-fn meets(axes: &[Axis], grid: &[u64], first: &[u64]) -> bool
+fn meets(axes: &Axes<'_>, grid: &[u64], first: &[u64]) -> bool
     requires { list_any overlaps axes.now ≡ false }
     ensures { result ≡ meets_box axes.now grid.now first.now }
 {
-    let [axis, axes @ ..] = axes else {
+    let Some(axis) = axes.first() else {
         return true;
     };
     let [size, grid @ ..] = grid else {
@@ -273,7 +278,7 @@ fn meets(axes: &[Axis], grid: &[u64], first: &[u64]) -> bool
     let [at, first @ ..] = first else {
         return true;
     };
-    meets_size(axis, *at, *size) && meets(axes, grid, first)
+    meets_size(&axis, *at, *size) && meets(&axes.rest(), grid, first)
 }
 
 /// Whether an axis selects one of so many numbers from a first one on.

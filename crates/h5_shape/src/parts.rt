@@ -4,6 +4,7 @@ ghost use Rattle.h5_shape.specs.Parts.{numbers_along, spans_from, parts_of};
 ghost use Rattle.h5_shape.specs.PartsLeft.{AreBoxed, AreOnAxes, GoesOnTo, IsBoxed, IsOnAxis, parts_from, spans_after};
 ghost use Rattle.h5_shape.specs.PartsStand.{GivesPart, IsAtPart, left_parts};
 
+use crate::axes::Axes;
 use h5_model::Axis;
 use std::marker::Model;
 
@@ -41,7 +42,7 @@ enum Progress {
 /// memory.
 #[derive(Drop)]
 pub struct ChunkParts<'a> {
-    axes: &'a [Axis],
+    axes: &'a Axes<'a>,
     chunk: &'a [u64],
     spans: [Span; 32],
     progress: Progress,
@@ -67,7 +68,7 @@ impl<'a> ChunkParts<'a> {
     ghost use Rattle.h5_shape.specs.PartLent.{EndsWithoutFirst};
 
     /// No part.
-    pub(crate) fn none(axes: &'a [Axis], chunk: &'a [u64]) -> ChunkParts<'a>
+    pub(crate) fn none(axes: &'a Axes<'a>, chunk: &'a [u64]) -> ChunkParts<'a>
         requires { length axes.now ≤ 32 }
         ensures { result ≡ [] }
     {
@@ -80,7 +81,7 @@ impl<'a> ChunkParts<'a> {
     }
 
     /// Goes over to the parts of a selection of some cell.
-    pub(crate) fn select(&mut self, axes: &'a [Axis], chunk: &'a [u64])
+    pub(crate) fn select(&mut self, axes: &'a Axes<'a>, chunk: &'a [u64])
         requires rank { length axes.now ≤ 32 }
         requires boxed { AreBoxed axes.now chunk.now }
         ensures { self.new ≡ parts_of axes.now chunk.now }
@@ -108,7 +109,7 @@ impl<'a> ChunkParts<'a> {
 }
 
 /// Puts the next part in its place. Where there is none, says so.
-fn step(axes: &[Axis], chunk: &[u64], spans: &mut [Span], progress: Progress) -> bool
+fn step(axes: &Axes<'_>, chunk: &[u64], spans: &mut [Span], progress: Progress) -> bool
     requires { IsAtPart axes.now chunk.now spans.old progress }
     ensures next { GivesPart axes.now chunk.now (left_parts axes.now chunk.now spans.old progress) result
         spans.new }
@@ -122,7 +123,7 @@ fn step(axes: &[Axis], chunk: &[u64], spans: &mut [Span], progress: Progress) ->
 }
 
 /// Puts each dimension from k on to its first span.
-fn start(axes: &[Axis], chunk: &[u64], spans: &mut [Span], k: usize)
+fn start(axes: &Axes<'_>, chunk: &[u64], spans: &mut [Span], k: usize)
     requires rank { length spans.old ≡ length axes.now }
     requires boxed { AreBoxed (drop k axes.now) (drop k chunk.now) }
     ensures first { parts_from (drop k axes.now) (drop k chunk.now) (drop k spans.new)
@@ -133,11 +134,11 @@ fn start(axes: &[Axis], chunk: &[u64], spans: &mut [Span], k: usize)
         return;
     }
     start(axes, chunk, spans, k + 1);
-    spans[k] = span_at(&axes[k], chunk[k], 0);
+    spans[k] = span_at(&axes.at(k), chunk[k], 0);
 }
 
 /// Goes to the next part of the dimensions from k on. Behind the last it goes to the first, and says so.
-fn go_on(axes: &[Axis], chunk: &[u64], spans: &mut [Span], k: usize) -> bool
+fn go_on(axes: &Axes<'_>, chunk: &[u64], spans: &mut [Span], k: usize) -> bool
     requires { AreOnAxes (drop k axes.now) (drop k chunk.now) (drop k spans.old) }
     ensures next { GoesOnTo (drop k axes.now) (drop k chunk.now) (drop k spans.old) result
         (drop k spans.new) }
@@ -151,12 +152,12 @@ fn go_on(axes: &[Axis], chunk: &[u64], spans: &mut [Span], k: usize) -> bool
         return true;
     }
     let span = spans[k];
-    let axis = &axes[k];
-    if span.from + (span.length - 1) < last_position(axis) {
-        spans[k] = span_at(axis, chunk[k], span.from + span.length);
+    let axis = axes.at(k);
+    if span.from + (span.length - 1) < last_position(&axis) {
+        spans[k] = span_at(&axis, chunk[k], span.from + span.length);
         return true;
     }
-    spans[k] = span_at(axis, chunk[k], 0);
+    spans[k] = span_at(&axis, chunk[k], 0);
     false
 }
 

@@ -6,8 +6,8 @@ ghost use Rattle.h5_model.specs.Tree.Places.{cells};
 ghost use Rattle.h5_model.specs.Views.Selection.{Within, overlaps, selection_of, selects_none};
 ghost use Rattle.h5_shape.specs.Runs.{cell_runs};
 
+use crate::axes::Axes;
 use crate::loops::LoopNest;
-use h5_model::Axis;
 use std::marker::Model;
 
 /// Consecutive row-major places.
@@ -55,7 +55,7 @@ impl CellRuns {
 
     /// Goes over to the runs of the cells that these axes select. They are written where they are to stand, since loops
     /// for all dimensions that there can be are too long to be moved for nothing.
-    pub(crate) fn select(&mut self, sizes: &[u64], axes: &[Axis])
+    pub(crate) fn select(&mut self, sizes: &[u64], axes: &Axes<'_>)
         requires rank { length sizes.now ≡ length axes.now }
         requires within { Within sizes.now axes.now }
         requires some { selects_none axes.now ≡ false }

@@ -1,10 +1,10 @@
 //! Hyperslabs that are one run of consecutive cells (HDF5 dataspace reference, H5Sselect_hyperslab).
 ghost use Rattle.std.specs.Prelude.{◌≡◌, ◌+◌, ◌^◌, ◌<◌, ◌≤◌, IfSome, IsSome, MatchOption, true, ◌∷◌, length, drop};
 ghost use Rattle.h5_model.specs.Tree.Places.{cells as cells_of};
-ghost use Rattle.h5_model.specs.Views.Selection.{axes_of, has_rank as is_of_rank};
 ghost use Rattle.h5_shape.specs.OneRun.{IsOneRun};
 ghost use Rattle.h5_shape.specs.InnerRuns.{HasNoInnerRun, IsInnerRun, follow_on, selects_along as selects_some};
 
+use crate::axes::Axes;
 use crate::dims::Dims;
 use crate::hyper::HyperRef;
 use crate::runs::CellRun;
@@ -32,45 +32,20 @@ pub fn one_run(dims: &Dims, hyper: &HyperRef<'_>) -> Option<CellRun>
     ensures exact { (run : CellRun) → IsOneRun dims.now hyper.now run → IsSome result }
 {
     let sizes = dims.sizes();
-    if !has_rank(sizes.len(), hyper) {
+    let axes = Axes::of(hyper)?;
+    if axes.len() != sizes.len() {
         return None;
     }
-    let InnerRun { place, length, .. } = run_from(sizes, hyper, 0)?;
+    let InnerRun { place, length, .. } = run_from(sizes, &axes, 0)?;
     Some(CellRun { place, length })
 }
 
-/// Whether each of the lists has a number for each of so many dimensions.
-fn has_rank(rank: usize, hyper: &HyperRef<'_>) -> bool
-    ensures { result ≡ is_of_rank rank hyper.now }
-{
-    hyper.start().len() == rank
-        && hyper.stride().len() == rank
-        && hyper.count().len() == rank
-        && hyper.block().len() == rank
-}
-
-/// The axis of dimension k.
-fn axis_at(hyper: &HyperRef<'_>, k: usize) -> Axis
-    requires start { k < length hyper.now.start }
-    requires stride { k < length hyper.now.stride }
-    requires count { k < length hyper.now.count }
-    requires block { k < length hyper.now.block }
-    ensures { drop k (axes_of hyper.now) ≡ result ∷ drop (k + 1) (axes_of hyper.now) }
-{
-    Axis {
-        start: hyper.start()[k],
-        stride: hyper.stride()[k],
-        count: hyper.count()[k],
-        block: hyper.block()[k],
-    }
-}
-
 /// The run of the selected cells of the dimensions from k on.
-fn run_from(sizes: &[u64], hyper: &HyperRef<'_>, k: usize) -> Option<InnerRun>
-    requires rank { is_of_rank (length sizes.now) hyper.now ≡ true }
+fn run_from(sizes: &[u64], axes: &Axes<'_>, k: usize) -> Option<InnerRun>
+    requires rank { length axes.now ≡ length sizes.now }
     requires small { cells_of (drop k sizes.now) ≤ 2 ^ 40 }
-    ensures { MatchOption result (HasNoInnerRun (drop k sizes.now) (drop k (axes_of hyper.now)))
-        (IsInnerRun (drop k sizes.now) (drop k (axes_of hyper.now))) }
+    ensures { MatchOption result (HasNoInnerRun (drop k sizes.now) (drop k axes.now))
+        (IsInnerRun (drop k sizes.now) (drop k axes.now)) }
 {
     if k >= sizes.len() {
         return Some(InnerRun {
@@ -80,12 +55,12 @@ fn run_from(sizes: &[u64], hyper: &HyperRef<'_>, k: usize) -> Option<InnerRun>
         });
     }
     let size = sizes[k];
-    let axis = axis_at(hyper, k);
+    let axis = axes.at(k);
     // Then the size is not 0, so that the inner dimensions have no more cells than all.
     if !selects_along(size, &axis) {
         return None;
     }
-    let inner = run_from(sizes, hyper, k + 1)?;
+    let inner = run_from(sizes, axes, k + 1)?;
     if !is_gapless(&axis, &inner) {
         return None;
     }

@@ -1,12 +1,13 @@
 //! Hyperslab selections (HDF5 dataspace reference, H5Sselect_hyperslab).
 ghost use Rattle.std.specs.Prelude.{◌≡◌, ◌-◌, ◌^◌, ◌≤◌, ◌↔◌, IsTrue, EachIndex, length, min, replicate, slice_index};
 ghost use Rattle.std.specs.List.{list_any};
-ghost use Rattle.h5_model.specs.Views.Selection.{Within, axes_from, fits_along, fits_all, has_no_stride, is_one_run, is_within as is_within_sizes, overlaps, selected_cells, selection_of, selects_none};
+ghost use Rattle.h5_model.specs.Views.Selection.{Within, fits_along, fits_all, has_no_stride, is_one_run, is_within as is_within_sizes, overlaps, selected_cells, selection_of, selects_none};
 ghost use Rattle.h5_model.specs.Tree.Places.{cells as cells_of};
 ghost use Rattle.h5_shape.specs.Parts.{parts_of};
 ghost use Rattle.h5_shape.specs.PartCells.{AreParted};
 ghost use Rattle.h5_shape.specs.Runs.{AreMaximal, places_in, cell_runs};
 
+use crate::axes::Axes;
 use crate::dims::{Dims, MAX_RANK};
 use crate::hyper::HyperRef;
 use crate::parts::ChunkParts;
@@ -29,27 +30,26 @@ pub enum SlabFault {
     BlocksOverlap,
 }
 
-/// A selection, with an axis for each of at most 32 dimensions. Strides are at least 1, and blocks share no cell. The
-/// axes stand in the value itself, so it takes no memory.
+/// A selection, with an axis for each of at most 32 dimensions. Strides are at least 1, and blocks share no cell. Its
+/// four lists are lent, so it takes no memory, and a move costs the same for any number of dimensions.
 #[derive(Debug, Drop)]
-pub struct Slab {
-    axes: [Axis; 32],
-    rank: usize,
+pub struct Slab<'a> {
+    axes: Axes<'a>,
 }
 
-impl Model for Slab {
-    ghost use Rattle.std.specs.Prelude.{List, ◌≤◌, take};
+impl<'a> Model for Slab<'a> {
+    ghost use Rattle.std.specs.Prelude.{List};
     ghost use Rattle.h5_model.specs.declared.Axis.{Axis};
     ghost use Rattle.h5_shape.specs.Slab.{IsSlab};
 
     ghost Value = { List Axis };
 
-    ghost view = { λ s. take s.rank s.axes };
+    ghost view = { λ s. s.axes };
 
-    ghost invariant = { λ s. (s.rank ≤ 32) × IsSlab (take s.rank s.axes) };
+    ghost invariant = { λ s. IsSlab s.axes };
 }
 
-impl Slab {
+impl<'a> Slab<'a> {
     ghost use Rattle.h5_shape.specs.Slab.{IsSlab, slab_of};
 
     /// The selection of these four lists. Takes no memory.
@@ -61,34 +61,38 @@ impl Slab {
     /// - `RankMismatch`: the lists have different lengths, or more than 32 numbers.
     /// - `StrideZero`: a stride is 0.
     /// - `BlocksOverlap`: a stride is below its block, and there is more than one block.
-    pub fn new(hyper: &HyperRef<'_>) -> Result<Slab, SlabFault>
+    pub fn new(hyper: &HyperRef<'a>) -> Result<Slab<'a>, SlabFault>
         ensures { result ≡ slab_of hyper.now }
     {
-        let start = hyper.start();
-        let stride = hyper.stride();
-        let count = hyper.count();
-        let block = hyper.block();
-        let rank = start.len();
-        if rank > MAX_RANK || stride.len() != rank || count.len() != rank || block.len() != rank {
+        let Some(axes) = Axes::of(hyper) else {
+            return Err(SlabFault::RankMismatch);
+        };
+        if axes.len() > MAX_RANK {
             return Err(SlabFault::RankMismatch);
         }
-        let mut axes = [NO_AXIS; 32];
-        fill(&mut axes[..rank], start, stride, count, block);
-        if has_zero_stride(&axes[..rank]) {
+        if has_zero_stride(&axes) {
             return Err(SlabFault::StrideZero);
         }
-        if has_overlap(&axes[..rank]) {
+        if has_overlap(&axes) {
             return Err(SlabFault::BlocksOverlap);
         }
-        Ok(Slab { axes, rank })
+        Ok(Slab { axes })
+    }
+
+    /// The selection of these axes, which are known to be one.
+    pub(crate) fn known(axes: Axes<'a>) -> Slab<'a>
+        requires { IsSlab axes }
+        ensures { result ≡ axes.entry }
+    {
+        Slab { axes }
     }
 
     /// The axes, the one that runs slowest first.
-    pub fn axes(&self) -> &[Axis]
+    pub fn axes(&self) -> &Axes<'a>
         ensures axes { result.now ≡ self.now }
         ensures sound { IsSlab self.now }
     {
-        &self.axes[..self.rank]
+        &self.axes
     }
 
     /// Whether every selected index is inside these sizes. A selection of no cell is inside any sizes of as many
@@ -147,7 +151,7 @@ impl Slab {
     ///
     /// That there is a chunk size for each dimension, none of them 0, and that no selected index passes `u64::MAX`,
     /// are the caller's conditions.
-    pub fn chunk_parts<'a>(&'a self, chunk: &'a [u64]) -> ChunkParts<'a>
+    pub fn chunk_parts<'b>(&'b self, chunk: &'b [u64]) -> ChunkParts<'b>
         requires rank { length chunk.now ≡ length self.now }
         requires sizes { EachIndex chunk.now (λ d. 1 ≤ slice_index chunk.now d) }
         requires top { Within (replicate (length self.now) (2 ^ 64)) self.now }
@@ -162,59 +166,41 @@ impl Slab {
     }
 }
 
-/// What stands behind the last axis.
-const NO_AXIS: Axis = Axis {
-    start: 0,
-    stride: 0,
-    count: 0,
-    block: 0,
-};
-
-/// Writes the axes of four lists.
-fn fill(axes: &mut [Axis], start: &[u64], stride: &[u64], count: &[u64], block: &[u64])
-    requires starts { length start.now ≡ length axes.old }
-    requires strides { length stride.now ≡ length axes.old }
-    requires counts { length count.now ≡ length axes.old }
-    requires blocks { length block.now ≡ length axes.old }
-    ensures { axes.new ≡ axes_from start.now stride.now count.now block.now }
-{
-    for k in 0..axes.len() {
-        axes[k] = Axis {
-            start: start[k],
-            stride: stride[k],
-            count: count[k],
-            block: block[k],
-        };
-    }
-}
-
 /// Whether a stride is 0.
-fn has_zero_stride(axes: &[Axis]) -> bool
+fn has_zero_stride(axes: &Axes<'_>) -> bool
     ensures { result ≡ list_any has_no_stride axes.now }
 {
-    axes.iter().any(|axis| axis.stride == 0)
+    let Some(axis) = axes.first() else {
+        return false;
+    };
+    axis.stride == 0 || has_zero_stride(&axes.rest())
 }
 
 /// Whether blocks of an axis overlap.
-fn has_overlap(axes: &[Axis]) -> bool
+fn has_overlap(axes: &Axes<'_>) -> bool
     ensures { result ≡ list_any overlaps axes.now }
 {
-    axes.iter()
-        .any(|axis| axis.stride < axis.block && axis.count > 1)
+    let Some(axis) = axes.first() else {
+        return false;
+    };
+    axis.stride < axis.block && axis.count > 1 || has_overlap(&axes.rest())
 }
 
 /// Whether no cell is selected, or the last block of every axis ends within its size.
-fn is_within(sizes: &[u64], axes: &[Axis]) -> bool
+fn is_within(sizes: &[u64], axes: &Axes<'_>) -> bool
     ensures { result ≡ is_within_sizes sizes.now axes.now }
 {
     is_empty(axes) || fits(sizes, axes)
 }
 
 /// Whether no cell is selected.
-fn is_empty(axes: &[Axis]) -> bool
+fn is_empty(axes: &Axes<'_>) -> bool
     ensures { result ≡ selects_none axes.now }
 {
-    axes.iter().any(|axis| axis.count == 0 || axis.block == 0)
+    let Some(axis) = axes.first() else {
+        return false;
+    };
+    axis.count == 0 || axis.block == 0 || is_empty(&axes.rest())
 }
 
 /// Whether the last block of an axis ends within the size.
@@ -226,26 +212,26 @@ pub(crate) fn fits_size(size: u64, axis: &Axis) -> bool
 }
 
 /// Whether the last block of every axis ends within its size.
-fn fits(sizes: &[u64], axes: &[Axis]) -> bool
+fn fits(sizes: &[u64], axes: &Axes<'_>) -> bool
     ensures { result ≡ fits_all sizes.now axes.now }
 {
     let [size, sizes @ ..] = sizes else {
         return true;
     };
-    let [axis, axes @ ..] = axes else {
+    let Some(axis) = axes.first() else {
         return true;
     };
-    fits_size(*size, axis) && fits(sizes, axes)
+    fits_size(*size, &axis) && fits(sizes, &axes.rest())
 }
 
 /// The product of counts and blocks, or `u64::MAX` where it is larger.
-fn cells(axes: &[Axis]) -> u64
+fn cells(axes: &Axes<'_>) -> u64
     ensures { result ≡ min (selected_cells axes.now) (2 ^ 64 - 1) }
 {
-    let [axis, rest @ ..] = axes else {
+    let Some(axis) = axes.first() else {
         return 1;
     };
     axis.count
         .saturating_mul(axis.block)
-        .saturating_mul(cells(rest))
+        .saturating_mul(cells(&axes.rest()))
 }

@@ -4,13 +4,20 @@ ghost use Rattle.std.specs.Prelude.{◌≡◌, ◌+◌, ◌^◌, ◌<◌, ◌≤
 ghost use Rattle.h5_model.specs.Views.Selection.{fits_along, overlaps};
 ghost use Rattle.h5_shape.specs.InBox.{AreApart, AreSpans, AreSpansIn, IsBelow, IsSpanIn};
 
+use crate::axes::Axes;
 use crate::parts::Span;
 use h5_model::Axis;
 
 /// Writes, for each dimension from `k` on, which selected numbers lie in the box with this first index and these
 /// sizes. Answers whether there is one in each dimension: whether the box holds a selected cell. It takes time by the
 /// number of dimensions alone.
-pub fn spans_in(axes: &[Axis], corner: &[u64], chunk: &[u64], spans: &mut [Span], k: usize) -> bool
+pub fn spans_in(
+    axes: &Axes<'_>,
+    corner: &[u64],
+    chunk: &[u64],
+    spans: &mut [Span],
+    k: usize,
+) -> bool
     requires spans { length spans.old ≡ length axes.now }
     requires corner { length corner.now ≡ length axes.now }
     requires chunk { length chunk.now ≡ length axes.now }
@@ -22,7 +29,7 @@ pub fn spans_in(axes: &[Axis], corner: &[u64], chunk: &[u64], spans: &mut [Span]
         return true;
     }
     let some = spans_in(axes, corner, chunk, spans, k + 1);
-    let span = span_in(&axes[k], corner[k], chunk[k]);
+    let span = span_in(&axes.at(k), corner[k], chunk[k]);
     let here = span.length > 0;
     spans[k] = span;
     here && some

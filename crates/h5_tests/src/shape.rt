@@ -67,7 +67,7 @@ fn rows() -> HyperRef<'static> {
 }
 
 /// Whether the selection is within the sizes, which are as many as its axes.
-fn is_within(slab: &Slab, dims: &Dims) -> bool {
+fn is_within(slab: &Slab<'_>, dims: &Dims) -> bool {
     slab.axes().len() == dims.sizes().len() && slab.within(dims)
 }
 

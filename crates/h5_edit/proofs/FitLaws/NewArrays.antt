@@ -17,6 +17,7 @@ use Rattle.h5_model.specs.declared.dataset.Store.{Store}
 use Rattle.h5_model.specs.declared.dataset.Store.TheVariants as store
 use Rattle.h5_model.specs.declared.edits.Edit.TheVariants.{CreateDataset}
 use Rattle.h5_model.proofs.RefusalLaws.{none_holds}
+use Rattle.h5_model.proofs.EditLaws.{length-are_chunk_sizes, length-are_maxima}
 use Rattle.h5_repack.specs.Bodies.Bodies.{others_of}
 use Rattle.h5_repack.specs.Image.Plain.{IsPlain}
 use Rattle.h5_repack.specs.Bodies.Sound.{IsBound, IsPlainArray, IsPlainStorage}
@@ -34,18 +35,6 @@ pub record IsSoundSpec (spec : Spec) : Type 0 where
   pub of_type : fits spec.fixed spec.fill ≡ true
 
 -- ---- chunk sizes
-
-pub maxima_long : (sizes : List ℕ) (maxima : List (Option ℕ)) → are_maxima sizes maxima ≡ true → length maxima ≡ length sizes
-maxima_long [] [] h = refl
-maxima_long [] (m ∷ ms) h = absurd (cc)
-maxima_long (d ∷ ds) [] h = absurd (cc)
-maxima_long (d ∷ ds) (m ∷ ms) h = ap suc (maxima_long ds ms (and_parts _ (are_maxima ds ms) h).1)
-
-chunk_long : (chunk : List ℕ) (maxima : List (Option ℕ)) → are_chunk_sizes chunk maxima ≡ true → length chunk ≡ length maxima
-chunk_long [] [] h = refl
-chunk_long [] (m ∷ ms) h = absurd (cc)
-chunk_long (c ∷ cs) [] h = absurd (cc)
-chunk_long (c ∷ cs) (m ∷ ms) h = ap suc (chunk_long cs ms (and_parts (is_chunk_size c m) (are_chunk_sizes cs ms) h).1)
 
 size_some : (c : ℕ) (m : Option ℕ) → is_chunk_size c m ≡ true → (c == 0) ≡ false
 size_some c None h = grind (arith, nat_tests, h)
@@ -69,8 +58,8 @@ chunk_sizes_of sizes maxima chunk bounded shaped =
     let parts = and_parts (nat_lt 0 (length sizes)) (are_chunk_sizes chunk maxima) shaped in
     let some = parts.0 in
     let one : 1 ≤ length sizes = grind (arith, nat_tests, some) in
-    let long = chunk_long chunk maxima parts.1 in
-    let longer = maxima_long sizes maxima bounded in
+    let long = length-are_chunk_sizes chunk maxima parts.1 in
+    let longer = length-are_maxima sizes maxima bounded in
     record { ranked = omega (arith, one, long, longer); same = omega (arith, long, longer); some = chunk_some chunk maxima parts.1 }
 
 -- so they can be named

@@ -31,8 +31,10 @@ use Rattle.h5_query.proofs.FillLaws.{type_sound, fill_fits, old_fill_fits}
 use Rattle.h5_repack.specs.Bodies.Sound.{IsBound, IsPlainArray, IsPlainStorage}
 use Rattle.h5_edit.specs.Fits.Laws.{AreBytes}
 use Rattle.h5_edit.proofs.FitLaws.Bounds.{read_bounded}
-use Rattle.h5_edit.proofs.FitLaws.PlainBodies.{IsPlainBody, part_low, extent_long}
+use Rattle.h5_edit.proofs.FitLaws.PlainBodies.{IsPlainBody, extent_long}
 use Rattle.h5_edit.proofs.FitLaws.PlainObjects.{content_count}
+use Rattle.h5_layout.proofs.KeyWritten.{bytes_part}
+use Rattle.h5_layout.proofs.FillLaws.{zero_fits}
 
 -- a body that can be written again
 record IsPlainBytes (body : List ℕ) : Type 0 where
@@ -54,15 +56,9 @@ first_low ms all kind body h = (first_plain ms all kind body h).low
 
 slice_low : (i j : ℕ) (bytes : List ℕ) → AreBytes bytes → AreBytes (slice_range bytes i j)
 unfolding part
-slice_low i j bytes low = part_low i (j - i) bytes low
+slice_low i j bytes low = bytes_part i (j - i) bytes low
 
 -- ---- the fill
-
-zero_fits : (t : Fixed) → fits t (pos 0) ≡ true
-zero_fits t = elim (t.signed) as (λ b. nat_lt 0 (cond b (2 ^ (8 * t.size - 1)) (2 ^ (8 * t.size))) ≡ true) [
-  | true ↦ let some = pow_pos (8 * t.size - 1) in grind (arith, nat_tests)
-  | false ↦ let some = pow_pos (8 * t.size) in grind (arith, nat_tests)
-]
 
 filled_fits : (value : List ℕ → Option ℤ) (t : Fixed) (body : Option (List ℕ)) (fill : Option ℤ)
     → ((b : List ℕ) (v : ℤ) → body ≡ Some b → value b ≡ Some v → fits t v ≡ true) → IsFill value body fill → (v : ℤ) → fill ≡ Some v → fits t v ≡ true
@@ -101,11 +97,11 @@ cell_fits : (image : List ℕ) (low : AreBytes image) (t : Fixed) (fill : ℤ) (
     → (index : List ℕ) → fits t (cell_of image t fill sizes l chunks index) ≡ true
 cell_fits image low t fill sizes (InMessage bytes) chunks is fit stored index = fits_value_at t bytes _ is stored
 cell_fits image low t fill sizes (InBlock None) chunks is fit stored index = fit
-cell_fits image low t fill sizes (InBlock (Some b)) chunks is fit stored index = fits_value_at t (part b.at b.len image) _ is (part_low b.at b.len image low)
+cell_fits image low t fill sizes (InBlock (Some b)) chunks is fit stored index = fits_value_at t (part b.at b.len image) _ is (bytes_part b.at b.len image low)
 cell_fits image low t fill sizes (InChunks chunk root) chunks is fit stored index = in_chunk (get chunks (corner_of chunk index)) where
   in_chunk : (found : Option ℕ) → fits t (value_in_chunk image t fill (cells chunk * t.size) (place_of chunk (inner_of chunk index)) found) ≡ true
   in_chunk None = fit
-  in_chunk (Some at) = fits_value_at t (part at (cells chunk * t.size) image) _ is (part_low at (cells chunk * t.size) image low)
+  in_chunk (Some at) = fits_value_at t (part at (cells chunk * t.size) image) _ is (bytes_part at (cells chunk * t.size) image low)
 
 constant : (v : ℤ) (from n : ℕ) → map (λ (k : ℕ). v) (range_with_len from n) ≡ replicate n v
 constant v from zero = refl

@@ -28,14 +28,9 @@ use Rattle.h5_model.proofs.StoredValues.{fits_value_at}
 use Rattle.h5_query.proofs.FillLaws.{type_sound}
 use Rattle.h5_repack.specs.Bodies.Sound.{IsPlainAttribute, IsPlainBody as IsKeptBody}
 use Rattle.h5_edit.specs.Fits.Laws.{AreBytes}
-
--- a part of bytes
-pub part_low : (at len : ℕ) (bytes : List ℕ) → AreBytes bytes → AreBytes (part at len bytes)
-unfolding part
-part_low at len bytes low i = elim (cases_lt i len) [
-  | inl within ↦ rw (get_or-take len (drop at bytes) i 0 within, get_or-drop at bytes i 0) (low (at + i))
-  | inr past ↦ rw (get_or_past (take len (drop at bytes)) i 0 (omega (arith, length-take len (drop at bytes)))) (omega arith)
-]
+use Rattle.h5_layout.proofs.KeyWritten.{bytes_part}
+use Rattle.h5_laws.proofs.SoundLaws.Read.{until_no_zero}
+use Rattle.h5_header.proofs.MovableLaws.{type_wide}
 
 -- an unsigned type of so many bytes, the low byte first
 unsigned : ℕ → Fixed
@@ -69,7 +64,7 @@ read_body block_at bytes at m low is =
     record {
       padded = rw long is.padded;
       short = rw long (short_low bytes (at + 2) low);
-      low = subst AreBytes (sym is.body) (part_low (at + 8) (number_at bytes (at + 2) 2) bytes low);
+      low = subst AreBytes (sym is.body) (bytes_part (at + 8) (number_at bytes (at + 2) 2) bytes low);
     }
 
 filled_bodies : (block_at : ℕ) (bytes : List ℕ) (at : ℕ) (ms : List Message) → AreBytes bytes → Fills block_at bytes at ms → AllByRecursion IsPlainBody ms
@@ -84,7 +79,7 @@ block_bodies image [] (ms ∷ parts) low filled = absurd filled
 block_bodies image (b ∷ waiting) [] low filled = absurd filled
 block_bodies image (b ∷ waiting) (ms ∷ parts) low filled =
     all_append IsPlainBody ms (flat_map (λ xs. xs) parts)
-    (filled_bodies b.at (part b.at b.len image) 0 ms (part_low b.at b.len image low) filled.0)
+    (filled_bodies b.at (part b.at b.len image) 0 ms (bytes_part b.at b.len image low) filled.0)
     (block_bodies image (waiting ++ continuations ms) parts low filled.1)
 
 module _ (image : List ℕ) (low : AreBytes image) (header : ℕ) (ms : List Message) (blocks : List Block) (has : HasMessages image header ms blocks) where
@@ -95,26 +90,10 @@ module _ (image : List ℕ) (low : AreBytes image) (header : ℕ) (ms : List Mes
   -- the total of messages has two bytes
   pub few_messages : length ms ≤ 65535
   few_messages =
-      let total : total_in (prefix_at image header) < 65536 = short_low (prefix_at image header) 2 (part_low header 16 image low) in
+      let total : total_in (prefix_at image header) < 65536 = short_low (prefix_at image header) 2 (bytes_part header 16 image low) in
       omega (arith, total, has.total)
 
 -- ---- attributes
-
--- the bytes before the first zero have none
-text_before : (xs : List ℕ) → has_zero (until_zero xs) ≡ false
-text_before [] = refl
-text_before (b ∷ bs) = elim (b == 0) as (λ c. (b == 0) ≡ c → has_zero (cond c [] (b ∷ until_zero bs)) ≡ false) [
-  | true ↦ λ _. refl
-  | false ↦ λ e. rw (e, text_before bs) refl
-] refl
-
--- a datatype body has 12 bytes or more
-type_long : (body : List ℕ) (t : Fixed) → fixed_of body ≡ Some t → 12 ≤ length body
-unfolding fixed_of
-type_long body t h = elim (is_fixed_point body) as (λ b. is_fixed_point body ≡ b → cond b (fixed_from (type_size body) (is_signed body) (is_high_first body)) None ≡ Some t → 12 ≤ length body) [
-  | true ↦ λ is _. grind (arith, nat_tests, is)
-  | false ↦ λ is none. absurd (cc)
-] refl h
 
 -- a dataspace body has room for its sizes, of which there are 32 or less
 pub extent_long : (body : List ℕ) (x : Extent) → extent_of body ≡ Some x → (8 + 8 * length x.sizes ≤ length body) × (length x.sizes ≤ 32)
@@ -164,7 +143,7 @@ module _ (body : List ℕ) (low : AreBytes body) (short : length body < 65536) (
       let p = cond_some (nat_le (data_place body + cells x.sizes * t.size) (length body)) _ e h in
       let named : 1 ≤ length (name_in body) = grind (arith, nat_tests, form) in
       let ended : length (name_in body) < name_size body = grind (arith, nat_tests, form) in
-      let type_room : 12 ≤ datatype_size body = omega (arith, type_long _ t type_is, length-range body (datatype_place body) (datatype_size body)) in
+      let type_room : 12 ≤ datatype_size body = omega (arith, type_wide _ t type_is, length-range body (datatype_place body) (datatype_size body)) in
       let extent = extent_long _ x extent_is in
       let space_room : 8 + 8 * length x.sizes ≤ dataspace_size body = omega (arith, extent.0, length-range body (dataspace_place body) (dataspace_size body)) in
       let there : data_place body + cells x.sizes * t.size ≤ length body = grind (arith, nat_tests, p.0) in
@@ -175,7 +154,7 @@ module _ (body : List ℕ) (low : AreBytes body) (short : length body < 65536) (
       let plain : extent_cells x.sizes ≤ 2 ^ 40 → IsPlainAttribute (name_in body, a)
       = λ small. record {
         named = named;
-        text = text_before (slice_range body (name_start body) (name_start body + name_size body));
+        text = until_no_zero (slice_range body (name_start body) (name_start body + name_size body));
         fixed = sound;
         ranked = extent.1;
         counted = length-map-range_with_len (λ k. value_at t body (data_place body + k * t.size)) 0 (cells x.sizes);

@@ -8,7 +8,7 @@ use Rattle.std.specs.FinMap.{FinMap, entries}
 use Rattle.std.proofs.Math.ListN.{length-map}
 use Rattle.std.proofs.lemmas.Bool.Decides.{nat_tests}
 use Rattle.h5_bytes.specs.declared.Block.{Block}
-use Rattle.h5_model.specs.Format.MessageTypes.{data_layout_kind, dataspace_kind, datatype_kind, fill_value_kind, old_fill_value_kind, symbol_table_kind}
+use Rattle.h5_model.specs.Format.MessageTypes.{data_layout_kind, dataspace_kind, datatype_kind, fill_value_kind, old_fill_value_kind, symbol_table_kind, attribute_kind, comment_kind, old_modification_time_kind, modification_time_kind}
 use Rattle.h5_model.specs.Format.Messages.{Message, count_of}
 use Rattle.h5_model.specs.Tree.Places.{extent_cells}
 use Rattle.h5_model.specs.Format.AttributeBody.{attribute_of}
@@ -62,8 +62,8 @@ abbrev pub content_count : List Message → ℕ
 content_count ms = count_of dataspace_kind ms + (count_of datatype_kind ms + (count_of old_fill_value_kind ms + (count_of fill_value_kind ms + (count_of data_layout_kind ms + count_of symbol_table_kind ms))))
 
 -- a message has one type
-one_type : (k : ℕ) → cond ((k == 13 || k == 14) || k == 18) 1 0 + cond (k == 12) 1 0
-    + (cond (k == 1) 1 0 + (cond (k == 3) 1 0 + (cond (k == 4) 1 0 + (cond (k == 5) 1 0 + (cond (k == 8) 1 0 + cond (k == 17) 1 0))))) ≤ 1
+one_type : (k : ℕ) → cond ((k == comment_kind || k == old_modification_time_kind) || k == modification_time_kind) 1 0 + cond (k == attribute_kind) 1 0
+    + (cond (k == dataspace_kind) 1 0 + (cond (k == datatype_kind) 1 0 + (cond (k == old_fill_value_kind) 1 0 + (cond (k == fill_value_kind) 1 0 + (cond (k == data_layout_kind) 1 0 + cond (k == symbol_table_kind) 1 0))))) ≤ 1
 one_type k = grind (arith, nat_tests)
 
 each_once : (ms : List Message) → length (filter is_kept ms) + length (filter is_attribute_message ms) + content_count ms ≤ length ms

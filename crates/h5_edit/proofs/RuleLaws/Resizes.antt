@@ -1,5 +1,6 @@
 -- Why a resize is refused, or that it is not: by its path, the array there, and its sizes.
 use Rattle.std.proofs.Common.{◌≡◌, ◌≢◌, ℕ, ◌+◌, ◌-◌, ◌^◌, ◌≤◌, ◌||◌, List, [], ◌∷◌, ◌++◌, drop, get_or, length, slice_get, take, take_all, refl, sym, ap, ◌∙◌, Bool, true, false, not, Option, Some, None, nat_le, nat_lt, arith}
+use Rattle.std.proofs.Math.Bool.{or-false}
 use Rattle.std.proofs.lemmas.Bool.Decides.{nat_tests}
 use Rattle.std.proofs.lemmas.List.{drop_more}
 use Rattle.std.proofs.lemmas.Option.{get_or_from_slice_get, slice_get_within}
@@ -20,7 +21,6 @@ use Rattle.h5_query.specs.Data.{dataset_told}
 use Rattle.h5_query.specs.Opened.State.{FileState}
 use Rattle.h5_query.proofs.RuleLaws.{first-behind, first-found}
 use Rattle.h5_layout.specs.Extents.{CanHaveSizes}
-use Rattle.h5_edit.proofs.RuleLaws.TableLaws.{or_false}
 
 -- as many sizes as the array has
 pub same_rank : (dims sizes : List ℕ) (n : ℕ) → n ≡ length sizes → length dims ≡ n → (length dims == length sizes) ≡ true
@@ -59,7 +59,7 @@ module _ (tree : Tree) (next : ℕ) (path dims : List ℕ) where
 
   resize_table : refusal_of tree next (Resize path dims) ≡ first_holding (dataset_rules tree path ++ asked_of (dataset_at tree path))
   unfolding refusal_of
-  resize_table = simp or_false
+  resize_table = simp or-false
 
   pub resize_refused : (e : EditFault) → first_holding (dataset_rules tree path) ≡ Some e → refusal_of tree next (Resize path dims) ≡ Some e
   resize_refused e h = resize_table ∙ first-found (dataset_rules tree path) (asked_of (dataset_at tree path)) e h

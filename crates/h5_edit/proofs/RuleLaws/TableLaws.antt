@@ -1,5 +1,6 @@
 -- Which rule refuses an edit: one of its paths, or one of those behind them.
 use Rattle.std.proofs.Common.{◌≡◌, ℕ, List, [], ◌∷◌, ◌++◌, refl, ap, ◌∙◌, Bool, true, false, not, None}
+use Rattle.std.proofs.Math.Bool.{or-false}
 use Rattle.std.specs.Prelude.{◌||◌, is_none, is_some}
 use Rattle.std.specs.FinMap.{get, contains_key}
 use Rattle.std.specs.List.{list_any}
@@ -16,10 +17,6 @@ use Rattle.h5_model.specs.declared.edit_fault.EditFault.{EditFault}
 use Rattle.h5_model.specs.declared.edit_fault.EditFault.TheVariants as fault
 use Rattle.h5_edit.specs.Refusals.Rules.{path_faults, path_fault, is_new_fault, is_object_fault, is_text_fault, lower_of, own_rules, spec_rules, number_rules}
 use Rattle.h5_edit.proofs.RuleLaws.FaultLaws.{behind, found_behind, lower_first}
-
-pub or_false : (b : Bool) → (b || false) ≡ b
-or_false true = refl
-or_false false = refl
 
 -- the rules of an edit's paths, names and text, as the table asks them
 abbrev asked : Tree → Edit → EditFault → Bool
@@ -40,7 +37,7 @@ module _ (tree : Tree) (next : ℕ) (path : List ℕ) where
   unfolding refusal_of
   group_table =
       found_behind path_faults (asked tree (CreateGroup path)) (is_new_fault tree path) (first_holding (number_rules next))
-      (simp or_false, (simp or_false, (simp or_false, (simp or_false, (simp or_false, (refl, (simp or_false, (simp or_false, tt))))))))
+      (simp or-false, (simp or-false, (simp or-false, (simp or-false, (simp or-false, (refl, (simp or-false, (simp or-false, tt))))))))
 
   module _ (spec : Spec) where
     abbrev array_rules : List (EditFault × Bool)
@@ -50,7 +47,7 @@ module _ (tree : Tree) (next : ℕ) (path : List ℕ) where
     unfolding refusal_of
     array_table =
         found_behind path_faults (asked tree (CreateDataset path spec)) (is_new_fault tree path) (first_holding array_rules)
-        (simp or_false, (simp or_false, (simp or_false, (simp or_false, (simp or_false, (refl, (simp or_false, (simp or_false, tt))))))))
+        (simp or-false, (simp or-false, (simp or-false, (simp or-false, (simp or-false, (refl, (simp or-false, (simp or-false, tt))))))))
 
   -- ---- new links
 
@@ -63,7 +60,7 @@ module _ (tree : Tree) (next : ℕ) (path : List ℕ) where
     unfolding refusal_of
     hard_table =
         found_behind path_faults (asked tree (HardLink target path)) (λ f. is_object_fault tree target f || is_new_fault tree path f) (first_holding target_asked)
-        (simp or_false, (simp or_false, (simp or_false, (simp or_false, (simp or_false, (refl, (simp or_false, (simp or_false, tt))))))))
+        (simp or-false, (simp or-false, (simp or-false, (simp or-false, (simp or-false, (refl, (simp or-false, (simp or-false, tt))))))))
         ∙ ap (λ o. behind o (first_holding target_asked)) (lower_first (is_object_fault tree target) (is_new_fault tree path))
 
   module _ (text : List ℕ) where
@@ -71,7 +68,7 @@ module _ (tree : Tree) (next : ℕ) (path : List ℕ) where
     unfolding refusal_of
     soft_table =
         found_behind path_faults (asked tree (SoftLink text path)) (λ f. is_text_fault text f || is_new_fault tree path f) None
-        (turned (is_none (names_of path)) _, (simp or_false, (simp or_false, (simp or_false, (simp or_false, (refl, (simp or_false, (refl, tt))))))))
+        (turned (is_none (names_of path)) _, (simp or-false, (simp or-false, (simp or-false, (simp or-false, (refl, (simp or-false, (refl, tt))))))))
         ∙ ap (λ o. behind o None) (lower_first (is_text_fault text) (is_new_fault tree path)) where
           turned : (a b : Bool) → ((a || false) || b) ≡ (b || a)
           turned true true = refl
@@ -88,7 +85,7 @@ module _ (tree : Tree) (next : ℕ) (path : List ℕ) where
   unfolding refusal_of
   set_table attr =
       found_behind object_faults (asked tree (SetAttr path attr)) (is_object_fault tree path) (first_holding (own_rules attr))
-      (simp or_false, (simp or_false, (refl, (simp or_false, (simp or_false, (simp or_false, tt))))))
+      (simp or-false, (simp or-false, (refl, (simp or-false, (simp or-false, (simp or-false, tt))))))
 
   module _ (name : List ℕ) where
     abbrev pub lacks : Object → Bool
@@ -101,7 +98,7 @@ module _ (tree : Tree) (next : ℕ) (path : List ℕ) where
     unfolding refusal_of
     remove_table =
         found_behind object_faults (asked tree (RemoveAttr path name)) (is_object_fault tree path) (first_holding missing_rules)
-        (simp or_false, (simp or_false, (refl, (simp or_false, (simp or_false, (simp or_false, tt))))))
+        (simp or-false, (simp or-false, (refl, (simp or-false, (simp or-false, (simp or-false, tt))))))
 
 -- ---- the path of an object
 

@@ -12,7 +12,7 @@ use Rattle.h5_model.specs.declared.edits.Edit.TheVariants.{CreateGroup, CreateDa
 use Rattle.h5_model.specs.declared.edit_fault.EditFault.{EditFault}
 use Rattle.h5_model.specs.declared.edit_fault.EditFault.TheVariants as fault
 use Rattle.h5_query.specs.Place.{PathLeadsTo, IsNoObject}
-use Rattle.h5_query.proofs.RuleLaws.{first-behind}
+use Rattle.h5_query.proofs.RuleLaws.{first-behind, first-found}
 use Rattle.h5_edit.specs.declared.rules.place.NewPlace.{NewPlace}
 use Rattle.h5_edit.specs.Refusals.Allowed.{IsPlaceAllowed, IsLinkPlaced, IsAt, IsRuledOut}
 use Rattle.h5_edit.specs.Refusals.Rules.{path_fault, is_new_fault, is_object_fault, is_text_fault, lower_of, lower_fault, IsFreePlace, IsNotFree, own_rules, spec_rules, number_rules, target_rules}
@@ -27,11 +27,6 @@ used_up next many = rw many refl
 
 left_over : (next : ℕ) → nat_le 4294967295 next ≡ false → first_holding (number_rules next) ≡ None
 left_over next few = rw few refl
-
-first_kept : (rules others : List (EditFault × Bool)) (e : EditFault) → first_holding rules ≡ Some e → first_holding (rules ++ others) ≡ Some e
-first_kept [] others e h = absurd (cc)
-first_kept ((f, true) ∷ rules) others e h = h
-first_kept ((f, false) ∷ rules) others e h = first_kept rules others e h
 
 module _ (tree : Tree) (next : ℕ) (path : List ℕ) where
   -- ---- new groups
@@ -63,7 +58,7 @@ module _ (tree : Tree) (next : ℕ) (path : List ℕ) where
       array_behind = array_table tree next path spec ∙ ap (λ o. behind o (first_holding array_rules)) free.allowed
 
       pub spec_refused : (e : EditFault) → first_holding (spec_rules spec) ≡ Some e → IsRuledOut tree next (CreateDataset path spec) e
-      spec_refused e h = array_behind ∙ first_kept (spec_rules spec) (number_rules next) e h
+      spec_refused e h = array_behind ∙ first-found (spec_rules spec) (number_rules next) e h
 
       module _ (allowed : first_holding (spec_rules spec) ≡ None) where
         numbered : refusal_of tree next (CreateDataset path spec) ≡ first_holding (number_rules next)

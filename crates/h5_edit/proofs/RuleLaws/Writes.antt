@@ -1,5 +1,6 @@
 -- Why a write is refused, or that it is not: by its path, its selection and its values.
 use Rattle.std.proofs.Common.{◌≡◌, ◌≢◌, ℕ, ◌-◌, ◌^◌, min, ◌≤◌, List, [], ◌∷◌, ◌++◌, length, refl, sym, ap, ◌∙◌, Bool, true, false, not, Option, Some, None, arith}
+use Rattle.std.proofs.Math.Bool.{or-false}
 use Rattle.std.proofs.lemmas.Bool.Decides.{nat_tests}
 use Rattle.std.specs.Prelude.{ℤ, ◌==◌, if◌then◌else◌}
 use Rattle.std.specs.List.{list_all, list_any}
@@ -17,7 +18,6 @@ use Rattle.h5_model.specs.declared.hyperslab.Hyper.{Hyper}
 use Rattle.h5_query.proofs.RuleLaws.{first-behind, first-found}
 use Rattle.h5_query.specs.Selected.{hyper_rules}
 use Rattle.h5_edit.specs.Refusals.Rules.{value_rules}
-use Rattle.h5_edit.proofs.RuleLaws.TableLaws.{or_false}
 
 -- ---- the table
 
@@ -35,7 +35,7 @@ module _ (tree : Tree) (next : ℕ) (path : List ℕ) (hyper : Hyper) (values : 
 
   write_table : refusal_of tree next (Write path hyper values) ≡ first_holding (dataset_rules tree path ++ asked_of (dataset_at tree path))
   unfolding refusal_of
-  write_table = simp or_false
+  write_table = simp or-false
 
   pub write_refused : (e : EditFault) → first_holding (dataset_rules tree path) ≡ Some e → refusal_of tree next (Write path hyper values) ≡ Some e
   write_refused e h = write_table ∙ first-found (dataset_rules tree path) (asked_of (dataset_at tree path)) e h

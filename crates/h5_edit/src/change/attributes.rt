@@ -5,56 +5,46 @@ ghost use Rattle.std.specs.Prelude.{◌≡◌, ◌≤◌, ◌==◌, ◌||◌, le
 ghost use Rattle.std.specs.List.{AllByRecursion};
 ghost use Rattle.std.specs.FinMap.{empty};
 ghost use Rattle.h5_model.specs.Format.MessageTypes.{comment_kind, old_modification_time_kind, modification_time_kind};
+ghost use Rattle.h5_model.specs.Format.Reads.{HasAttributes};
 ghost use Rattle.h5_model.specs.Tree.Objects.{Content, Group};
-ghost use Rattle.h5_header.specs.Listed.{messages_in, IsWithin};
-ghost use Rattle.h5_query.specs.Opened.Headers.{IsHeaderKept, object_with};
+ghost use Rattle.h5_query.specs.Attributes.{attributes_of};
+ghost use Rattle.h5_query.specs.Opened.Headers.{object_with};
 ghost use Rattle.h5_repack.specs.Bodies.Bodies.{others_of};
 ghost use Rattle.h5_repack.specs.Bodies.Sound.{IsPlainAttribute, IsPlainKept, IsPlainObject};
 ghost use Rattle.h5_repack.specs.Blocks.Written.{AreOthers};
 ghost use Rattle.h5_edit.specs.Changed.Appended.{Appends, HasPlaces, attribute_messages, kept_in, kept_messages};
 
 use crate::change::parts::part_of;
-use h5_header::{Message, Messages};
+use h5_header::HeaderRef;
 use h5_model::message_type::{COMMENT, MODIFICATION_TIME, OLD_MODIFICATION_TIME};
 use h5_query::{AttrRef, sorted};
 use h5_repack::Others;
-use h5_space::Image;
 use std::alloc::{AllocError, Global};
 
 /// The kept messages of a header in their order, and then its attributes by their names.
-pub(crate) fn others_in(
-    alloc: Global,
-    image: &Image,
-    messages: &Messages,
-) -> Result<Others, AllocError>
-    requires kept { IsHeaderKept image.now.bytes messages.now }
-    requires plain { IsPlainObject
-        (object_with (Group empty) (messages_in image.now.bytes messages.now.list)) }
-    requires few { length
-        (others_of (object_with (Group empty) (messages_in image.now.bytes messages.now.list)))
-        ≤ 65535 }
+pub(crate) fn others_in(alloc: Global, header: &HeaderRef<'_>) -> Result<Others, AllocError>
+    requires attributes { HasAttributes header.now.messages (attributes_of header.now.messages) }
+    requires plain { IsPlainObject (object_with (Group empty) header.now.messages) }
+    requires few { length (others_of (object_with (Group empty) header.now.messages)) ≤ 65535 }
     ensures { IfOk result (λ others. (content : Content)
-        → AreOthers (others_of (object_with content (messages_in image.now.bytes messages.now.list)))
-        others) }
+        → AreOthers (others_of (object_with content header.now.messages)) others) }
 {
     let mut others = Others::new(alloc);
-    push_kept(&mut others, image, messages.list())?;
-    let attributes = sorted(alloc, image, messages)?;
+    push_kept(&mut others, header)?;
+    let attributes = sorted(alloc, header)?;
     push_all(&mut others, &attributes)?;
     Ok(others)
 }
 
 /// Appends the kept messages.
-fn push_kept(others: &mut Others, image: &Image, list: &[Message]) -> Result<(), AllocError>
-    requires within { IsWithin (length image.now.bytes) list.now }
-    requires plain { AllByRecursion IsPlainKept (kept_in (messages_in image.now.bytes list.now)) }
-    requires few { HasPlaces others.old (length (kept_messages (messages_in image.now.bytes list.now))) }
-    ensures { OnOk result
-        (Appends others.old others.new (kept_messages (messages_in image.now.bytes list.now))) }
+fn push_kept(others: &mut Others, header: &HeaderRef<'_>) -> Result<(), AllocError>
+    requires plain { AllByRecursion IsPlainKept (kept_in header.now.messages) }
+    requires few { HasPlaces others.old (length (kept_messages header.now.messages)) }
+    ensures { OnOk result (Appends others.old others.new (kept_messages header.now.messages)) }
 {
-    for message in list {
+    for message in header.list() {
         if is_kept(message.kind) {
-            let body = part_of(image.bytes(), message.at, message.size as u64);
+            let body = part_of(header.bytes(), message.at, message.size as u64);
             others.push_kept(message.kind, body)?;
         }
     }

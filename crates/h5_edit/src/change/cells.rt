@@ -1,7 +1,6 @@
 //! Arrays of an opened image, as they are to be written (File Format Specification 3.0, sections IV.A.2.d and IV.A.2.i).
 
 ghost use Rattle.std.specs.Prelude.{◌≡◌, IfOk};
-ghost use Rattle.h5_header.specs.Listed.{messages_in};
 ghost use Rattle.h5_model.specs.Tree.Objects.{Array};
 ghost use Rattle.h5_query.specs.Data.{AreDataRead};
 ghost use Rattle.h5_query.specs.Kept.{IsArrayKept, array_dataset};
@@ -10,7 +9,7 @@ ghost use Rattle.h5_repack.specs.declared.blocks.cells.Cells.TheVariants.{Stored
 ghost use Rattle.h5_edit.specs.Changed.Cells.{AreCellsKept, AreChunksKept};
 ghost use Rattle.h5_edit.specs.Fits.Laws.{AreBytes};
 
-use h5_header::Messages;
+use h5_header::HeaderRef;
 use h5_layout::HeldChunks;
 use h5_query::{ArrayRef, Layout, known_array};
 use h5_repack::{Cells, NewContent};
@@ -22,17 +21,16 @@ use std::alloc::{AllocError, Global};
 /// Takes memory for the place of each chunk.
 pub(crate) fn kept_array<'a>(
     alloc: Global,
-    image: &'a Image,
-    messages: &Messages,
+    header: &HeaderRef<'a>,
 ) -> Result<NewContent<'a>, AllocError>
-    requires { IsArrayKept image.now.bytes messages.now }
+    requires { IsArrayKept header.now }
     ensures array { IfOk result (λ content. IsNewContent content
-        (Array (array_dataset image.now.bytes (messages_in image.now.bytes messages.now.list)))) }
-    ensures chunks { let ms = messages_in image.now.bytes messages.now.list in
-        IfOk result (AreChunksKept image.now.bytes ms (array_dataset image.now.bytes ms)) }
+        (Array (array_dataset header.now.image header.now.messages))) }
+    ensures chunks { let h = header.now in
+        IfOk result (AreChunksKept h.image h.messages (array_dataset h.image h.messages)) }
 {
-    let array = known_array(image, messages);
-    let cells = kept_cells(alloc, image, &array)?;
+    let array = known_array(header);
+    let cells = kept_cells(alloc, header.image(), &array)?;
     Ok(NewContent::Array { array, cells })
 }
 

@@ -12,6 +12,7 @@ ghost use Rattle.h5_edit.specs.StoredChunks.{AreChunksOf, AreStoredAfter, AreSto
 use crate::change::attributes::others_in;
 use crate::change::cells::kept_array;
 use crate::change::links::links_in;
+use h5_header::HeaderRef;
 use h5_query::{Opened, OpenedContent, OpenedObject};
 use h5_repack::{NewContent, NewObject};
 use std::alloc::{AllocError, Global};
@@ -58,7 +59,7 @@ fn opened_slot(
 fn opened_object<'a>(
     alloc: Global,
     opened: &'a Opened,
-    object: &OpenedObject,
+    object: &'a OpenedObject,
 ) -> Result<NewObject<'a>, AllocError>
     requires object { (number : ℕ) × IsObjectOf opened.now number object.now }
     requires plain { IsPlain (object_in opened.now.image opened.now.table object.now) }
@@ -69,11 +70,11 @@ fn opened_object<'a>(
         → AreChunksOf opened.now (object_in opened.now.image opened.now.table object.now)
         object.now.messages.header (content_chunks x.content)) }
 {
-    let image = opened.image();
-    let others = others_in(alloc, image, &object.messages)?;
+    let header = HeaderRef::new(opened.image(), &object.messages);
+    let others = others_in(alloc, &header)?;
     let content = match &object.content {
         OpenedContent::Group(table) => NewContent::Group(links_in(alloc, opened, *table)?),
-        OpenedContent::Array => kept_array(alloc, image, &object.messages)?,
+        OpenedContent::Array => kept_array(alloc, &header)?,
     };
     Ok(NewObject { content, others })
 }

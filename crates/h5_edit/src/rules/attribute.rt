@@ -14,6 +14,7 @@ use crate::rules::limits::{MAX_BODY, MAX_NAME};
 use crate::rules::place::{ObjectAt, object_at};
 use crate::rules::text::is_no_text;
 use crate::rules::values::are_of_type;
+use h5_header::HeaderRef;
 use h5_model::{AttrSpec, EditFault};
 use h5_query::{Dims, Opened, get};
 
@@ -71,7 +72,7 @@ pub fn check_remove_attr(opened: &Opened, path: &[u8], name: &[u8]) -> Result<u3
         object,
         image,
     } = object_at(opened, path)?;
-    match get(image, &object.messages, name) {
+    match get(&HeaderRef::new(image, &object.messages), name) {
         Some(_) => Ok(number),
         None => Err(EditFault::NoSuchAttribute),
     }

@@ -217,11 +217,16 @@ impl Session {
 
 /// Lets the open views follow an edit that was carried out on the file, of which these cells were touched. The answer then tells how many
 /// boxes were patched.
-fn follow(file: &File, views: &mut OpenViews, edited: Edited, touched: Option<Touched>) -> Edited
+fn follow(
+    file: &File,
+    views: &mut OpenViews,
+    edited: Edited,
+    touched: Option<Touched<'_>>,
+) -> Edited
     requires { (before : FileState) × (edit : TheEdit) × (next : ℕ)
         × IsToFollow before file.now views.old next edit touched edited }
     ensures { (before : FileState) (edit : TheEdit) (next : ℕ)
-        → IsToFollow before file.now views.old next edit touched edited
+        → IsToFollow before file.now views.old next edit touched.entry edited
         → HaveFollowed before file.now views.old views.new next edit result }
 {
     let Some(touched) = touched else {

@@ -5,11 +5,7 @@ use Rattle.std.proofs.lemmas.Bool.Decides.{nat_tests}
 use Rattle.h5_bytes.specs.Bytes.{byte_at}
 use Rattle.h5_bytes.specs.Texts.{text_at, until_zero, pad8}
 use Rattle.h5_heap.specs.Spans.{IsSpan}
-
-empty_text : (segment : List ℕ) → byte_at segment 0 ≡ 0 → text_at segment 0 ≡ []
-unfolding text_at
-empty_text [] zero_is = refl
-empty_text (b ∷ bs) zero_is = let first : (b == 0) ≡ true = grind (arith, nat_tests, zero_is) in rw first refl
+use Rattle.h5_heap.proofs.RefusedLaws.{empty_text}
 
 text_empty : (segment : List ℕ) → text_at segment 0 ≡ [] → byte_at segment 0 ≡ 0
 unfolding text_at

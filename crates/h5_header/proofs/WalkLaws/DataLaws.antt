@@ -66,7 +66,7 @@ block_layout sizes size body b is = go (nat_le 2 (length body) && byte_at body 0
 -- ---- the field that names the block
 
 module _ (image : List ℕ) (header : ℕ) (ms : List Message) (blocks : List Block) (has : HasMessages image header ms blocks) (inside : Inside (length image) blocks)
-    (m : Message) (first : find (λ (x : Message). x.kind == 8) ms ≡ Some m) (t : Fixed) (e : Extent) (b : Block)
+    (m : Message) (first : find (λ (x : Message). x.kind == data_layout_kind) ms ≡ Some m) (t : Fixed) (e : Extent) (b : Block)
     (extent : extent_among ms ≡ Some e) (type : type_among ms ≡ Some t) (layout : layout_among ms ≡ Some (InBlock (Some b))) where
   laid_out : layout_of e.sizes t.size m.body ≡ Some (InBlock (Some b))
   laid_out =

@@ -5,6 +5,7 @@ use Rattle.std.specs.List.{AllByRecursion, find}
 use Rattle.h5_bytes.specs.Blocks.{holds, cover, Separate}
 use Rattle.h5_bytes.specs.declared.Block.{Block}
 use Rattle.h5_bytes.proofs.BlockLaws.{holds_in, all_append}
+use Rattle.h5_model.specs.Format.MessageTypes.{continuation_kind}
 use Rattle.h5_model.specs.Format.Messages.{Message, HasMessages}
 use Rattle.h5_model.specs.Format.Reached.{Named, naming_of, ObjectHeader, Reached}
 use Rattle.h5_model.specs.Faults.Breaches.{is_header}
@@ -31,7 +32,7 @@ module _ (image : List ℕ) (held : List Block) (followed : List Named) (field h
     met_walked = header_walked image held followed is.walked field header depth (is.met).reached others (is.met).behind (is.met).stands ms blocks has now claimed
 
     -- a place inside the first message of a type other than a Continuation's
-    module _ (separate : Separate now) (k : ℕ) (m : Message) (other : (k == 16) ≡ false) (first : find (λ (x : Message). x.kind == k) ms ≡ Some m)
+    module _ (separate : Separate now) (k : ℕ) (m : Message) (other : (k == continuation_kind) ≡ false) (first : find (λ (x : Message). x.kind == k) ms ≡ Some m)
         (f : ℕ) (from : m.at ≤ f) (to : f < m.at + 8 + length m.body) where
       low : AllByRecursion (λ (x : Message). 8 ≤ x.at) ms
       low = all_low image header ms (messages_placed image header ms blocks has)

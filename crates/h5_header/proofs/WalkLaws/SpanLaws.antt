@@ -10,6 +10,7 @@ use Rattle.h5_bytes.specs.Blocks.{block, holds, cover}
 use Rattle.h5_bytes.specs.declared.Block.{Block}
 use Rattle.h5_bytes.proofs.PartLaws.{length-part}
 use Rattle.h5_bytes.proofs.BlockLaws.{holds_in, holds_join, holds-inner, cover-append, all_append}
+use Rattle.h5_model.specs.Format.MessageTypes.{continuation_kind}
 use Rattle.h5_model.specs.Format.Messages.{Message, Fills, FillBlocks, HasMessages, continuation, continuations, first_block, prefix_at, first_size}
 use Rattle.h5_model.specs.Format.Reached.{Named, naming_of, Continuation}
 use Rattle.h5_header.proofs.MetLaws.{length-part-le}
@@ -100,7 +101,7 @@ module _ (header depth f : ℕ) where
   ] is
 
   -- a place inside the first message of a type other than a Continuation's is the field of none
-  pub inside_apart : (k : ℕ) (ms : List Message) (m : Message) → (k == 16) ≡ false → AllByRecursion (λ (x : Message). 8 ≤ x.at) ms → ((q : ℕ) → cover q (map span_of ms) ≤ 1)
+  pub inside_apart : (k : ℕ) (ms : List Message) (m : Message) → (k == continuation_kind) ≡ false → AllByRecursion (λ (x : Message). 8 ≤ x.at) ms → ((q : ℕ) → cover q (map span_of ms) ≤ 1)
       → find (λ (x : Message). x.kind == k) ms ≡ Some m → m.at ≤ f → f < m.at + 8 + length m.body → 8 ≤ m.at → AllByRecursion IsApart (continuation_fields header depth ms)
   inside_apart k [] m other low once is from to least = tt
   inside_apart k (x ∷ ms) m other low once is from to least =
@@ -111,8 +112,8 @@ module _ (header depth f : ℕ) where
             let is_x : x ≡ m = same_Some x m e in
             let hit_x : holds q (x.at - 8) (8 + length x.body) ≡ 1 = subst (λ (y : Message). holds q (y.at - 8) (8 + length y.body) ≡ 1) (sym is_x) hit in
             let kind : x.kind ≡ k = grind (arith, nat_tests, same) in
-            let not_16 : (x.kind == 16) ≡ false = rw kind other in
-            let names_none : continuation x ≡ [] = rw not_16 refl in
+            let no_continuation : (x.kind == continuation_kind) ≡ false = rw kind other in
+            let names_none : continuation x ≡ [] = rw no_continuation refl in
             rw names_none (none_there ms low.1 (omega (arith, once q, hit_x)))
         | false ↦ λ same e.
             let rest = found_covers k q ms m e in

@@ -1,9 +1,9 @@
 -- One path alone leads to a group, since one link alone names it: how many names lead to it is known.
 use Rattle.std.proofs.Common.{◌≡◌, ℕ, zero, suc, ◌≤◌, List, [], ◌∷◌, ◌++◌, length, length-append, refl, sym, ap, ◌∙◌, subst, Some, inl, inr, arith}
+use Rattle.std.proofs.lemmas.Bool.{cases_eq}
 use Rattle.std.specs.Prelude.{IsSome}
 use Rattle.h5_model.specs.Tree.Objects.{Tree, ToObject, links_of, link_in, follow, hard_links}
 use Rattle.h5_laws.proofs.Objects.{follow-more}
-use Rattle.h5_laws.proofs.SoundLaws.Inserted.{same_number_or_other}
 use Rattle.h5_laws.proofs.SoundLaws.Counts.{one_parent, link_counts}
 use Rattle.h5_laws.proofs.SoundLaws.LinksThere.{holds_links}
 
@@ -41,7 +41,7 @@ module _ (tree : Tree) where
         absurd (omega (arith, top, link_counts tree 0 parent name (is ∙ ap (λ (n : ℕ). Some (ToObject n)) d)))
     one_depth (suc k) zero number group (parent, name, above, is) e =
         absurd (omega (arith, top, link_counts tree 0 parent name (is ∙ ap (λ (n : ℕ). Some (ToObject n)) e)))
-    one_depth (suc k) (suc m) number group (a, x, above, is) (b, y, above', is') = elim (same_number_or_other b a) [
+    one_depth (suc k) (suc m) number group (a, x, above, is) (b, y, above', is') = elim (cases_eq b a) [
       | inl same ↦ ap suc (one_depth k m a (holds_links tree a x (ToObject number) is) above (subst (Depth tree m) same above'))
       | inr other ↦ absurd (one_parent tree number a b x y (single number group) is is' other)
     ]

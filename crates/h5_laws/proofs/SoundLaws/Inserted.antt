@@ -1,5 +1,6 @@
 -- What a map looks up after one entry is put.
 use Rattle.std.proofs.Common.{◌≡◌, ℕ, Bool, true, false, cond, List, refl, sym, ap, ◌∙◌, subst, Option, Some, None, ◌⊎◌, inl, inr}
+use Rattle.std.proofs.lemmas.Bool.{cases_eq}
 use Rattle.std.specs.Ordering.{nat_cmp, is_eq, eq_by_cmp}
 use Rattle.std.specs.declared.cmp.Ordering.{Ordering}
 use Rattle.std.specs.Cmp.{IsTotalOrder, Equal-is, tied_itself, nat_cmp_total}
@@ -46,9 +47,6 @@ module _ {K : Type 0} {R : K → K → Ordering} (o : IsTotalOrder R) (same : Is
 
 -- ---- keys that are numbers, and keys that are names
 
-pub same_number_or_other : (q k : ℕ) → (q ≡ k) ⊎ (q ≡ k → ⊥)
-same_number_or_other q k = same_key_or_other nat_cmp_total nat_cmp-IsAntisymmetric q k
-
 pub number_here : {X : Type 0} (m : FinMap nat_cmp X) (k : ℕ) (v : X) → get (insert m k v) k ≡ Some v
 number_here m k v = insert_here nat_cmp_total nat_cmp-IsAntisymmetric m k v
 
@@ -70,7 +68,7 @@ name_other m k v q other = insert_other nat_list_cmp_total names_differ m k v q 
 -- what is so of the two values at this number, and of any value and itself, is so at each number
 pub put_cases : {X : Type 0} (m : FinMap nat_cmp X) (number : ℕ) (old new : X) → get m number ≡ Some old → (P : Option X → Option X → Type 0) → P (Some new) (Some old)
     → ((x : Option X) → P x x) → (n : ℕ) → P (get (insert m number new) n) (get m n)
-put_cases {X = X} m number old new stands P changed same n = elim (same_number_or_other n number) [
+put_cases {X = X} m number old new stands P changed same n = elim (cases_eq n number) [
   | inr other ↦ subst (λ (x : Option X). P x (get m n)) (sym (number_other m number new n other)) (same (get m n))
   | inl here ↦
       let there : P (Some new) (get m number) = subst (P (Some new)) (sym stands) changed in

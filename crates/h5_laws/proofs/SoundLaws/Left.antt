@@ -1,7 +1,7 @@
 -- What is left of a sound tree without a link: an object goes where it loses all its hard links, as each group does to which a path leads
 -- from the link.
 use Rattle.std.proofs.Common.{◌≡◌, ℕ, zero, suc, ◌+◌, ◌≤◌, ◌<◌, Bool, true, false, cond, List, [], ◌∷◌, ◌++◌, length, length-append, refl, sym, ap, ◌∙◌, subst, Option, Some, None, inl, inr, arith}
-use Rattle.std.proofs.lemmas.Bool.{cases_lt, or_cases}
+use Rattle.std.proofs.lemmas.Bool.{cases_eq, cases_lt, or_cases}
 use Rattle.std.specs.Prelude.{IsSome, is_some, ◌==◌, ◌↔◌}
 use Rattle.std.specs.Option.{option_and_then}
 use Rattle.std.specs.Ordering.{nat_cmp, eq_by_cmp}
@@ -150,7 +150,7 @@ module _ (tree : Tree) (parent : ℕ) (name : List ℕ) (link : Link) (numbers :
 
       -- a link that is left to an object that goes is one of an object that goes
       from_gone : (n a : ℕ) (x : List ℕ) → IsGone n → link_in rest a x ≡ Some (ToObject n) → IsGone a
-      from_gone n a x gone is = elim (in_or_out a numbers) [
+      from_gone n a x gone is = elim (in_or_out cases_eq a numbers) [
         | inl at ↦ (at, groups_go a at (holds_links tree a x (ToObject n) (w.fewer.links a x (ToObject n) is)))
         | inr out ↦
             let all = all_theirs n gone.1 in
@@ -207,7 +207,7 @@ module _ (tree : Tree) (parent : ℕ) (name : List ℕ) (link : Link) (numbers :
           (path.0 ++ named.1 ∷ [], follow-more rest (ToObject 0) (ToObject n) path.0 named.1 named.0 path.1 named.3)
 
       still_led : (n : ℕ) → (IsGone n → ⊥) → IsSome (get tree n) → IsLed n
-      still_led n alive some = elim (in_or_out n numbers) [
+      still_led n alive some = elim (in_or_out cases_eq n numbers) [
         | inr out ↦ others_led n out some
         | inl at ↦ elim (cases_lt (lost_links tree link numbers n) (hard_links tree n)) [
           | inl low ↦ by_another n low
@@ -241,13 +241,13 @@ module _ (tree : Tree) (parent : ℕ) (name : List ℕ) (link : Link) (numbers :
       same_out k out = stays k (λ gone. out gone.0) ∙ sym (emptied_other rest numbers k out)
 
       no_more : (n k : ℕ) (o : Object) → get left k ≡ Some o → links_to n o.content ≤ held (emptied rest numbers) n k
-      no_more n k o is = elim (in_or_out k numbers) [
+      no_more n k o is = elim (in_or_out cases_eq k numbers) [
         | inl at ↦ omega (arith, bare n k o at is)
         | inr out ↦ let same = ap (weight (λ (p : Object). links_to n p.content)) (sym (same_out k out) ∙ is) in omega (arith, same)
       ]
 
       no_fewer : (n k : ℕ) (o : Object) → get (emptied rest numbers) k ≡ Some o → links_to n o.content ≤ held left n k
-      no_fewer n k o is = elim (in_or_out k numbers) [
+      no_fewer n k o is = elim (in_or_out cases_eq k numbers) [
         | inl at ↦
             let none = ap (weight (λ (p : Object). links_to n p.content)) (sym (emptied_here rest numbers k at) ∙ is) in
             omega (arith, none, no_links n)

@@ -1,5 +1,6 @@
 -- The tree with a link more in one of its groups, and with the object that the link names.
 use Rattle.std.proofs.Common.{◌≡◌, ℕ, ◌+◌, true, false, List, refl, sym, ap, ◌∙◌, subst, Option, Some, None, ◌⊎◌, inl, inr, arith}
+use Rattle.std.proofs.lemmas.Bool.{cases_eq}
 use Rattle.std.specs.Prelude.{IsSome, is_some}
 use Rattle.std.specs.Option.{option_and_then}
 use Rattle.std.specs.FinMap.{get, insert}
@@ -7,7 +8,7 @@ use Rattle.h5_model.specs.Edits.Applied.{with_links}
 use Rattle.h5_model.specs.Tree.Objects.{Tree, Object, Content, Group, Links, Link, ToObject, links_in, links_of, link_in, links_to, hard_links}
 use Rattle.h5_laws.proofs.SoundLaws.Counts.{adds, more_links, object_put}
 use Rattle.h5_laws.proofs.SoundLaws.Grown.{IsGrown}
-use Rattle.h5_laws.proofs.SoundLaws.Inserted.{same_number_or_other, same_name_or_other, number_here, number_other, name_here, name_other}
+use Rattle.h5_laws.proofs.SoundLaws.Inserted.{same_name_or_other, number_here, number_other, name_here, name_other}
 use Rattle.h5_laws.proofs.SoundLaws.LinksThere.{GroupAt, links_are, link_is}
 use Rattle.h5_laws.proofs.SoundLaws.Sums.{weight}
 
@@ -65,7 +66,7 @@ module _ (tree : Tree) (parent : ℕ) (name : List ℕ) (link : Link) (g : Group
   name_free = link_is tree parent g name ∙ free
 
   old : (n : ℕ) (x : List ℕ) (l : Link) → link_in tree n x ≡ Some l → link_in one_more n x ≡ Some l
-  old n x l is = elim (same_number_or_other n parent) [
+  old n x l is = elim (cases_eq n parent) [
     | inr other ↦ same_link n x other ∙ is
     | inl here ↦ elim (same_name_or_other x name) [
       | inr other ↦ ap (λ (k : ℕ). link_in one_more k x) here ∙ other_name x other ∙ ap (λ (k : ℕ). link_in tree k x) (sym here) ∙ is
@@ -76,7 +77,7 @@ module _ (tree : Tree) (parent : ℕ) (name : List ℕ) (link : Link) (g : Group
   ]
 
   only : (n : ℕ) (x : List ℕ) (l : Link) → link_in one_more n x ≡ Some l → (link_in tree n x ≡ Some l) ⊎ ((n ≡ parent) × (x ≡ name) × (l ≡ link))
-  only n x l is = elim (same_number_or_other n parent) [
+  only n x l is = elim (cases_eq n parent) [
     | inr other ↦ inl (sym (same_link n x other) ∙ is)
     | inl here ↦ elim (same_name_or_other x name) [
       | inr other ↦ inl (ap (λ (k : ℕ). link_in tree k x) here ∙ sym (other_name x other) ∙ ap (λ (k : ℕ). link_in one_more k x) (sym here) ∙ is)
@@ -106,14 +107,14 @@ module _ (tree : Tree) (parent : ℕ) (name : List ℕ) (link : Link) (g : Group
     groups = groups;
   } where
     objects : (n : ℕ) → is_some (get one_more n) ≡ is_some (get tree n)
-    objects n = elim (same_number_or_other n parent) [
+    objects n = elim (cases_eq n parent) [
       | inr other ↦ ap (λ (o : Option Object). is_some o) (number_other tree parent changed n other)
       | inl here ↦ ap (λ (k : ℕ). is_some (get one_more k)) here ∙ ap (λ (o : Option Object). is_some o) (number_here tree parent changed)
           ∙ sym (ap (λ (o : Option Object). is_some o) g.stands) ∙ ap (λ (k : ℕ). is_some (get tree k)) (sym here)
     ]
 
     groups : (n : ℕ) → is_some (links_of one_more n) ≡ is_some (links_of tree n)
-    groups n = elim (same_number_or_other n parent) [
+    groups n = elim (cases_eq n parent) [
       | inr other ↦ ap (λ (o : Option Links). is_some o) (same_links n other)
       | inl here ↦ ap (λ (k : ℕ). is_some (links_of one_more k)) here ∙ ap (λ (o : Option Links). is_some o) (links_are one_more parent after)
           ∙ sym (ap (λ (o : Option Links). is_some o) (links_are tree parent g)) ∙ ap (λ (k : ℕ). is_some (links_of tree k)) (sym here)
@@ -149,7 +150,7 @@ module _ (tree linked : Tree) (parent : ℕ) (name : List ℕ) (number : ℕ) (o
 
   -- the new object has no link, as none stood there
   alike : (n : ℕ) (x : List ℕ) → link_in with_new n x ≡ link_in linked n x
-  alike n x = elim (same_number_or_other n number) [
+  alike n x = elim (cases_eq n number) [
     | inr other ↦ ap (option_and_then (λ (links : Links). get links x)) (ap (option_and_then (λ (p : Object). links_in p.content)) (number_other linked number o n other))
     | inl here ↦
         let now : link_in with_new number x ≡ None
@@ -190,25 +191,25 @@ module _ (tree linked : Tree) (parent : ℕ) (name : List ℕ) (number : ℕ) (o
     new_group = new_group;
   } where
     kept : (n : ℕ) → IsSome (get tree n) → IsSome (get with_new n)
-    kept n some = elim (same_number_or_other n number) [
+    kept n some = elim (cases_eq n number) [
       | inr other ↦ ap (λ (x : Option Object). is_some x) (number_other linked number o n other) ∙ is.objects n ∙ some
       | inl here ↦ subst (λ (k : ℕ). IsSome (get with_new k)) (sym here) new_stands
     ]
 
     got : (n : ℕ) → IsSome (get with_new n) → IsSome (get tree n) ⊎ (ToObject number ≡ ToObject n)
-    got n some = elim (same_number_or_other n number) [
+    got n some = elim (cases_eq n number) [
       | inr other ↦ inl (sym (is.objects n) ∙ sym (ap (λ (x : Option Object). is_some x) (number_other linked number o n other)) ∙ some)
       | inl here ↦ inr (ap (λ (k : ℕ). ToObject k) (sym here))
     ]
 
     groups : (n : ℕ) → IsSome (links_of tree n) → IsSome (links_of with_new n)
-    groups n some = elim (same_number_or_other n number) [
+    groups n some = elim (cases_eq n number) [
       | inr other ↦ ap (λ (x : Option Links). is_some x) (other_links n other) ∙ is.groups n ∙ some
       | inl here ↦ absurd (no_group n here (is.groups n ∙ some))
     ]
 
     new_group : (n : ℕ) → IsSome (links_of with_new n) → IsSome (links_of tree n) ⊎ ((ToObject number ≡ ToObject n) × (get tree n ≡ None))
-    new_group n some = elim (same_number_or_other n number) [
+    new_group n some = elim (cases_eq n number) [
       | inr other ↦ inl (sym (is.groups n) ∙ sym (ap (λ (x : Option Links). is_some x) (other_links n other)) ∙ some)
       | inl here ↦ inr (ap (λ (k : ℕ). ToObject k) (sym here), ap (get tree) here ∙ fresh)
     ]

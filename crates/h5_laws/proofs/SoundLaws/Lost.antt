@@ -1,5 +1,6 @@
 -- How many hard links of some objects lead to an object: no more than there are, and where there are more, another object has one.
 use Rattle.std.proofs.Common.{◌≡◌, ℕ, ◌+◌, ◌≤◌, ◌<◌, List, [], ◌∷◌, refl, sym, ap, ◌∙◌, Option, Some, None, ◌⊎◌, inl, inr, arith}
+use Rattle.std.proofs.lemmas.Bool.{cases_eq}
 use Rattle.std.specs.Option.{option_and_then}
 use Rattle.std.specs.FinMap.{get, insert, get-empty}
 use Rattle.std.proofs.lemmas.List.Sums.{sum_by-cons}
@@ -8,15 +9,15 @@ use Rattle.h5_laws.proofs.Lists.{In}
 use Rattle.h5_laws.proofs.Pigeonhole.{Apart}
 use Rattle.h5_laws.specs.Trees.Unlinked.{links_from}
 use Rattle.h5_laws.proofs.SoundLaws.Counts.{empty_group, no_links, object_put, some_named}
-use Rattle.h5_laws.proofs.SoundLaws.Inserted.{number_here, number_other, same_number_or_other}
+use Rattle.h5_laws.proofs.SoundLaws.Inserted.{number_here, number_other}
 use Rattle.h5_laws.proofs.SoundLaws.Sums.{weight}
 
--- a number is one of them, or it is not
-pub in_or_out : (q : ℕ) (ks : List ℕ) → In q ks ⊎ (In q ks → ⊥)
-in_or_out q [] = inr (λ at. at)
-in_or_out q (k ∷ ks) = elim (same_number_or_other k q) [
+-- a thing is one of them, or it is not, where one thing is another or it is not
+pub in_or_out : {X : Type 0} → ((x y : X) → (x ≡ y) ⊎ (x ≡ y → ⊥)) → (q : X) (ks : List X) → In q ks ⊎ (In q ks → ⊥)
+in_or_out same q [] = inr (λ at. at)
+in_or_out same q (k ∷ ks) = elim (same k q) [
   | inl here ↦ inl (inl here)
-  | inr other ↦ elim (in_or_out q ks) [
+  | inr other ↦ elim (in_or_out same q ks) [
     | inl later ↦ inl (inr later)
     | inr out ↦ inr (λ at. elim at [ inl here ↦ other here | inr later ↦ out later ])
   ]
@@ -56,7 +57,7 @@ emptied_other t (k ∷ ks) q out =
 
 pub emptied_here : (t : Tree) (ks : List ℕ) (q : ℕ) → In q ks → get (emptied t ks) q ≡ Some empty_group
 emptied_here t [] q at = absurd at
-emptied_here t (k ∷ ks) q at = elim (same_number_or_other q k) [
+emptied_here t (k ∷ ks) q at = elim (cases_eq q k) [
   | inl here ↦ ap (get (insert (emptied t ks) k empty_group)) here ∙ number_here (emptied t ks) k empty_group
   | inr other ↦ number_other (emptied t ks) k empty_group q other ∙ emptied_here t ks q (elim at [ inl e ↦ absurd (other (sym e)) | inr later ↦ later ])
 ]

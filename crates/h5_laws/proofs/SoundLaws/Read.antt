@@ -26,7 +26,7 @@ name_entry links name link is = found_entry names_differ (entries links) name li
 
 -- ---- texts
 
-until_no_zero : (bytes : List ℕ) → has_zero (until_zero bytes) ≡ false
+pub until_no_zero : (bytes : List ℕ) → has_zero (until_zero bytes) ≡ false
 until_no_zero [] = refl
 until_no_zero (b ∷ bytes) = elim (b == 0) as (λ t. (b == 0) ≡ t → has_zero (if t then [] else b ∷ until_zero bytes) ≡ false) [
   | true ↦ λ is. refl

@@ -1,5 +1,6 @@
 -- A tree without one of its links, and what a path reaches then.
 use Rattle.std.proofs.Common.{◌≡◌, ℕ, ◌+◌, Bool, true, false, cond, List, [], ◌∷◌, refl, sym, ap, ◌∙◌, subst, Option, Some, None, inl, inr, arith}
+use Rattle.std.proofs.lemmas.Bool.{cases_eq}
 use Rattle.std.specs.Prelude.{IsSome, is_some}
 use Rattle.std.specs.Cmp.Lexicographic.{nat_list_cmp_total}
 use Rattle.std.specs.Option.{option_and_then, option_map_or}
@@ -11,7 +12,7 @@ use Rattle.h5_laws.specs.Trees.Sound.{IsSoundTree}
 use Rattle.h5_laws.specs.Trees.Unlinked.{without_link}
 use Rattle.h5_laws.proofs.SoundLaws.Counts.{adds, less_links, object_put}
 use Rattle.h5_laws.proofs.SoundLaws.Fewer.{IsFewer}
-use Rattle.h5_laws.proofs.SoundLaws.Inserted.{names_differ, number_here, number_other, removed_other, same_number_or_other}
+use Rattle.h5_laws.proofs.SoundLaws.Inserted.{names_differ, number_here, number_other, removed_other}
 use Rattle.h5_laws.proofs.SoundLaws.LinksThere.{GroupAt, LinkAt, link_at, link_is}
 use Rattle.h5_laws.proofs.SoundLaws.Paths.{same_way}
 use Rattle.h5_laws.proofs.SoundLaws.Sums.{weight}
@@ -43,7 +44,7 @@ module _ (tree : Tree) (parent : ℕ) (name : List ℕ) (link : Link) (at : Link
   new_group = record { object = new; links = less; stands = number_here tree parent new; is = new_content }
 
   same_link : (a : ℕ) (x : List ℕ) → (a ≡ parent → x ≡ name → ⊥) → link_in put a x ≡ link_in tree a x
-  same_link a x other = elim (same_number_or_other a parent) [
+  same_link a x other = elim (cases_eq a parent) [
     | inr elsewhere ↦ ap (λ (o : Option Object). option_and_then (λ (ls : Links). get ls x) (option_and_then (λ (p : Object). links_in p.content) o)) (number_other tree parent new a elsewhere)
     | inl here ↦
         let there : link_in put parent x ≡ link_in tree parent x

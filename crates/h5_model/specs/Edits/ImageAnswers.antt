@@ -1,6 +1,7 @@
 -- When an edit is refused for the image: what the image says decides, beside the tree.
-use Rattle.std.specs.Prelude.{ℕ, ◌+◌, ◌<◌, ◌^◌, ◌&&◌, Bool, true, false, not, Option, Some, None, IsTrue, IsFalse, nat_lt, is_none, if◌then◌else◌, List, [], ◌∷◌, length}
+use Rattle.std.specs.Prelude.{ℕ, ◌+◌, ◌<◌, ◌&&◌, Bool, true, false, not, Option, Some, None, IsTrue, IsFalse, nat_lt, is_none, if◌then◌else◌, List, [], ◌∷◌, length}
 use Rattle.std.specs.Option.{option_map_or}
+use Rattle.h5_model.specs.Format.Limits.{most_bytes}
 use Rattle.h5_model.specs.Tree.Objects.{Tree, Dataset, Storage, Chunked}
 use Rattle.h5_model.specs.Tree.Paths.{dataset_at}
 use Rattle.h5_model.specs.Edits.Bounds.{Room, bound_of, new_boxes}
@@ -43,9 +44,9 @@ must_add r _ = false
 abbrev pub is_header_full : Facts → Edit → Bool
 is_header_full f edit = must_add f.room edit && nat_lt 65535 (f.total + 2)
 
--- the image has at most 2^31 bytes
+-- the image would have more than `most_bytes`
 abbrev pub is_image_full : Facts → Tree → Edit → Bool
-is_image_full f tree edit = nat_lt (2 ^ 31) (f.length + bound_of f.room tree edit)
+is_image_full f tree edit = nat_lt most_bytes (f.length + bound_of f.room tree edit)
 
 -- how many chunks a write meets that are not stored
 abbrev pub new_chunks : Room → Edit → Dataset → ℕ

@@ -4,6 +4,7 @@ use Rattle.std.specs.FinMap.{get, contains_key}
 use Rattle.std.specs.List.{list_any, list_all}
 use Rattle.std.specs.Option.{option_map_or, option_and_then}
 use Rattle.h5_bytes.specs.Bytes.{undefined_address}
+use Rattle.h5_model.specs.Format.Limits.{most_dimensions, most_names, most_cells, most_hard_links}
 use Rattle.h5_model.specs.Format.Fixed.{fits}
 use Rattle.h5_model.specs.Tree.Places.{cells, extent_cells}
 use Rattle.h5_model.specs.Views.Selection.{Slab, axes_of, has_rank, has_no_stride, overlaps, is_within, selected_cells}
@@ -52,7 +53,7 @@ bad_text (SoftLink text path) = is_no_text text
 bad_text _ = false
 
 abbrev pub is_deep : List ℕ → Bool
-is_deep path = option_map_or (λ names. nat_lt 64 (length names)) (names_of path) false
+is_deep path = option_map_or (λ names. nat_lt most_names (length names)) (names_of path) false
 
 abbrev pub is_root : List ℕ → Bool
 is_root path = option_map_or (λ names. length names == 0) (names_of path) false
@@ -145,8 +146,8 @@ is_store store.Contiguous sizes maxima = are_sizes sizes maxima
 is_store (store.Chunked chunk) sizes maxima = nat_lt 0 (length sizes) && are_chunk_sizes chunk maxima
 
 abbrev pub is_bad_spec : Edit → Bool
-is_bad_spec (CreateDataset path s) = nat_lt 32 (length s.dims) || not (are_maxima s.dims s.maxima && is_store s.store s.dims s.maxima)
-is_bad_spec (SetAttr path attr) = nat_lt 32 (length attr.dims) || is_no_text attr.name
+is_bad_spec (CreateDataset path s) = nat_lt most_dimensions (length s.dims) || not (are_maxima s.dims s.maxima && is_store s.store s.dims s.maxima)
+is_bad_spec (SetAttr path attr) = nat_lt most_dimensions (length attr.dims) || is_no_text attr.name
 is_bad_spec _ = false
 
 -- ---- selections and sizes
@@ -202,9 +203,9 @@ has_large_data (CreateDataset path s) = compact_is_large s.store (cells s.dims *
 has_large_data _ = false
 
 abbrev pub has_many_cells : Edit → Bool
-has_many_cells (CreateDataset path s) = nat_lt (2 ^ 40) (extent_cells s.dims)
-has_many_cells (SetAttr path attr) = nat_lt (2 ^ 40) (extent_cells attr.dims)
-has_many_cells (Resize path dims) = nat_lt (2 ^ 40) (extent_cells dims)
+has_many_cells (CreateDataset path s) = nat_lt most_cells (extent_cells s.dims)
+has_many_cells (SetAttr path attr) = nat_lt most_cells (extent_cells attr.dims)
+has_many_cells (Resize path dims) = nat_lt most_cells (extent_cells dims)
 has_many_cells _ = false
 
 -- Not one value for each cell. Where the rules before this one don't hold, the product of an edit's axes is the number of its selected
@@ -230,7 +231,7 @@ has_no_attribute tree (RemoveAttr path name) =
 has_no_attribute tree _ = false
 
 abbrev pub has_many_links : Tree → Edit → Bool
-has_many_links tree (HardLink target path) = option_map_or (λ number. nat_le 65535 (hard_links tree number)) (object_at tree target) false
+has_many_links tree (HardLink target path) = option_map_or (λ number. nat_le most_hard_links (hard_links tree number)) (object_at tree target) false
 has_many_links tree _ = false
 
 -- the next object's number is past the last

@@ -2,6 +2,7 @@
 use Rattle.std.specs.Prelude.{ℕ, List, [], ◌∷◌, ◌++◌}
 use Rattle.std.specs.Option.{option_map_or}
 use Rattle.std.specs.List.{flat_map}
+use Rattle.h5_model.specs.Format.Limits.{most_names}
 use Rattle.h5_model.specs.Tree.Objects.{Tree, within_names}
 use Rattle.h5_model.specs.Tree.Paths.{parent_at, object_at}
 use Rattle.h5_model.specs.declared.edits.Edit.{Edit}
@@ -20,7 +21,7 @@ touched_by tree (CreateGroup path) = parent_list tree path
 touched_by tree (CreateDataset path spec) = parent_list tree path
 touched_by tree (HardLink target path) = parent_list tree path ++ object_list tree target
 touched_by tree (SoftLink text path) = parent_list tree path
-touched_by tree (Unlink path) = parent_list tree path ++ flat_map (within_names tree 64) (object_list tree path)
+touched_by tree (Unlink path) = parent_list tree path ++ flat_map (within_names tree most_names) (object_list tree path)
 touched_by tree (SetAttr path attr) = object_list tree path
 touched_by tree (RemoveAttr path name) = object_list tree path
 touched_by tree (Write path hyper values) = object_list tree path

@@ -1,12 +1,13 @@
 -- Faults of opening: a cause holds at an address, of the superblock or of a block that is reached (File Format Specification 3.0,
 -- sections II.A, III and IV.A).
-use Rattle.std.specs.Prelude.{◌≡◌, ◌≢◌, ℕ, ◌+◌, ◌^◌, ◌<◌, ◌≤◌, ◌==◌, ◌&&◌, ◌⊎◌, Bool, true, false, IsTrue, not, if◌then◌else◌, List, [], ◌∷◌, take, length}
+use Rattle.std.specs.Prelude.{◌≡◌, ◌≢◌, ℕ, ◌+◌, ◌<◌, ◌≤◌, ◌==◌, ◌&&◌, ◌⊎◌, Bool, true, false, IsTrue, not, if◌then◌else◌, List, [], ◌∷◌, take, length}
 use Rattle.std.specs.Ordering.{nat_cmp, eq_by_cmp}
 use Rattle.std.specs.List.{list_any, Contains, IsDistinct}
 use Rattle.std.specs.FinMap.{FinMap}
 use Rattle.h5_bytes.specs.Bytes.{number_at, byte_at, part, undefined_address}
 use Rattle.h5_bytes.specs.Blocks.{cover}
 use Rattle.h5_bytes.specs.declared.Block.{Block}
+use Rattle.h5_model.specs.Format.Limits.{most_names, most_bytes, most_hard_links}
 use Rattle.h5_model.specs.Format.Superblock.{signature, has_chunk_k, superblock_length, base_place, end_field, driver_place, end_of_file, leaf_k, internal_k}
 use Rattle.h5_model.specs.Format.MessageTypes.{symbol_table_kind}
 use Rattle.h5_model.specs.Format.Messages.{Message, count_of, prefix_at, reference_count}
@@ -35,7 +36,7 @@ FieldBreach bytes FieldSizes at = IsTrue (list_any (λ p. p == at) (13 ∷ 14 �
 FieldBreach bytes BaseAddress at = (at ≡ base_place bytes) × (number_at bytes at 8 ≢ 0)
 FieldBreach bytes Driver at = (at ≡ driver_place bytes) × (number_at bytes at 8 ≢ undefined_address)
 FieldBreach bytes KRange at = IsTrue (list_any (λ p. p == at) (k_places bytes)) × ((number_at bytes at 2 ≡ 0) ⊎ (32767 < number_at bytes at 2))
-FieldBreach bytes TooLarge at = (at ≡ (end_field bytes).at) × (2 ^ 31 < end_of_file bytes)
+FieldBreach bytes TooLarge at = (at ≡ (end_field bytes).at) × (most_bytes < end_of_file bytes)
 FieldBreach bytes _ at = ⊥
 
 -- the signature, or the whole superblock, is not there
@@ -58,7 +59,7 @@ BlockBreach image x (GroupNode root heap level) Sibling = SiblingBreach image (g
 BlockBreach image x (GroupNode root heap level) KeyOrder = KeyBreach image heap x.at
 BlockBreach image x (SymbolNode root heap) NodeForm = SymbolBreach image x.at
 BlockBreach image x (SymbolNode root heap) NameOrder = NameBreach image root heap x.at
-BlockBreach image x (SymbolNode root heap) TooDeep = (64 ≤ x.depth) × (1 ≤ symbols_in (symbol_bytes image (leaf_k image) x.at))
+BlockBreach image x (SymbolNode root heap) TooDeep = (most_names ≤ x.depth) × (1 ≤ symbols_in (symbol_bytes image (leaf_k image) x.at))
 BlockBreach image x (HeapHeader root) HeapForm = (free : List Block) → IsHeap (heap_header image x.at) (segment_of image x.at) free → ⊥
 BlockBreach image x (HeapHeader root) HeapName = HeapNameBreach image root x.at
 BlockBreach image x (HeapHeader root) BadName = BadNameBreach image root x.at
@@ -107,7 +108,7 @@ abbrev pub IsMiscounted : List ℕ → Named → Type 0
 IsMiscounted image x = IsTrue (is_header x.role) × ((fields : List ℕ) × AreAllLinks image x.at fields × (reference_count (prefix_at image x.at) ≢ length fields))
 
 abbrev pub IsLinkedTooOften : List ℕ → Named → Type 0
-IsLinkedTooOften image x = IsTrue (is_header x.role) × ((fields : List ℕ) × AreLinkFields image x.at fields × (65535 < length fields))
+IsLinkedTooOften image x = IsTrue (is_header x.role) × ((fields : List ℕ) × AreLinkFields image x.at fields × (most_hard_links < length fields))
 
 -- a reached block, as far as it is there, breaks a rule of its form or of the links to it
 abbrev pub FormBreach : List ℕ → Named → Cause → Type 0

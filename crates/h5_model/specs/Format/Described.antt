@@ -1,5 +1,6 @@
 -- An array as the messages of its object header describe it (File Format Specification 3.0, section IV.A.2).
 use Rattle.std.specs.Prelude.{◌≡◌, ℕ, ◌*◌, ◌^◌, ◌≤◌, ◌&&◌, nat_lt, is_some, IsSome, ℤ, Option, Some, None, List, option_and_then}
+use Rattle.h5_model.specs.Format.Limits.{most_cells}
 use Rattle.h5_model.specs.Format.MessageTypes.{dataspace_kind, datatype_kind, old_fill_value_kind, fill_value_kind, data_layout_kind}
 use Rattle.h5_model.specs.Format.Messages.{Message, count_of, first_body}
 use Rattle.h5_model.specs.Format.Fixed.{Fixed}
@@ -59,7 +60,7 @@ pub record HasArray (messages : List Message) (a : Described) : Type 0 where
   pub type : option_and_then fixed_of (first_body datatype_kind messages) ≡ Some a.fixed
   pub filled : HasFill messages a.fixed a.fill
   pub laid_out : option_and_then (layout_of a.sizes a.fixed.size) (first_body data_layout_kind messages) ≡ Some a.layout
-  pub small : extent_cells a.sizes ≤ 2 ^ 40
+  pub small : extent_cells a.sizes ≤ most_cells
   pub chunk_small : IsChunkSmall a.fixed a.layout
 
 -- how the cells are stored, as the tree shows it

@@ -3,6 +3,7 @@ use Rattle.std.specs.Prelude.{ℕ, ◌+◌, ◌*◌, ◌==◌, ◌&&◌, ◌||�
 use Rattle.std.specs.List.{range_with_len}
 use Rattle.h5_model.specs.Scripts.Tests.{each_below}
 use Rattle.h5_bytes.specs.Bytes.{number_at, byte_at, undefined_address}
+use Rattle.h5_model.specs.Format.Limits.{most_dimensions}
 
 -- sizes, and maxima, of which None is unlimited
 pub record Extent : Type 0 where
@@ -35,10 +36,10 @@ maximum_in body k = if has_maxima body then maximum_from (number_at body (8 + 8 
 unfoldable pub maximum_fits : List ℕ → ℕ → Bool
 maximum_fits body k = nat_le (number_at body (8 + 8 * k) 8) (number_at body (8 + 8 * rank_in body + 8 * k) 8)
 
--- version 1, a rank of at most 32, no flag but that for maxima, all its numbers there, and no maximum below its size
+-- version 1, a rank of at most `most_dimensions`, no flag but that for maxima, all its numbers there, and no maximum below its size
 abbrev pub is_dataspace : List ℕ → Bool
 is_dataspace body =
-    nat_le 8 (length body) && byte_at body 0 == 1 && nat_le (rank_in body) 32 && nat_le (byte_at body 2) 1
+    nat_le 8 (length body) && byte_at body 0 == 1 && nat_le (rank_in body) most_dimensions && nat_le (byte_at body 2) 1
     && nat_le (8 + 8 * (rank_in body * (1 + byte_at body 2))) (length body)
     && (byte_at body 2 == 0 || each_below (rank_in body) (maximum_fits body))
 

@@ -1,12 +1,13 @@
 -- What an image says: the tree of objects whose headers stand in it (File Format Specification 3.0, section IV.A; kept messages are
 -- those of IV.A.2.n, IV.A.2.o and IV.A.2.s).
-use Rattle.std.specs.Prelude.{◌≡◌, ℕ, ◌+◌, ◌*◌, ◌^◌, ◌≤◌, ◌==◌, ◌||◌, Bool, IsTrue, IsSome, if◌then◌else◌, Some, None, List, [], ◌∷◌, ◌++◌, map, length, option_and_then}
+use Rattle.std.specs.Prelude.{◌≡◌, ℕ, ◌+◌, ◌*◌, ◌≤◌, ◌==◌, ◌||◌, Bool, IsTrue, IsSome, if◌then◌else◌, Some, None, List, [], ◌∷◌, ◌++◌, map, length, option_and_then}
 use Rattle.std.specs.Ordering.{nat_cmp, eq_by_cmp}
 use Rattle.std.specs.Cmp.Lexicographic.{slice_cmp}
 use Rattle.std.specs.FinMap.{FinMap, get, entries, from_entries, empty}
 use Rattle.std.specs.List.{flat_map, filter, AllByRecursion, AllZip, IsDistinct}
 use Rattle.h5_bytes.specs.Blocks.{block, Separate, Inside}
 use Rattle.h5_bytes.specs.declared.Block.{Block}
+use Rattle.h5_model.specs.Format.Limits.{most_names, most_cells, most_hard_links}
 use Rattle.h5_model.specs.Format.Superblock.{IsSuperblock, superblock_length, leaf_k, internal_k, chunk_k, end_of_file, root_header}
 use Rattle.h5_model.specs.Format.MessageTypes.{nil_kind, dataspace_kind, datatype_kind, old_fill_value_kind, fill_value_kind, data_layout_kind, attribute_kind, comment_kind, old_modification_time_kind, continuation_kind, symbol_table_kind, modification_time_kind}
 use Rattle.h5_model.specs.Format.Messages.{Message, HasMessages, count_of, first_body, prefix_at, reference_count}
@@ -43,7 +44,7 @@ pub record HasAttributes (messages : List Message) (attributes : Attributes) : T
   pub listed : List (List ℕ × Attribute)
   pub each : AllZip (λ (m : Message) a. attribute_of m.body ≡ Some a) (filter is_attribute_message messages) listed
   pub distinct : IsDistinct (eq_by_cmp (slice_cmp nat_cmp)) (map (λ a. a.0) listed)
-  pub small : AllByRecursion (λ (a : List ℕ × Attribute). extent_cells (a.1).sizes ≤ 2 ^ 40) listed
+  pub small : AllByRecursion (λ (a : List ℕ × Attribute). extent_cells (a.1).sizes ≤ most_cells) listed
   pub all : attributes ≡ from_entries listed
 
 -- ---- groups
@@ -128,7 +129,7 @@ IsGroup (Array d) = ⊥
 pub record IsCounted (image : List ℕ) (tree : Tree) (x : Placed) : Type 0 where
   pub counted : reference_count (prefix_at image x.header) ≡ hard_links tree x.number + (if x.number == 0 then 1 else 0)
   pub once : IsGroup x.object.content → reference_count (prefix_at image x.header) ≡ 1
-  pub limit : hard_links tree x.number ≤ 65535
+  pub limit : hard_links tree x.number ≤ most_hard_links
 
 -- ---- the whole image
 
@@ -147,7 +148,7 @@ pub record Holds (image : List ℕ) (table : FinMap nat_cmp ℕ) (tree : Tree) (
   pub root : get table 0 ≡ Some (root_header image)
   pub root_group : IsSome (links_of tree 0)
   pub reached : (number : ℕ) → IsSome (get tree number) → (path : List (List ℕ)) × (follow tree (ToObject 0) path ≡ Some (ToObject number))
-  pub shallow : (path : List (List ℕ)) → IsSome (follow tree (ToObject 0) path) → length path ≤ 64
+  pub shallow : (path : List (List ℕ)) → IsSome (follow tree (ToObject 0) path) → length path ≤ most_names
   pub apart : Separate (all_blocks image placed)
   pub within : Inside (length image) (all_blocks image placed)
 

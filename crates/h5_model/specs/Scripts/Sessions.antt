@@ -1,6 +1,7 @@
 -- Sessions, and what every state and session keeps to.
 use Rattle.std.specs.Prelude.{◌≡◌, ℕ, ◌<◌, ◌≤◌, Some, IsSome, length}
 use Rattle.std.specs.FinMap.{get, len, empty}
+use Rattle.h5_model.specs.Format.Limits.{most_views}
 use Rattle.h5_model.specs.Tree.Objects.{Dataset, dataset_of, links_of}
 use Rattle.h5_model.specs.Edits.Applied.{State}
 use Rattle.h5_model.specs.Views.Shown.{View, Views}
@@ -31,4 +32,4 @@ pub record IsSession (s : Session) : Type 0 where
   pub each : (number : ℕ) (view : View) → get s.views number ≡ Some view → IsView s.state view
   pub given : (number : ℕ) → IsSome (get s.views number) → number < s.next_view
   pub low : s.next_view ≤ 4294967295
-  pub few : len s.views ≤ 1024
+  pub few : len s.views ≤ most_views

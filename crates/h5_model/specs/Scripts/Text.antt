@@ -4,6 +4,7 @@ use Rattle.std.specs.Fmt.{decimal, signed_decimal}
 use Rattle.std.specs.List.{flat_map, join_by, zip}
 use Rattle.std.specs.FinMap.{get, entries}
 use Rattle.std.specs.Option.{option_map_or}
+use Rattle.h5_model.specs.Format.Limits.{most_names}
 use Rattle.h5_model.specs.Format.Fixed.{Fixed}
 use Rattle.h5_model.specs.Tree.Objects.{Tree, Link, ToObject, Soft, Object, Content, Group, Array, Dataset, Storage, Compact, Contiguous, Chunked, Attribute, links_of, object_of}
 
@@ -66,7 +67,7 @@ lines_below tree (suc depth) path number = option_map_or
 
 -- what `ls` prints
 abbrev pub list_text : Tree → List ℕ
-list_text tree = codes "/ group\n" ++ lines_below tree 64 [] 0
+list_text tree = codes "/ group\n" ++ lines_below tree most_names [] 0
 
 -- how the cells are stored, and the fill
 abbrev pub storage_text : Storage → List ℕ

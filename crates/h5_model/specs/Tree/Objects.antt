@@ -6,6 +6,7 @@ use Rattle.std.specs.Cmp.Lexicographic.{slice_cmp}
 use Rattle.std.specs.FinMap.{FinMap, get, insert, values, retain_keys}
 use Rattle.std.specs.List.{sum_by, count_by, filter_map, flat_map, list_any}
 use Rattle.std.specs.Option.{option_and_then, option_map_or}
+use Rattle.h5_model.specs.Format.Limits.{most_names}
 use Rattle.h5_model.specs.Format.Fixed.{Fixed}
 
 -- a link leads to an object by its number, or holds a soft link's text
@@ -117,9 +118,9 @@ unfoldable pub within_names : Tree → ℕ → ℕ → List ℕ
 within_names tree zero number = number ∷ []
 within_names tree (suc n) number = number ∷ flat_map (within_names tree n) (named_by tree number)
 
--- a path from the root reaches the object; no path has more than 64 names
+-- a path from the root reaches the object; no path has more than `most_names`
 unfoldable pub is_reached : Tree → ℕ → Bool
-is_reached tree number = list_any (λ n. n == number) (within_names tree 64 0)
+is_reached tree number = list_any (λ n. n == number) (within_names tree most_names 0)
 
 -- the objects that a path from the root reaches
 abbrev pub only_reached : Tree → Tree

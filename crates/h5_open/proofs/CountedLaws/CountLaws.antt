@@ -12,7 +12,7 @@ use Rattle.std.specs.Ordering.{nat_cmp, eq_by_cmp}
 use Rattle.h5_model.specs.Format.Superblock.{root_header}
 use Rattle.h5_model.specs.Format.Symbols.{Target, Header, Text}
 use Rattle.h5_laws.proofs.Lists.{In, in_at, in_map, in_right, contains_in}
-use Rattle.h5_laws.proofs.Pigeonhole.{Apart, apart_of_distinct}
+use Rattle.h5_laws.proofs.Pigeonhole.{Apart, apart_of_distinct, one_place}
 use Rattle.h5_open.specs.declared.opened.object.OpenedObject.{OpenedObject}
 use Rattle.h5_open.specs.Counted.Links.{leading, object_links, all_links}
 use Rattle.h5_open.specs.Counted.Counts.{IsCount, AreCounted, MayBeLinked}
@@ -20,18 +20,6 @@ use Rattle.h5_open.specs.Opened.Objects.{content_links, header_of, headers}
 use Rattle.h5_open.proofs.GrowLaws.{headers-append}
 
 -- ---- places in a list
-
--- what stands at two places of a list without doubles stands at one
-same_place : (xs : List ℕ) → Apart xs → (i j x : ℕ) → slice_get xs i ≡ Some x → slice_get xs j ≡ Some x → i ≡ j
-same_place [] apart i j x here there = absurd (cc)
-same_place (y ∷ xs) apart zero zero x here there = refl
-same_place (y ∷ xs) apart zero (suc j) x here there =
-    let first : x ≡ y = cc in
-    absurd (apart.0 (subst (λ (z : ℕ). In z xs) first (in_at xs j x there)))
-same_place (y ∷ xs) apart (suc i) zero x here there =
-    let first : x ≡ y = cc in
-    absurd (apart.0 (subst (λ (z : ℕ). In z xs) first (in_at xs i x here)))
-same_place (y ∷ xs) apart (suc i) (suc j) x here there = ap (λ (n : ℕ). suc n) (same_place xs apart.1 i j x here there)
 
 header_at : (objects : List OpenedObject) (k : ℕ) (o : OpenedObject) → slice_get objects k ≡ Some o → slice_get (headers objects) k ≡ Some o.messages.header
 header_at objects k o here = slice_get-map header_of objects k ∙ ap (option_map header_of) here
@@ -183,7 +171,7 @@ module _ (image : List ℕ) (objects : List OpenedObject) (counts : List ℕ) (n
         }))
     again false k x there e =
         let place : k ≢ number = grind (arith, nat_tests, e) in
-        let other : header ≢ x.messages.header = λ same. place (same_place (headers objects) (apart_of_distinct (headers objects) distinct) k number x.messages.header (header_at objects k x there)
+        let other : header ≢ x.messages.header = λ same. place (one_place (headers objects) (apart_of_distinct (headers objects) distinct) k number x.messages.header (header_at objects k x there)
         (header_at objects number o here ∙ ap (λ (h : ℕ). Some h) (at ∙ same))) in
         let count = are.each k x there in
         subst (IsCount image objects waiting x) (sym (get_or-set_other counts number k (get_or counts number 0 + 1) 0 place))

@@ -7,6 +7,7 @@ use Rattle.std.specs.FinMap.{FinMap}
 use Rattle.std.specs.List.{AllByRecursion, flat_map, find}
 use Rattle.h5_model.specs.Format.Addresses.{SymbolTable, symbol_table_of}
 use Rattle.h5_model.specs.Format.Heap.{segment_of}
+use Rattle.h5_model.specs.Format.MessageTypes.{symbol_table_kind}
 use Rattle.h5_model.specs.Format.Messages.{Message}
 use Rattle.h5_model.specs.Format.Reads.{IsPlaced}
 use Rattle.h5_model.specs.Format.Symbols.{Target, Header, Text}
@@ -39,7 +40,7 @@ module _ (image : List ℕ) (h : ℕ) where
   -- those of a group
   group_count : (ms : List Message) (t : SymbolTable) → IsContentKept image ms (content.Group t) → linking h (fields.object_links image ms) ≡ leading h (links_told image t)
   group_count ms t kept =
-      let first = said_first symbol_table_of 17 ms t kept.1 in
+      let first = said_first symbol_table_of symbol_table_kind ms t kept.1 in
       let nodes = symbol_nodes_told image t in
       let links : fields.object_links image ms ≡ flat_map (node_links image) nodes
       = table_links image ms first.0 t (links_told image t) (blocks_told image t) first.1 first.2 kept.2.linked ∙ ap (flat_map (node_links image)) (symbol_nodes_are_told image t (links_told image t) (blocks_told image t) kept.2.linked) in
@@ -49,8 +50,8 @@ module _ (image : List ℕ) (h : ℕ) where
   content_count : (ms : List Message) (c : OpenedContent) → IsContentKept image ms c → linking h (fields.object_links image ms) ≡ leading h (content_links image c)
   content_count ms (content.Group t) kept = group_count ms t kept
   content_count ms content.Array kept =
-      let none : find (λ (m : Message). m.kind == 17) ms ≡ None
-      = find_none 17 ms (λ m at is. absurd (omega (arith, counted 17 ms m at is, kept.0.kinds.no_table))) in
+      let none : find (λ (m : Message). m.kind == symbol_table_kind) ms ≡ None
+      = find_none symbol_table_kind ms (λ m at is. absurd (omega (arith, counted symbol_table_kind ms m at is, kept.0.kinds.no_table))) in
       ap (λ (o : Option Message). linking h (option_map_or (λ (x : Message). option_map_or (λ (t : SymbolTable). fields.tree_links image t.tree) (symbol_table_of x.body) []) o [])) none
 
   -- those of several objects

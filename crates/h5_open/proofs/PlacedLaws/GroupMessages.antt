@@ -3,13 +3,14 @@ use Rattle.std.proofs.Common.{◌≡◌, ℕ, ◌+◌, List, [], ◌∷◌, refl
 use Rattle.std.specs.Prelude.{◌==◌}
 use Rattle.std.specs.List.{AllByRecursion}
 use Rattle.std.proofs.lemmas.Bool.Decides.{nat_tests}
+use Rattle.h5_model.specs.Format.MessageTypes.{dataspace_kind, datatype_kind, old_fill_value_kind, fill_value_kind, data_layout_kind}
 use Rattle.h5_model.specs.Format.Messages.{Message, count_of}
 use Rattle.h5_model.specs.Format.Reads.{InGroup}
 use Rattle.h5_header.specs.Heads.{is_read}
 use Rattle.h5_header.specs.Listed.{message_in, messages_in}
 use Rattle.h5_header.specs.declared.message.Message.{Message as Stood}
 
-group_message : (m : Message) → IsTrue (is_read m.kind) → (m.kind == 1) ≡ false → (m.kind == 3) ≡ false → (m.kind == 4) ≡ false → (m.kind == 5) ≡ false → (m.kind == 8) ≡ false → InGroup m
+group_message : (m : Message) → IsTrue (is_read m.kind) → (m.kind == dataspace_kind) ≡ false → (m.kind == datatype_kind) ≡ false → (m.kind == old_fill_value_kind) ≡ false → (m.kind == fill_value_kind) ≡ false → (m.kind == data_layout_kind) ≡ false → InGroup m
 group_message m read a b c d e = grind (arith, nat_tests)
 
 -- no message of a type that is not counted
@@ -23,16 +24,16 @@ none_later : (k : ℕ) (m : Message) (ms : List Message) → count_of k (m ∷ m
 none_later k m ms none = omega (arith, none)
 
 pub group_known : (image : List ℕ) (list : List Stood) → AllByRecursion (λ (m : Stood). IsTrue (is_read m.kind)) list
-    → AllByRecursion (λ (k : ℕ). count_of k (messages_in image list) ≡ 0) (1 ∷ 3 ∷ 4 ∷ 5 ∷ 8 ∷ []) → AllByRecursion InGroup (messages_in image list)
+    → AllByRecursion (λ (k : ℕ). count_of k (messages_in image list) ≡ 0) (dataspace_kind ∷ datatype_kind ∷ old_fill_value_kind ∷ fill_value_kind ∷ data_layout_kind ∷ []) → AllByRecursion InGroup (messages_in image list)
 group_known image [] read none = tt
 group_known image (m ∷ ms) read (a, (b, (c, (d, (e, end))))) = (
-  group_message (message_in image m) read.0 (none_here 1 (message_in image m) (messages_in image ms) a) (none_here 3 (message_in image m) (messages_in image ms) b)
-      (none_here 4 (message_in image m) (messages_in image ms) c) (none_here 5 (message_in image m) (messages_in image ms) d) (none_here 8 (message_in image m) (messages_in image ms) e),
+  group_message (message_in image m) read.0 (none_here dataspace_kind (message_in image m) (messages_in image ms) a) (none_here datatype_kind (message_in image m) (messages_in image ms) b)
+      (none_here old_fill_value_kind (message_in image m) (messages_in image ms) c) (none_here fill_value_kind (message_in image m) (messages_in image ms) d) (none_here data_layout_kind (message_in image m) (messages_in image ms) e),
   group_known image ms read.1 (
-    none_later 1 (message_in image m) (messages_in image ms) a,
+    none_later dataspace_kind (message_in image m) (messages_in image ms) a,
     (
-      none_later 3 (message_in image m) (messages_in image ms) b,
-      (none_later 4 (message_in image m) (messages_in image ms) c, (none_later 5 (message_in image m) (messages_in image ms) d, (none_later 8 (message_in image m) (messages_in image ms) e, end))),
+      none_later datatype_kind (message_in image m) (messages_in image ms) b,
+      (none_later old_fill_value_kind (message_in image m) (messages_in image ms) c, (none_later fill_value_kind (message_in image m) (messages_in image ms) d, (none_later data_layout_kind (message_in image m) (messages_in image ms) e, end))),
     ),
   ),
 )

@@ -12,9 +12,9 @@ use Rattle.h5_model.specs.Tree.Objects.{Tree, Link, ToObject, Soft, follow, link
 use Rattle.h5_open.specs.declared.opened.object.OpenedObject.{OpenedObject}
 use Rattle.h5_open.specs.Opened.Kept.{IsObjectKept}
 use Rattle.h5_open.specs.Opened.Objects.{headers, number_in, content_links, link_to, table_of, tree_of, slots_of}
-use Rattle.h5_laws.proofs.Lists.{In, in_all, in_contains}
+use Rattle.h5_laws.proofs.Lists.{In, in_all, in_contains, in_at}
 use Rattle.h5_open.specs.Placed.Whole.{HasHeight, IsLed, HasParent, AreNamed}
-use Rattle.h5_open.proofs.PlacedLaws.Places.{place_in, place_before, place_next, place_of, at_number, number_at_place}
+use Rattle.h5_open.proofs.PlacedLaws.Places.{place_before, place_next, place_of, at_number, number_at_place}
 use Rattle.h5_open.proofs.PlacedLaws.TreeLaws.{number_within, link_there, link_leads}
 
 -- ---- one name more
@@ -37,7 +37,7 @@ module _ (image : List ℕ) (objects : List OpenedObject) (distinct : IsDistinct
   tree = tree_of image (slots_of objects)
 
   kept_at : (n : ℕ) (o : OpenedObject) → slice_get objects n ≡ Some o → IsObjectKept image o
-  kept_at n o is = in_all (IsObjectKept image) o objects each (place_in objects n o is)
+  kept_at n o is = in_all (IsObjectKept image) o objects each (in_at objects n o is)
 
   -- ---- each object is reached
 

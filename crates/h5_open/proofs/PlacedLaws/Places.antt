@@ -6,18 +6,13 @@ use Rattle.std.specs.Ordering.{nat_cmp, eq_by_cmp}
 use Rattle.std.specs.FinMap.{get}
 use Rattle.std.proofs.lemmas.Option.{same_Some, slice_get_read}
 use Rattle.h5_laws.proofs.Lists.{In, in_at, stands_at}
-use Rattle.h5_laws.proofs.Pigeonhole.{Apart, apart_of_distinct}
+use Rattle.h5_laws.proofs.Pigeonhole.{Apart, apart_of_distinct, one_place}
 use Rattle.h5_open.specs.declared.opened.object.OpenedObject.{OpenedObject}
 use Rattle.h5_open.specs.Opened.Objects.{headers, number_in, table_of, slots_of}
 use Rattle.h5_open.proofs.OpenedLaws.Entries.{get_table_dense, header_at_dense}
 use Rattle.h5_open.proofs.OpenedLaws.HeaderNumbers.{number_is}
 
 -- ---- places
-
-pub place_in : {X : Type 0} (xs : List X) (k : ℕ) (x : X) → slice_get xs k ≡ Some x → In x xs
-place_in [] k x h = absurd (cc)
-place_in (y ∷ xs) zero x h = inl (same_Some y x h)
-place_in (y ∷ xs) (suc k) x h = inr (place_in xs k x h)
 
 pub place_before : {X : Type 0} (xs ys : List X) (k : ℕ) (x : X) → slice_get xs k ≡ Some x → slice_get (xs ++ ys) k ≡ Some x
 place_before [] ys k x h = absurd (cc)
@@ -32,14 +27,6 @@ pub place_of : {X : Type 0} (xs : List X) (x : X) (c : Contains xs x) → slice_
 place_of xs x (k, low, is) = slice_get_read xs (length xs) k x refl low (sym is)
 
 -- ---- numbers
-
--- a number that stands once stands at one place
-one_place : (hs : List ℕ) → Apart hs → (a b h : ℕ) → slice_get hs a ≡ Some h → slice_get hs b ≡ Some h → a ≡ b
-one_place [] apart a b h p q = absurd (cc)
-one_place (x ∷ xs) apart zero zero h p q = refl
-one_place (x ∷ xs) apart zero (suc b) h p q = absurd (apart.0 (in_at xs b x (q ∙ sym p)))
-one_place (x ∷ xs) apart (suc a) zero h p q = absurd (apart.0 (in_at xs a x (p ∙ sym q)))
-one_place (x ∷ xs) apart (suc a) (suc b) h p q = ap suc (one_place xs apart.1 a b h p q)
 
 module _ (objects : List OpenedObject) (distinct : IsDistinct (eq_by_cmp nat_cmp) (headers objects)) where
   pub own_header : (a b header : ℕ) → get (table_of (slots_of objects)) a ≡ Some header → get (table_of (slots_of objects)) b ≡ Some header → a ≡ b

@@ -1,5 +1,6 @@
 -- The objects of an opened image while they are put into the order of given headers.
 use Rattle.std.proofs.Common.{◌≡◌, inl, inr, ℕ, ◌+◌, ◌<◌, ◌≤◌, List, length, refl, sym, ap, ◌∙◌, subst, arith, Option, Some, None}
+use Rattle.std.proofs.lemmas.Bool.{cases_eq}
 use Rattle.std.proofs.lemmas.Bool.Decides.{nat_tests}
 use Rattle.std.proofs.lemmas.Option.{same_Some, slice_get_within}
 use Rattle.std.specs.Prelude.{slice_get, option_map}
@@ -24,7 +25,7 @@ use Rattle.h5_open.proofs.OpenedLaws.Made.{get_standing}
 use Rattle.h5_open.proofs.OpenedLaws.ReadBlocks.{opened_all}
 use Rattle.h5_open.proofs.OpenedLaws.ReadHeaders.{header_shared}
 use Rattle.h5_open.proofs.OpenedLaws.Sounds.{in_objects, from_objects}
-use Rattle.h5_open.proofs.RenumberedLaws.Exchanges.{decided, moved, still, was, own_exchanged, exchanged_headers}
+use Rattle.h5_open.proofs.RenumberedLaws.Exchanges.{moved, still, was, own_exchanged, exchanged_headers}
 use Rattle.h5_open.proofs.RenumberedLaws.SameBlocks.{still_apart}
 use Rattle.h5_open.proofs.RenumberedLaws.SameHeaders.{Own, given_header, header_given}
 use Rattle.h5_open.proofs.RenumberedLaws.SameTree.{same_tree}
@@ -113,7 +114,7 @@ arranged_empty hs first slots numbers i arranged at = record {
   index = arranged.index;
   many = arranged.many;
   all = arranged.all;
-  done = λ k h low here. elim (decided k i) [
+  done = λ k h low here. elim (cases_eq k i) [
     | inl same ↦ absurd (let never : Some None ≡ Some (Some h) = sym at ∙ ap (slice_get hs) (sym same) ∙ here in cc)
     | inr other ↦ arranged.done k h (not_last k i low other) here
   ];
@@ -143,7 +144,7 @@ module _ (hs : List (Option ℕ)) (first before after : List (Option OpenedObjec
       omega (arith, low, place)
 
   done_now : (k h : ℕ) → k < i + 1 → slice_get hs k ≡ Some (Some h) → get (table_of after) k ≡ Some h
-  done_now k h low here = elim (decided k i) [
+  done_now k h low here = elim (cases_eq k i) [
     | inl same ↦
         let own_header : Some header ≡ Some h = ap option_flatten (sym at ∙ ap (slice_get hs) (sym same) ∙ here) in
         ap (get (table_of after)) same ∙ exchange.first ∙ given.1 ∙ own_header

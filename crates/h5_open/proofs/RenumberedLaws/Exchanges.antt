@@ -4,6 +4,7 @@ use Rattle.std.specs.Prelude.{◌==◌, if◌then◌else◌, option_map, slice_g
 use Rattle.std.specs.Option.{option_flatten}
 use Rattle.std.specs.FinMap.{get}
 use Rattle.std.specs.List.{SwappedAt}
+use Rattle.std.proofs.lemmas.Bool.{cases_eq}
 use Rattle.std.proofs.lemmas.Bool.Decides.{nat_tests}
 use Rattle.std.proofs.lemmas.Option.{slice_get-get_or}
 use Rattle.h5_open.specs.declared.opened.object.OpenedObject.{OpenedObject}
@@ -34,12 +35,6 @@ exchanged xs ys i j d low low' long swapped = record {
 
 -- ---- places
 
-pub decided : (k i : ℕ) → (k ≡ i) ⊎ (k ≡ i → ⊥)
-decided k i = go (k == i) refl where
-  go : (b : Bool) → (k == i) ≡ b → (k ≡ i) ⊎ (k ≡ i → ⊥)
-  go true is = inl (grind (arith, nat_tests, is))
-  go false is = inr (λ same. let here : (k == i) ≡ true = grind (arith, nat_tests, same) in absurd (let never : false ≡ true = sym is ∙ here in cc))
-
 -- where what is at a place stood before
 pub moved : ℕ → ℕ → ℕ → ℕ
 moved i j k = if k == i then j else if k == j then i else k
@@ -66,12 +61,12 @@ module _ (i j : ℕ) where
 
   -- twice is back
   moved_back : (k : ℕ) → moved i j (moved i j k) ≡ k
-  moved_back k = elim (decided k i) [
-    | inl first ↦ ap (moved i j) (moved_first k first) ∙ elim (decided j i) [
+  moved_back k = elim (cases_eq k i) [
+    | inl first ↦ ap (moved i j) (moved_first k first) ∙ elim (cases_eq j i) [
       | inl same ↦ moved_first j same ∙ same ∙ sym first
       | inr other ↦ moved_second j other refl ∙ sym first
     ]
-    | inr not_first ↦ elim (decided k j) [
+    | inr not_first ↦ elim (cases_eq k j) [
       | inl second ↦ ap (moved i j) (moved_second k not_first second) ∙ moved_first i refl ∙ sym second
       | inr not_second ↦ ap (moved i j) (moved_else k not_first not_second) ∙ moved_else k not_first not_second
     ]
@@ -79,9 +74,9 @@ module _ (i j : ℕ) where
 
 module _ {X : Type 0} (before after : ℕ → Option X) (i j : ℕ) (e : IsExchanged before after i j) where
   pub was : (k : ℕ) → after k ≡ before (moved i j k)
-  was k = elim (decided k i) [
+  was k = elim (cases_eq k i) [
     | inl first ↦ ap after first ∙ e.first ∙ ap before (sym (moved_first i j k first))
-    | inr not_first ↦ elim (decided k j) [
+    | inr not_first ↦ elim (cases_eq k j) [
       | inl second ↦ ap after second ∙ e.second ∙ ap before (sym (moved_second i j k not_first second))
       | inr not_second ↦ e.others k not_first not_second ∙ ap before (sym (moved_else i j k not_first not_second))
     ]

@@ -13,7 +13,7 @@ ghost use Rattle.h5_open.specs.Opened.Sound.{IsSound};
 use super::Opened;
 use super::end::write_end;
 use h5_attr::{find_named, remove_at, set};
-use h5_header::AddFault;
+use h5_header::{AddFault, HeaderRef};
 
 impl Opened {
     /// Sets an attribute of an object, by the body of its message, in place of the one of its name where there is one.
@@ -68,7 +68,7 @@ impl Opened {
             self.old.next (number ∷ []) 0 }
     {
         let object = self.index.objects[number as usize].as_mut().unwrap();
-        match find_named(&self.image, &object.messages, name) {
+        match find_named(&HeaderRef::new(&self.image, &object.messages), name) {
             Some(k) => remove_at(&mut self.image, &mut object.messages, k),
             None => unreachable!(),
         }

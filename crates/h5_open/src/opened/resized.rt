@@ -20,7 +20,7 @@ ghost use Rattle.h5_open.specs.Written.{IsArrayThere};
 
 use super::end::write_end;
 use super::{Opened, OpenedObject};
-use h5_header::{AddFault, Messages};
+use h5_header::{AddFault, HeaderRef, Messages};
 use h5_layout::{
     MAX_RANK, Outside, copy_smaller, lacks_maxima, lacks_tree, outside_of, resize_array, sizes_of,
 };
@@ -140,7 +140,7 @@ fn bytes_for(image: &Image, messages: &Messages, sizes: &[u64]) -> Result<u64, A
         × (2 ^ 31 < length image.now.bytes
         + extent_room (messages_in image.now.bytes messages.now.list) sizes.now)) }
 {
-    if !lacks_maxima(image, messages) {
+    if !lacks_maxima(&HeaderRef::new(image, messages)) {
         return Ok(0);
     }
     if messages.list().len() + 2 > MAX_MESSAGES {
@@ -173,11 +173,12 @@ fn look_outside(
     ensures { IfOk result (λ outside.
         IsLookedAt image.now.bytes (described_in image.now.bytes messages.now) sizes.now outside) }
 {
-    if lacks_tree(image, messages) {
+    let header = HeaderRef::new(image, messages);
+    if lacks_tree(&header) {
         return Ok(None);
     }
     let mut sizes_room = [0; MAX_RANK];
-    let old = sizes_of(image, messages, &mut sizes_room);
+    let old = sizes_of(&header, &mut sizes_room);
     let mut room = [0; MAX_RANK];
     let smaller = &mut room[..old.len()];
     copy_smaller(old, sizes, smaller);

@@ -18,6 +18,7 @@ ghost use Rattle.h5_open.specs.WrittenRun.{IsRunMade, IsRunReady};
 
 use super::Opened;
 use crate::index::Index;
+use h5_header::HeaderRef;
 use h5_layout::{Buffer, CellPlaces, write_stored};
 use h5_model::Fixed;
 use h5_shape::CellRuns;
@@ -101,7 +102,7 @@ fn write_runs(image: &mut Image, index: &Index, number: u32, runs: CellRuns, val
         number (places_in runs) values.now (opened_state image.new index.now.objects.items) }
 {
     let object = index.objects[number as usize].as_ref().unwrap();
-    let mut places = CellPlaces::new(image, &object.messages);
+    let mut places = CellPlaces::new(&HeaderRef::new(image, &object.messages));
     let mut left = values.lend();
     for run in runs {
         let (first, others) = left.split_at(run.length as usize);

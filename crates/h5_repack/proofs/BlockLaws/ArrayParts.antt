@@ -1,9 +1,10 @@
 -- The header and the data of an array to be written: how they are appended, and their lengths.
-use Rattle.std.proofs.Common.{◌≡◌, ℕ, zero, suc, ◌+◌, ◌*◌, ◌<◌, ◌≤◌, ℤ, Option, Some, take, drop, set, List, [], ◌∷◌, ◌++◌, length, replicate, Bool, true, false, ◌||◌, not, refl, ap, ◌∙◌, sym, arith, append_assoc, append-nil, length-append}
+use Rattle.std.proofs.Common.{◌≡◌, ℕ, zero, suc, ◌+◌, ◌*◌, ◌<◌, ◌≤◌, ℤ, Option, Some, take, drop, set, List, [], ◌∷◌, ◌++◌, length, replicate, Bool, true, false, ◌||◌, not, ap, ◌∙◌, sym, arith, append_assoc, append-nil, length-append}
 use Rattle.std.proofs.lemmas.List.{length-replicate}
 use Rattle.std.proofs.lemmas.Option.{same_Some}
 use Rattle.std.specs.Prelude.{nat_lt, if◌then◌else◌, slice_get, slice_index}
 use Rattle.std.proofs.lemmas.Bool.{not-true}
+use Rattle.h5_model.specs.Format.MessageTypes.{dataspace_kind, data_layout_kind}
 use Rattle.h5_bytes.specs.Texts.{pad8}
 use Rattle.h5_model.specs.Format.Bodies.{padded_body, dataspace_bytes, bounded_bytes, fill_bytes, chunked_bytes, short_words}
 use Rattle.h5_model.specs.Format.Fixed.{Fixed}
@@ -53,7 +54,7 @@ length-chunked chunk tree size = omega (arith, short_words_long chunk, length-ap
 
 module _ (chunked : Bool) (sizes : List ℕ) (maxima : List (Option ℕ)) where
   abbrev space_by : Bool → List ℕ
-  space_by b = message_bytes (1, padded_body (if b then bounded_bytes sizes maxima else dataspace_bytes sizes))
+  space_by b = message_bytes (dataspace_kind, padded_body (if b then bounded_bytes sizes maxima else dataspace_bytes sizes))
 
   -- there is no zero behind it
   same_body : length sizes ≤ 32 → length maxima ≡ length sizes → padded_body (space_body chunked sizes maxima) ≡ space_body chunked sizes maxima
@@ -62,17 +63,17 @@ module _ (chunked : Bool) (sizes : List ℕ) (maxima : List (Option ℕ)) where
       padded_full (space_body chunked sizes maxima) (pad8 (length (space_body chunked sizes maxima))) (omega (arith, long))
 
   pub space_own : length sizes ≤ 32 → length maxima ≡ length sizes → (chunked || not (are_sizes sizes maxima)) ≡ false
-      → message_bytes (1, padded_body (dataspace_bytes sizes)) ≡ message_bytes (1, space_body chunked sizes maxima)
-  space_own rank same own = sym (ap space_by own) ∙ ap (λ body. message_bytes (1, body)) (same_body rank same)
+      → message_bytes (dataspace_kind, padded_body (dataspace_bytes sizes)) ≡ message_bytes (dataspace_kind, space_body chunked sizes maxima)
+  space_own rank same own = sym (ap space_by own) ∙ ap (λ body. message_bytes (dataspace_kind, body)) (same_body rank same)
 
   pub space_bounded : length sizes ≤ 32 → length maxima ≡ length sizes → (chunked || not (are_sizes sizes maxima)) ≡ true
-      → message_bytes (1, padded_body (bounded_bytes sizes maxima)) ≡ message_bytes (1, space_body chunked sizes maxima)
-  space_bounded rank same other = sym (ap space_by other) ∙ ap (λ body. message_bytes (1, body)) (same_body rank same)
+      → message_bytes (dataspace_kind, padded_body (bounded_bytes sizes maxima)) ≡ message_bytes (dataspace_kind, space_body chunked sizes maxima)
+  space_bounded rank same other = sym (ap space_by other) ∙ ap (λ body. message_bytes (dataspace_kind, body)) (same_body rank same)
 
   -- its length
   pub length-space : length sizes ≤ 32 → length maxima ≡ length sizes
       → message_size (dataspace_length (length sizes) + (if chunked || not (are_sizes sizes maxima) then 8 * length sizes else 0))
-      ≡ length (message_bytes (1, space_body chunked sizes maxima))
+      ≡ length (message_bytes (dataspace_kind, space_body chunked sizes maxima))
   length-space rank same =
       let long = (space_padded chunked sizes maxima rank same).2 in
       ap message_size (sym (length-space_body chunked sizes maxima same)) ∙ sym long ∙ omega arith
@@ -100,13 +101,13 @@ six out o1 o2 o3 o4 o5 o6 p a b c d g e1 e2 e3 e4 e5 e6 = rw (e6, e5, e4, e3, e2
 
 module _ (a : Described) (c : Cells) (o : OthersBytes) (address : Option ℕ) where
   abbrev space : ℕ × List ℕ
-  space = (1, space_body (in_chunks a.layout) a.sizes a.maxima)
+  space = (dataspace_kind, space_body (in_chunks a.layout) a.sizes a.maxima)
 
   abbrev fills : List (ℕ × List ℕ)
   fills = fill_messages (in_chunks a.layout) a.fixed a.fill o.count
 
   abbrev layout : ℕ × List ℕ
-  layout = (8, padded_body (layout_written a c address))
+  layout = (data_layout_kind, padded_body (layout_written a c address))
 
   pub list_is : messages_bytes (array_list a c o address)
       ≡ message_bytes space ++ (message_bytes (type_message a.fixed) ++ (messages_bytes fills ++ (message_bytes layout ++ [])))
@@ -146,12 +147,12 @@ length-cells_written (Chunks held) a room = sym (length-filled a.fixed a.fill (c
 
 -- a layout message, wherever the data are
 pub length-laid : (a : Described) (c : Cells) (address : Option ℕ) → HasRoom c (cells a.sizes * (a.fixed).size)
-    → length (message_bytes (8, padded_body (layout_written a c address))) ≡ message_size (layout_size a.sizes (storage_written a c) (a.fixed).size)
+    → length (message_bytes (data_layout_kind, padded_body (layout_written a c address))) ≡ message_size (layout_size a.sizes (storage_written a c) (a.fixed).size)
 length-laid a c address room =
     let body : List ℕ = layout_written a c address in
     let long : length body ≡ layout_size a.sizes (storage_written a c) (a.fixed).size
     = length-layout (storage_written a c) a.fixed a.sizes (cells_written c a) address (length-cells_written c a room) in
-    let own : length (message_bytes (8, padded_body body)) ≡ 8 + length (padded_body body) = omega arith in
+    let own : length (message_bytes (data_layout_kind, padded_body body)) ≡ 8 + length (padded_body body) = omega arith in
     own ∙ ap (λ n. 8 + n) (length-raised body ∙ ap pad8 long)
 
 -- ---- data behind the header

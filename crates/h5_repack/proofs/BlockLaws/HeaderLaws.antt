@@ -3,6 +3,7 @@ use Rattle.std.proofs.Common.{◌≡◌, ℕ, ◌+◌, ◌*◌, ◌≤◌, Optio
 use Rattle.std.proofs.lemmas.List.FromFn.{length-map-range_with_len}
 use Rattle.std.specs.Prelude.{if◌then◌else◌, ℤ}
 use Rattle.std.specs.List.{AllByRecursion, flat_map}
+use Rattle.h5_model.specs.Format.MessageTypes.{symbol_table_kind}
 use Rattle.h5_model.specs.Edits.Refusal.{is_chunked}
 use Rattle.h5_model.specs.Format.Fixed.{Fixed}
 use Rattle.h5_model.specs.Format.Layout.{Layout, InMessage, InBlock, InChunks}
@@ -32,12 +33,12 @@ use Rattle.h5_repack.proofs.BlockLaws.Messages.{messages_bytes-append}
 
 -- ---- the header of a group
 
-pub group_is : (tree heap : ℕ) (ms : List (ℕ × List ℕ)) (o : OthersBytes) → AreOthers ms o → group_written tree heap o ≡ header_bytes 1 ((17, pair_bytes tree heap) ∷ ms)
+pub group_is : (tree heap : ℕ) (ms : List (ℕ × List ℕ)) (o : OthersBytes) → AreOthers ms o → group_written tree heap o ≡ header_bytes 1 ((symbol_table_kind, pair_bytes tree heap) ∷ ms)
 group_is tree heap ms o are =
-    let all : List (ℕ × List ℕ) = (17, pair_bytes tree heap) ∷ ms in
+    let all : List (ℕ × List ℕ) = (symbol_table_kind, pair_bytes tree heap) ∷ ms in
     let count : 1 + o.count ≡ length all = omega (arith, are.count_is) in
     let size : 24 + length o.bytes ≡ length (messages_bytes all) = omega (arith, ap length are.bytes_are) in
-    (λ i. prefix_bytes 1 (count i) (size i) ++ (message_bytes (17, pair_bytes tree heap) ++ are.bytes_are i))
+    (λ i. prefix_bytes 1 (count i) (size i) ++ (message_bytes (symbol_table_kind, pair_bytes tree heap) ++ are.bytes_are i))
 
 -- ---- the header of an array
 

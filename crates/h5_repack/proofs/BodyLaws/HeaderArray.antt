@@ -16,7 +16,7 @@ use Rattle.h5_bytes.proofs.PartLaws.{part-whole}
 use Rattle.h5_bytes.specs.Blocks.{block, Run}
 use Rattle.h5_bytes.specs.Texts.{pad8}
 use Rattle.h5_bytes.specs.declared.Block.{Block}
-use Rattle.h5_model.specs.Format.MessageTypes.{data_layout_kind, dataspace_kind, datatype_kind, fill_value_kind, old_fill_value_kind}
+use Rattle.h5_model.specs.Format.MessageTypes.{data_layout_kind, dataspace_kind, datatype_kind, fill_value_kind, old_fill_value_kind, nil_kind, attribute_kind, continuation_kind}
 use Rattle.h5_model.specs.Format.Cells.{cells_of, value_in_chunk}
 use Rattle.h5_model.specs.Format.Chunks.{Chunks}
 use Rattle.h5_model.specs.Tree.Grid.{corner_of, inner_of}
@@ -50,7 +50,7 @@ use Rattle.h5_repack.proofs.BodyLaws.HeaderSpace.{space_back, space_padded}
 
 -- what an array's header may hold, by its type
 in_dataset : ℕ → Bool
-in_dataset kind = ((kind == 1 || kind == 3) || (kind == 4 || kind == 5)) || (kind == 8 || ((kind == 0 || kind == 16) || (kind == 12 || is_kept_kind kind)))
+in_dataset kind = ((kind == dataspace_kind || kind == datatype_kind) || (kind == old_fill_value_kind || kind == fill_value_kind)) || (kind == data_layout_kind || ((kind == nil_kind || kind == continuation_kind) || (kind == attribute_kind || is_kept_kind kind)))
 
 other_in_dataset : (kind : ℕ) → is_other_kind kind ≡ true → in_dataset kind ≡ true
 unfolding in_dataset
@@ -72,11 +72,11 @@ module _ (t : Fixed) (sizes : List ℕ) (maxima : List (Option ℕ)) (fill : ℤ
   fills without = if without then [] else fill_message chunked t fill ∷ []
 
   abbrev bodies : Bool → List (ℕ × List ℕ)
-  bodies without = (1, space_body chunked sizes maxima) ∷ type_message t ∷ (fills without ++ (8, padded_body body) ∷ [])
+  bodies without = (dataspace_kind, space_body chunked sizes maxima) ∷ type_message t ∷ (fills without ++ (data_layout_kind, padded_body body) ∷ [])
 
   -- ---- they are messages of a content
 
-  space_content : IsContentMessage (1, space_body chunked sizes maxima)
+  space_content : IsContentMessage (dataspace_kind, space_body chunked sizes maxima)
   space_content =
       let long = space_padded chunked sizes maxima rank (AllZip-long IsBound sizes maxima bound) in
       record { plain = record { kind = omega arith; own = refl; padded = long.0; low = long.1 }; kind = refl }
@@ -90,7 +90,7 @@ module _ (t : Fixed) (sizes : List ℕ) (maxima : List (Option ℕ)) (fill : ℤ
       = length-raised (fill_bytes time t fill) ∙ ap pad8 (length-fill_bytes time t fill) ∙ omega (arith, size-low t is, size-high t is) in
       record { plain = record { kind = omega arith; own = refl; padded = ap (λ n. n % 8) long; low = omega arith }; kind = refl }
 
-  layout_content : IsContentMessage (8, padded_body body)
+  layout_content : IsContentMessage (data_layout_kind, padded_body body)
   layout_content =
       let long = length-raised body in
       record { plain = record { kind = omega arith; own = refl; padded = omega (arith, long); low = omega (arith, long, short_body) }; kind = refl }
@@ -185,15 +185,15 @@ module _ (t : Fixed) (sizes : List ℕ) (maxima : List (Option ℕ)) (fill : ℤ
       dataset : layout_of sizes t.size (padded_body body) ≡ Some layout → storage ≡ storage_of sizes layout → IsChunkSmall t layout → HasData image t layout held blocks
           → cs ≡ cells_of image t fill sizes layout held → (without ≡ true → fill ≡ pos 0) → HasDataset image messages array blocks
       dataset laid stored small data_there cells_are unwritten =
-          let old = counted_own 4 refl ∙ no_old_fill (at + 16) without in
-          let new = counted_own 5 refl in
+          let old = counted_own old_fill_value_kind refl ∙ no_old_fill (at + 16) without in
+          let new = counted_own fill_value_kind refl in
           record {
             known = all_known;
             layout = layout;
             array = record {
-              one_space = counted_own 1 refl ∙ one_space (at + 16) without;
-              one_type = counted_own 3 refl ∙ one_type (at + 16) without;
-              one_layout = counted_own 8 refl ∙ one_layout (at + 16) without;
+              one_space = counted_own dataspace_kind refl ∙ one_space (at + 16) without;
+              one_type = counted_own datatype_kind refl ∙ one_type (at + 16) without;
+              one_layout = counted_own data_layout_kind refl ∙ one_layout (at + 16) without;
               old_fills = omega (arith, old);
               fills = omega (arith, new, one_fill (at + 16) without);
               space = space_back chunked sizes maxima rank (sizes_small sizes few) bound;
@@ -201,11 +201,11 @@ module _ (t : Fixed) (sizes : List ℕ) (maxima : List (Option ℕ)) (fill : ℤ
               filled = record {
                 old_fill = None;
                 new_fill = new_fill (at + 16) without;
-                old_filled = subst (λ body. IsFill (old_fill_value t) body None) (sym (found_own 4 refl)) (old_fill_read (at + 16) without);
-                new_filled = subst (λ body. IsFill (fill_value t) body (new_fill (at + 16) without)) (sym (found_own 5 refl)) (new_fill_read (at + 16) without);
+                old_filled = subst (λ body. IsFill (old_fill_value t) body None) (sym (found_own old_fill_value_kind refl)) (old_fill_read (at + 16) without);
+                new_filled = subst (λ body. IsFill (fill_value t) body (new_fill (at + 16) without)) (sym (found_own fill_value_kind refl)) (new_fill_read (at + 16) without);
                 filled = chosen (at + 16) without unwritten;
               };
-              laid_out = ap (option_and_then (layout_of sizes t.size)) (found_own 8 refl ∙ layout_found (at + 16) without) ∙ laid;
+              laid_out = ap (option_and_then (layout_of sizes t.size)) (found_own data_layout_kind refl ∙ layout_found (at + 16) without) ∙ laid;
               small = few;
               chunk_small = small;
             };

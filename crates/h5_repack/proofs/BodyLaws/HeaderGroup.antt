@@ -10,6 +10,7 @@ use Rattle.h5_bytes.specs.Blocks.{block}
 use Rattle.h5_bytes.specs.declared.Block.{Block}
 use Rattle.h5_model.specs.Format.Addresses.{symbol_table_of}
 use Rattle.h5_model.specs.Format.Links.{HasLinks}
+use Rattle.h5_model.specs.Format.MessageTypes.{nil_kind, attribute_kind, continuation_kind, symbol_table_kind}
 use Rattle.h5_model.specs.Format.Messages.{Message, HasMessages, prefix_at, reference_count}
 use Rattle.h5_model.specs.Format.Bodies.{pair_bytes}
 use Rattle.h5_model.specs.Format.Plain.{messages_bytes}
@@ -43,7 +44,7 @@ group_header-size o links plain e = let counted = length-others o plain in rw e 
 
 -- what a group's header may hold, by its type
 in_group : ℕ → Bool
-in_group kind = kind == 17 || ((kind == 0 || kind == 16) || (kind == 12 || is_kept_kind kind))
+in_group kind = kind == symbol_table_kind || ((kind == nil_kind || kind == continuation_kind) || (kind == attribute_kind || is_kept_kind kind))
 
 other_in_group : (kind : ℕ) → is_other_kind kind ≡ true → in_group kind ≡ true
 unfolding in_group
@@ -52,7 +53,7 @@ other_in_group kind is = grind (arith, nat_tests)
 module _ (image : List ℕ) (table : FinMap nat_cmp ℕ) (at leaf internal tree heap : ℕ) (o : Object) (links : Links) (found : List (List ℕ × Target)) (blocks : List Block)
     (plain : IsPlainObject o) where
   abbrev cs : List (ℕ × List ℕ)
-  cs = (17, pair_bytes tree heap) ∷ []
+  cs = (symbol_table_kind, pair_bytes tree heap) ∷ []
 
   abbrev ms : List Message
   ms = messages_from (at + 16) (cs ++ others_of o)
@@ -76,7 +77,7 @@ module _ (image : List ℕ) (table : FinMap nat_cmp ℕ) (at leaf internal tree 
         → HasGroup image ms found blocks
     has_group tree_low heap_low leaf_is internal_is linked = record {
       known = known;
-      once = count_of-content o plain (at + 16) cs content 17 refl;
+      once = count_of-content o plain (at + 16) cs content symbol_table_kind refl;
       symbol_table = record { tree = tree; heap = heap };
       chosen = symbol_table_back tree heap tree_low heap_low;
       linked = rw (leaf_is, internal_is) linked;

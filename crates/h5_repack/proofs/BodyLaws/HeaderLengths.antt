@@ -3,6 +3,7 @@ use Rattle.std.proofs.Common.{◌≡◌, ℕ, ◌+◌, ◌*◌, List, [], ◌∷
 use Rattle.std.proofs.lemmas.Slice.Zip.{AllZip-long}
 use Rattle.std.specs.Prelude.{nat_lt, if◌then◌else◌, ◌^◌, ◌<◌, pos}
 use Rattle.std.specs.List.{AllZip}
+use Rattle.h5_model.specs.Format.MessageTypes.{dataspace_kind, data_layout_kind}
 use Rattle.h5_bytes.specs.Texts.{pad8}
 use Rattle.h5_bytes.specs.Bytes.{little_bytes}
 use Rattle.h5_model.specs.Edits.Refusal.{is_chunked}
@@ -40,13 +41,13 @@ pub length-messages_of : (t : Fixed) (sizes : List ℕ) (maxima : List (Option �
     → length (messages_bytes (messages_of t sizes maxima fill chunked layout others))
     ≡ 8 + length (space_body chunked sizes maxima) + (24 + (length (messages_bytes (fill_messages chunked t fill others)) + message_size (length layout)))
 length-messages_of t sizes maxima fill chunked layout others =
-    let laid : ℕ × List ℕ = (8, padded_body layout) in
+    let laid : ℕ × List ℕ = (data_layout_kind, padded_body layout) in
     let fills : List (ℕ × List ℕ) = fill_messages chunked t fill others in
     let behind = length-messages fills (laid ∷ []) in
     let last : length (messages_bytes (laid ∷ [])) ≡ 8 + pad8 (length layout) + 0 = one_more laid [] (pad8 (length layout)) 0 (length-raised layout) refl in
     let rest : length (messages_bytes (fills ++ laid ∷ [])) ≡ length (messages_bytes fills) + message_size (length layout) = omega (arith, behind, last) in
     let typed = one_more (type_message t) (fills ++ laid ∷ []) 16 _ refl rest in
-    one_more (1, space_body chunked sizes maxima) (type_message t ∷ (fills ++ laid ∷ [])) (length (space_body chunked sizes maxima)) _ refl typed
+    one_more (dataspace_kind, space_body chunked sizes maxima) (type_message t ∷ (fills ++ laid ∷ [])) (length (space_body chunked sizes maxima)) _ refl typed
 
 -- the header of an array with these messages besides, with such a count
 abbrev header_of : ℕ → Dataset → List (ℕ × List ℕ) → Option ℕ → List ℕ

@@ -10,6 +10,7 @@ use Rattle.std.specs.List.{AllByRecursion, AllZip, filter, find}
 use Rattle.std.specs.FinMap.{entries, len, len-entries}
 use Rattle.h5_bytes.specs.Texts.{pad8}
 use Rattle.h5_bytes.proofs.BlockLaws.{all_append}
+use Rattle.h5_model.specs.Format.MessageTypes.{attribute_kind, comment_kind, old_modification_time_kind, modification_time_kind}
 use Rattle.h5_model.specs.Format.Messages.{Message, count_of, first_body}
 use Rattle.h5_model.specs.Tree.Places.{extent_cells}
 use Rattle.h5_model.specs.Format.Plain.{message_bytes, messages_bytes}
@@ -26,24 +27,24 @@ use Rattle.h5_repack.proofs.BodyLaws.HeaderAttributes.{attribute_plain, attribut
 
 -- Comment and the two Modification Times
 abbrev pub is_kept_kind : ℕ → Bool
-is_kept_kind kind = (kind == 13 || kind == 14) || kind == 18
+is_kept_kind kind = (kind == comment_kind || kind == old_modification_time_kind) || kind == modification_time_kind
 
 -- the types of attributes and of what is kept
 abbrev pub is_other_kind : ℕ → Bool
-is_other_kind kind = kind == 12 || is_kept_kind kind
+is_other_kind kind = kind == attribute_kind || is_kept_kind kind
 
 -- a message of a content: a plain one of a type that is only a content's
 pub record IsContentMessage (m : ℕ × List ℕ) : Type 0 where
   pub plain : IsPlain m
   pub kind : is_other_kind m.0 ≡ false
 
-no_attribute : (kind : ℕ) → is_other_kind kind ≡ false → (kind == 12) ≡ false
+no_attribute : (kind : ℕ) → is_other_kind kind ≡ false → (kind == attribute_kind) ≡ false
 no_attribute kind h = grind (arith, nat_tests)
 
 not_kept : (kind : ℕ) → is_other_kind kind ≡ false → is_kept_kind kind ≡ false
 not_kept kind h = grind (arith, nat_tests)
 
-kept_no_attribute : (kind : ℕ) → is_kept_kind kind ≡ true → (kind == 12) ≡ false
+kept_no_attribute : (kind : ℕ) → is_kept_kind kind ≡ true → (kind == attribute_kind) ≡ false
 kept_no_attribute kind h = grind (arith, nat_tests)
 
 kept_other : (kind : ℕ) → is_kept_kind kind ≡ true → is_other_kind kind ≡ true
@@ -167,7 +168,7 @@ all_kept_others : (ks : List Kept) → AllByRecursion IsPlainKept ks → AllByRe
 all_kept_others [] all = tt
 all_kept_others (k ∷ ks) all = (kept_other k.kind (all.0).kind, all_kept_others ks all.1)
 
-kept_no_attributes : (ks : List Kept) → AllByRecursion IsPlainKept ks → AllByRecursion (λ (m : ℕ × List ℕ). (m.0 == 12) ≡ false) (map kept_message ks)
+kept_no_attributes : (ks : List Kept) → AllByRecursion IsPlainKept ks → AllByRecursion (λ (m : ℕ × List ℕ). (m.0 == attribute_kind) ≡ false) (map kept_message ks)
 kept_no_attributes [] all = tt
 kept_no_attributes (k ∷ ks) all = (kept_no_attribute k.kind (all.0).kind, kept_no_attributes ks all.1)
 
@@ -180,7 +181,7 @@ content_plain : (cs : List (ℕ × List ℕ)) → AllByRecursion IsContentMessag
 content_plain [] all = tt
 content_plain (m ∷ cs) all = ((all.0).plain, content_plain cs all.1)
 
-content_no_attributes : (cs : List (ℕ × List ℕ)) → AllByRecursion IsContentMessage cs → AllByRecursion (λ (m : ℕ × List ℕ). (m.0 == 12) ≡ false) cs
+content_no_attributes : (cs : List (ℕ × List ℕ)) → AllByRecursion IsContentMessage cs → AllByRecursion (λ (m : ℕ × List ℕ). (m.0 == attribute_kind) ≡ false) cs
 content_no_attributes [] all = tt
 content_no_attributes (m ∷ cs) all = (no_attribute m.0 (all.0).kind, content_no_attributes cs all.1)
 
@@ -244,8 +245,8 @@ module _ (o : Object) (is : IsPlainObject o) where
     } where
       attributes_left : filter is_attribute_message ms ≡ filter is_attribute_message (messages_from (end_of (end_of at cs) (map kept_message o.kept)) (map attribute_message es))
       attributes_left =
-          skipped (λ k. k == 12) at cs (others_of o) (content_no_attributes cs content)
-          ∙ skipped (λ k. k == 12) (end_of at cs) (map kept_message o.kept) (map attribute_message es) (kept_no_attributes o.kept is.kept)
+          skipped (λ k. k == attribute_kind) at cs (others_of o) (content_no_attributes cs content)
+          ∙ skipped (λ k. k == attribute_kind) (end_of at cs) (map kept_message o.kept) (map attribute_message es) (kept_no_attributes o.kept is.kept)
 
     pub has_kept : o.kept ≡ map kept_of (filter is_kept ms)
     has_kept = sym (ap (map kept_of) (skipped is_kept_kind at cs (others_of o) (content_not_kept cs content)) ∙ kept_read (end_of at cs) o.kept es is.kept)

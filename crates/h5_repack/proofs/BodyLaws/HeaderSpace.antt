@@ -1,5 +1,6 @@
 -- The extent of an array is read back from its dataspace message (File Format Specification 3.0, section IV.A.2.b).
 use Rattle.std.proofs.Common.{◌≡◌, ℕ, ◌+◌, ◌*◌, ◌%◌, ◌^◌, ◌<◌, ◌≤◌, ◌==◌, ◌||◌, List, [], ◌∷◌, length, map, refl, sym, ap, ◌∙◌, arith, Bool, true, false, cond, not, Option, Some, None, eqb-true}
+use Rattle.std.proofs.lemmas.Bool.{and_parts}
 use Rattle.std.proofs.lemmas.Bool.Decides.{nat_tests}
 use Rattle.std.specs.Prelude.{if◌then◌else◌}
 use Rattle.std.specs.List.{AllByRecursion, AllZip}
@@ -9,7 +10,7 @@ use Rattle.h5_model.specs.Format.Sizes.{dataspace_length, message_size}
 use Rattle.h5_model.specs.Tree.Objects.{are_sizes}
 use Rattle.h5_model.specs.Format.Bodies.{dataspace_bytes, bounded_bytes, or_undefined}
 use Rattle.h5_model.proofs.PaddedLaws.{padded_full}
-use Rattle.h5_msg.proofs.WordLaws.{and_left, and_right, words_long, bounds_long}
+use Rattle.h5_msg.proofs.WordLaws.{words_long, bounds_long}
 use Rattle.h5_msg.proofs.DataspaceLaws.{Small, plain_back, bounded_back}
 use Rattle.h5_repack.specs.Bodies.Bodies.{space_body}
 use Rattle.h5_repack.specs.Bodies.Sound.{IsBound}
@@ -36,8 +37,8 @@ own_maxima [] (m ∷ ms) own = absurd (cc)
 own_maxima (d ∷ ds) [] own = absurd (cc)
 own_maxima (d ∷ ds) (None ∷ ms) own = absurd (cc)
 own_maxima (d ∷ ds) (Some m ∷ ms) own =
-    let same : (m == d) ≡ true = and_left (m == d) (are_sizes ds ms) own in
-    (λ i. Some (eqb-true m d same i) ∷ own_maxima ds ms (and_right (m == d) (are_sizes ds ms) own) i)
+    let same : (m == d) ≡ true = (and_parts (m == d) (are_sizes ds ms) own).0 in
+    (λ i. Some (eqb-true m d same i) ∷ own_maxima ds ms (and_parts (m == d) (are_sizes ds ms) own).1 i)
 
 -- where no maxima are written, the cells are not in chunks, and each maximum is the size
 pub no_maxima : (chunked own : Bool) → (chunked || not own) ≡ false → own ≡ true

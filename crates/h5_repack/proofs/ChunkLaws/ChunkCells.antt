@@ -1,28 +1,28 @@
 -- The cells of an array are read back from its chunks in the plain layout (File Format Specification 3.0, sections III.A.1 and
 -- IV.A.2.i).
-use Rattle.std.proofs.Common.{◌≡◌, ℕ, zero, suc, ◌*◌, ◌%◌, ◌<◌, ◌≤◌, ℤ, List, [], ◌∷◌, length, map, get_or, refl, sym, ap, ◌∙◌, arith, true, false, cond, Option, Some, None}
+use Rattle.std.proofs.Common.{◌≡◌, ℕ, ◌*◌, ◌%◌, ◌<◌, ◌≤◌, ℤ, List, [], ◌∷◌, length, get_or, refl, sym, ap, ◌∙◌, arith, false, Option, Some, None}
+use Rattle.std.proofs.lemmas.Bool.{or_parts}
 use Rattle.std.proofs.lemmas.Bool.Decides.{nat_tests}
 use Rattle.std.proofs.lemmas.List.FromFn.{fill_by_all, length-map-range_with_len, get_or-map-range_with_len}
 use Rattle.std.proofs.lemmas.Nat.{div-add-mod'}
-use Rattle.std.specs.Prelude.{◌==◌, slice_index_or}
+use Rattle.std.specs.Prelude.{◌==◌}
 use Rattle.std.specs.FinMap.{get}
 use Rattle.std.specs.List.{list_any, range_with_len}
 use Rattle.h5_bytes.specs.Bytes.{part}
 use Rattle.h5_model.specs.Edits.Applied.{cell_or_fill}
 use Rattle.h5_model.specs.Format.Cells.{cells_of, value_in, value_in_chunk}
 use Rattle.h5_model.specs.Format.Chunks.{Chunks}
-use Rattle.h5_model.specs.Format.Fixed.{Fixed, fits}
 use Rattle.h5_model.specs.Format.Layout.{InChunks}
 use Rattle.h5_model.specs.Scripts.Reading.{cell_at}
 use Rattle.h5_model.specs.Tree.Grid.{corner_of, inner_of}
 use Rattle.h5_model.specs.Tree.Objects.{Dataset}
-use Rattle.h5_model.specs.Tree.Places.{cells, index_of, place_of, is_inside, IsInside}
+use Rattle.h5_model.specs.Tree.Places.{cells, index_of, place_of, IsInside}
 use Rattle.h5_model.specs.Tree.Sound.{AreOf, IsDataset}
-use Rattle.h5_model.proofs.PlaceLaws.{place-index, inside-index, place_below, index-place}
+use Rattle.h5_model.proofs.PlaceLaws.{place-index, inside-index, place_below, index-place, is_inside_from}
 use Rattle.h5_model.proofs.PlainValues.{value_at-cells_bytes}
-use Rattle.h5_msg.proofs.LayoutLaws.{or_left, or_right}
+use Rattle.h5_model.proofs.EditLaws.{AreOf-cell}
+use Rattle.h5_model.proofs.StoredValues.{AreOf-map}
 use Rattle.h5_chunks.specs.Keys.{index_from}
-pub use Rattle.h5_chunks.proofs.InsideLaws.{is_inside_from}
 use Rattle.h5_layout.specs.HeldChunks.{chunk_values}
 use Rattle.h5_repack.specs.Bodies.Chunks.{chunk_data}
 
@@ -41,10 +41,10 @@ inner_in_chunk [] [] same some = tt
 inner_in_chunk [] (i ∷ is) same some = absurd (omega (arith, same))
 inner_in_chunk (c ∷ cs) [] same some = absurd (omega (arith, same))
 inner_in_chunk (c ∷ cs) (i ∷ is) same some =
-    let own : (c == 0) ≡ false = or_left (c == 0) (list_any (λ n. n == 0) cs) some in
+    let own : (c == 0) ≡ false = (or_parts (c == 0) (list_any (λ n. n == 0) cs) some).0 in
     let any : 0 < c = grind (arith, nat_tests) in
     let low : i % c < c = omega (arith, any) in
-    (low, inner_in_chunk cs is (omega (arith, same)) (or_right (c == 0) (list_any (λ n. n == 0) cs) some))
+    (low, inner_in_chunk cs is (omega (arith, same)) (or_parts (c == 0) (list_any (λ n. n == 0) cs) some).1)
 
 -- ---- the value of a cell
 
@@ -57,21 +57,6 @@ long_index (d ∷ ds) (i ∷ is) h = omega (arith, long_index ds is h.1)
 cell_inside : (d : Dataset) (index : List ℕ) → IsInside d.sizes index → cell_or_fill d index ≡ cell_at d index
 cell_inside d index inside = rw (is_inside_from d.sizes index inside) refl
 
-value_of_type : (t : Fixed) (values : List ℤ) (i : ℕ) (v : ℤ) → AreOf t values → fits t v ≡ true → fits t (slice_index_or values i v) ≡ true
-value_of_type t [] i v all one = one
-value_of_type t (x ∷ xs) zero v all one = all.0
-value_of_type t (x ∷ xs) (suc i) v all one = value_of_type t xs i v all.1 one
-
-cell_of_type : (d : Dataset) → IsDataset d → (index : List ℕ) → fits d.fixed (cell_or_fill d index) ≡ true
-cell_of_type d sound index = elim (is_inside d.sizes index) as (λ b. fits d.fixed (cond b (slice_index_or d.cells (place_of d.sizes index) d.fill) d.fill) ≡ true) [
-  | true ↦ value_of_type d.fixed d.cells (place_of d.sizes index) d.fill sound.values sound.fill
-  | false ↦ sound.fill
-]
-
-map_of_type : (t : Fixed) (f : ℕ → ℤ) → ((k : ℕ) → fits t (f k) ≡ true) → (ks : List ℕ) → AreOf t (map f ks)
-map_of_type t f each [] = tt
-map_of_type t f each (k ∷ ks) = (each k, map_of_type t f each ks)
-
 -- ---- a chunk
 
 module _ (d : Dataset) (chunk : List ℕ) (sound : IsDataset d) (some : list_any (λ n. n == 0) chunk ≡ false) (same : length chunk ≡ length d.sizes)
@@ -81,7 +66,7 @@ module _ (d : Dataset) (chunk : List ℕ) (sound : IsDataset d) (some : list_any
     value place = cell_or_fill d (index_from offsets (index_of chunk place))
 
     pub of_type : AreOf d.fixed (chunk_values d chunk offsets)
-    of_type = map_of_type d.fixed value (λ place. cell_of_type d sound (index_from offsets (index_of chunk place))) (range_with_len 0 (cells chunk))
+    of_type = AreOf-map d.fixed value (λ place. AreOf-cell d sound (index_from offsets (index_of chunk place))) (range_with_len 0 (cells chunk))
 
     pub length-values : length (chunk_values d chunk offsets) ≡ cells chunk
     length-values = length-map-range_with_len value 0 (cells chunk)

@@ -1,6 +1,7 @@
 -- The keys of a tree of chunks in the plain layout rise, and each chunk is between those around it (File Format Specification 3.0,
 -- section III.A.1).
 use Rattle.std.proofs.Common.{◌≡◌, ℕ, zero, suc, ◌+◌, ◌^◌, ◌<◌, ◌≤◌, List, [], ◌∷◌, ◌++◌, length, get_or, refl, sym, ap, ◌∙◌, subst, arith, true, false}
+use Rattle.std.proofs.lemmas.Bool.{or_parts}
 use Rattle.std.proofs.lemmas.Bool.Decides.{nat_tests}
 use Rattle.std.specs.Prelude.{IsTrue, ◌==◌, nat_lt}
 use Rattle.std.specs.Ordering.{nat_cmp, is_lt, ordering_then}
@@ -12,7 +13,6 @@ use Rattle.h5_model.specs.Format.Chunks.{IsOffset, all_offsets_in, offsets_in}
 use Rattle.h5_model.specs.Format.Links.{Before, NotAfter}
 use Rattle.h5_model.proofs.TextOrder.{not_after_itself, before_le}
 use Rattle.h5_laws.specs.Ladders.{IsLadder, Sides}
-use Rattle.h5_msg.proofs.LayoutLaws.{or_left}
 use Rattle.h5_btree.specs.declared.write.child.Child.{Child}
 use Rattle.h5_btree.specs.Writing.Laws.{lists_beside}
 use Rattle.h5_btree.specs.Writing.Written.{keys_of, places_of}
@@ -43,7 +43,7 @@ pub before_behind : (offsets chunk : List ℕ) → length offsets ≡ length chu
 before_behind offsets [] same ranked some = absurd (omega (arith, ranked))
 before_behind [] (c ∷ cs) same ranked some = absurd (omega (arith, same))
 before_behind (o ∷ os) (c ∷ cs) same ranked some =
-    let own : (c == 0) ≡ false = or_left (c == 0) (list_any (λ n. n == 0) cs) some in
+    let own : (c == 0) ≡ false = (or_parts (c == 0) (list_any (λ n. n == 0) cs) some).0 in
     let less : nat_lt o (o + c) ≡ true = grind (arith, nat_tests) in
     let first : nat_cmp o (o + c) ≡ Less = rw less refl in
     rw first refl

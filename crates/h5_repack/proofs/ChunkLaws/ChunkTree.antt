@@ -16,7 +16,7 @@ use Rattle.h5_model.specs.Format.Chunks.{Chunks, HasChunks, HasChunkKeys, IsChun
 use Rattle.h5_model.proofs.RowLaws.{only_here}
 use Rattle.h5_laws.specs.ChunkLadders.{chunk_lists, rising_chunk_sides}
 use Rattle.h5_laws.specs.Ladders.{Bottom, IsOrderedBy, IsOrderly, Sides, lists_below}
-use Rattle.h5_laws.proofs.ChunkLadders.{chunk_order, chunks_by}
+use Rattle.h5_laws.proofs.ChunkLadders.{chunk_order, chunks_by, zip_long}
 use Rattle.h5_laws.proofs.Lists.{In, in_all, all_in, in_right}
 use Rattle.h5_laws.proofs.Rows.{row_level}
 use Rattle.h5_btree.proofs.NodeLaws.{length-children, length-keys}
@@ -38,11 +38,6 @@ use Rattle.h5_repack.proofs.ChunkLaws.ChunkOrder.{IsGridOf, chunk_ladder, key_of
 single_at : {X : Type 0} (P : X → Type 0) (xs : List X) → ((i : ℕ) → i < length xs → AllByRecursion P (slice_index_or (map (λ x. x ∷ []) xs) i [])) → AllByRecursion P xs
 single_at P [] each = tt
 single_at P (x ∷ xs) each = ((each 0 (omega arith)).0, single_at P xs (λ i low. each (suc i) (omega (arith, low))))
-
-zip_long : {X Y : Type 0} (xs : List X) (ys : List Y) → length xs ≡ length ys + 1 → length (zip xs ys) ≡ length ys
-zip_long [] ys long = absurd (omega (arith, long))
-zip_long (x ∷ xs) [] long = refl
-zip_long (x ∷ xs) (y ∷ ys) long = ap suc (zip_long xs ys (omega (arith, long)))
 
 zip_seconds : {X Y : Type 0} (xs : List X) (ys : List Y) → length xs ≡ length ys + 1 → map (λ (z : X × Y). z.1) (zip xs ys) ≡ ys
 zip_seconds [] ys long = absurd (omega (arith, long))

@@ -20,15 +20,13 @@ use Rattle.h5_model.specs.Scripts.Reading.{cell_at}
 use Rattle.h5_model.specs.Tree.Grid.{corner_of, inner_of}
 use Rattle.h5_model.specs.Tree.Objects.{Dataset}
 use Rattle.h5_model.specs.Tree.Places.{cells, index_of, place_of, is_inside, IsInside}
-use Rattle.h5_model.proofs.PlaceLaws.{index-place, inside-index, place-index, place_below}
+use Rattle.h5_model.proofs.PlaceLaws.{index-place, inside-index, place-index, place_below, inside_of, is_inside_from}
 use Rattle.h5_laws.proofs.Lists.{In, all_in, contains_in, from_flat, in_all, in_contains, in_map}
 use Rattle.h5_laws.proofs.Maps.{found_entry, get_of_entry}
-use Rattle.h5_chunks.proofs.InsideLaws.{inside_of}
 use Rattle.h5_repack.specs.Bodies.Sound.{IsUnset}
 use Rattle.h5_layout.specs.HeldChunks.{AreStoredChunks, IsHeldChunk, held_chunks}
 use Rattle.h5_layout.proofs.CornerInside.{corner_inside}
 use Rattle.h5_layout.proofs.RisingLaws.{sorted_rising}
-use Rattle.h5_repack.proofs.ChunkLaws.ChunkCells.{is_inside_from}
 
 -- ---- keys of whole chunks
 

@@ -1,6 +1,6 @@
 -- A tree is written the same whatever its keys are kept as, if their bytes are the same (File Format Specification 3.0, section III.A.1).
 use Rattle.std.proofs.Common.{◌≡◌, ℕ, zero, suc, ◌+◌, ◌*◌, List, [], ◌∷◌, ◌++◌, length, map, take, drop, refl, sym, ap, ◌∙◌, true, false, Bool, cond}
-use Rattle.std.proofs.lemmas.List.{length-map}
+use Rattle.std.proofs.lemmas.List.{drop-map, length-map, take-map}
 use Rattle.std.specs.Prelude.{nat_le}
 use Rattle.h5_bytes.specs.Bytes.{undefined_address}
 use Rattle.h5_model.specs.Format.Nodes.{Kind, node_length}
@@ -9,21 +9,11 @@ use Rattle.h5_btree.specs.declared.write.child.Child.{Child}
 use Rattle.h5_btree.specs.Writing.Written.{as_children, chunks, cut_into_lists, last_below, places_of, right_of, row_bytes, row_place, rows_bytes, tree_bytes}
 use Rattle.h5_btree.proofs.WriteLaws.TreeLaws.{tree_bytes_is}
 
-take_mapped : {X Y : Type 0} (f : X → Y) (n : ℕ) (xs : List X) → take n (map f xs) ≡ map f (take n xs)
-take_mapped f zero xs = refl
-take_mapped f (suc n) [] = refl
-take_mapped {Y = Y} f (suc n) (x ∷ xs) = ap (λ (ys : List Y). f x ∷ ys) (take_mapped f n xs)
-
-drop_mapped : {X Y : Type 0} (f : X → Y) (n : ℕ) (xs : List X) → drop n (map f xs) ≡ map f (drop n xs)
-drop_mapped f zero xs = refl
-drop_mapped f (suc n) [] = refl
-drop_mapped f (suc n) (x ∷ xs) = drop_mapped f n xs
-
-cut_mapped : {X Y : Type 0} (f : X → Y) (n m : ℕ) (xs : List X) → cut_into_lists n m (map f xs) ≡ map (map f) (cut_into_lists n m xs)
+pub cut_mapped : {X Y : Type 0} (f : X → Y) (n m : ℕ) (xs : List X) → cut_into_lists n m (map f xs) ≡ map (map f) (cut_into_lists n m xs)
 cut_mapped f zero m xs = refl
 cut_mapped {X = X} {Y = Y} f (suc n) m xs =
     ap (λ k. by_test (nat_le k m)) (length-map xs f)
-    ∙ by_cases (nat_le (length xs) m) (ap (cut_into_lists n m) (drop_mapped f m xs) ∙ cut_mapped f n m (drop m xs)) where
+    ∙ by_cases (nat_le (length xs) m) (ap (cut_into_lists n m) (drop-map f m xs) ∙ cut_mapped f n m (drop m xs)) where
       by_test : Bool → List (List Y)
       by_test b = cond b (map f xs ∷ []) (take m (map f xs) ∷ cut_into_lists n m (drop m (map f xs)))
 
@@ -32,7 +22,7 @@ cut_mapped {X = X} {Y = Y} f (suc n) m xs =
 
       by_cases : (b : Bool) → cut_into_lists n m (drop m (map f xs)) ≡ map (map f) (cut_into_lists n m (drop m xs)) → by_test b ≡ map (map f) (own b)
       by_cases true rest = refl
-      by_cases false rest = λ i. take_mapped f m xs i ∷ rest i
+      by_cases false rest = λ i. take-map f m xs i ∷ rest i
 
 module _ {K L : Type 0} (g : L → List ℕ) (h : K → L) (kind : Kind) where
   abbrev bytes : K → List ℕ

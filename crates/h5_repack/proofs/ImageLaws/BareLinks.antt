@@ -1,7 +1,6 @@
 -- How long a group's links are does not depend on the addresses to which they lead.
-use Rattle.std.proofs.Common.{◌≡◌, ℕ, zero, suc, ◌+◌, ◌-◌, ◌*◌, List, [], ◌∷◌, ◌++◌, map, length, length-append, take, drop, refl, sym, ap, ap₂, ◌∙◌, Bool, true, false, cond}
+use Rattle.std.proofs.Common.{◌≡◌, ℕ, ◌+◌, ◌-◌, ◌*◌, List, [], ◌∷◌, ◌++◌, map, length, length-append, refl, sym, ap, ap₂, ◌∙◌}
 use Rattle.std.proofs.lemmas.List.{length-map}
-use Rattle.std.specs.Prelude.{nat_le}
 use Rattle.std.specs.List.{flat_map}
 use Rattle.h5_bytes.specs.Numbers.{word}
 use Rattle.h5_model.specs.Format.Nodes.{group_kind}
@@ -14,6 +13,7 @@ use Rattle.h5_group.specs.Heap.Links.{Leads, ToGroup, ToArray, ToText, heap_text
 use Rattle.h5_group.specs.Heap.Written.{texts_span, links_with_offsets, placed_links, written_segment, heap_bytes}
 use Rattle.h5_group.specs.Writing.Written.{runs_of, written_symbol_node, last_name_offset, children_of, heap_place, symbols_place, links_bytes}
 use Rattle.h5_group.proofs.WriteLaws.SymbolNodes.{length-node_of}
+use Rattle.h5_repack.proofs.ChunkLaws.KeyTrees.{cut_mapped}
 
 -- a link without its addresses
 abbrev pub bare : List ℕ × Leads → List ℕ × Leads
@@ -52,30 +52,8 @@ placed_map at (l ∷ links) =
 
 -- ---- runs
 
-take_map : {X Y : Type 0} (f : X → Y) (n : ℕ) (xs : List X) → take n (map f xs) ≡ map f (take n xs)
-take_map f zero xs = refl
-take_map f (suc n) [] = refl
-take_map {Y = Y} f (suc n) (x ∷ xs) = ap (λ (rest : List Y). f x ∷ rest) (take_map f n xs)
-
-drop_map : {X Y : Type 0} (f : X → Y) (n : ℕ) (xs : List X) → drop n (map f xs) ≡ map f (drop n xs)
-drop_map f zero xs = refl
-drop_map f (suc n) [] = refl
-drop_map f (suc n) (x ∷ xs) = drop_map f n xs
-
-map_if : {X Y : Type 0} (f : X → Y) (b : Bool) (xs ys : List X) (rest : List (List X))
-    → cond b (map f xs ∷ []) (map f ys ∷ map (map f) rest) ≡ map (map f) (cond b (xs ∷ []) (ys ∷ rest))
-map_if f true xs ys rest = refl
-map_if f false xs ys rest = refl
-
-cut_map : {X Y : Type 0} (f : X → Y) (n m : ℕ) (xs : List X) → cut_into_lists n m (map f xs) ≡ map (map f) (cut_into_lists n m xs)
-cut_map f zero m xs = refl
-cut_map {Y = Y} f (suc n) m xs =
-    (λ i. cond (nat_le (length-map xs f i) m) (map f xs ∷ []) (take_map f m xs i ∷ cut_into_lists n m (drop_map f m xs i)))
-    ∙ ap (λ (rest : List (List Y)). cond (nat_le (length xs) m) (map f xs ∷ []) (map f (take m xs) ∷ rest)) (cut_map f n m (drop m xs))
-    ∙ map_if f (nat_le (length xs) m) xs (take m xs) (cut_into_lists n m (drop m xs))
-
 chunks_map : {X Y : Type 0} (f : X → Y) (m : ℕ) (xs : List X) → chunks m (map f xs) ≡ map (map f) (chunks m xs)
-chunks_map f m xs = ap (λ n. cut_into_lists n m (map f xs)) (length-map xs f) ∙ cut_map f (length xs) m xs
+chunks_map f m xs = ap (λ n. cut_into_lists n m (map f xs)) (length-map xs f) ∙ cut_mapped f (length xs) m xs
 
 runs_map : (leaf : ℕ) (xs : List (ℕ × (List ℕ × Leads))) → runs_of leaf (map placed_bare xs) ≡ map (map placed_bare) (runs_of leaf xs)
 runs_map leaf [] = refl

@@ -1,10 +1,9 @@
 -- Members of lists: the last one, of a list turned round, and of what a function gives.
-use Rattle.std.proofs.Common.{◌≡◌, ℕ, ◌⊎◌, inl, inr, List, [], ◌∷◌, ◌++◌, refl, sym, ap, ◌∙◌, subst, reverse, Some, None, Option}
+use Rattle.std.proofs.Common.{◌≡◌, ◌⊎◌, inl, inr, List, [], ◌∷◌, ◌++◌, refl, sym, ap, ◌∙◌, subst, reverse, Some, None, Option}
 use Rattle.std.proofs.lemmas.List.{reverse-append}
 use Rattle.std.proofs.lemmas.Option.{same_Some}
 use Rattle.std.specs.List.{cons_option, filter_map}
 use Rattle.h5_laws.proofs.Lists.{In, in_left, in_right}
-use Rattle.h5_laws.proofs.Pigeonhole.{Apart}
 
 -- the last member, or one before it
 pub in_front : {X : Type 0} (x y : X) (xs : List X) → In x (xs ++ y ∷ []) → In x xs ⊎ (y ≡ x)
@@ -54,10 +53,3 @@ from_filter_map h y (z ∷ zs) at = elim (from_given (h z) y (filter_map h zs) a
   | inl here ↦ (z, inl refl, here)
   | inr later ↦ let rest = from_filter_map h y zs later in (rest.0, inr rest.1, rest.2)
 ]
-
--- ---- numbers of which none stands twice
-
-pub apart_push : (xs : List ℕ) (y : ℕ) → Apart xs → (In y xs → ⊥) → Apart (xs ++ y ∷ [])
-apart_push [] y apart new = (λ at. at, tt)
-apart_push (x ∷ xs) y apart new =
-    (λ at. elim (in_front x y xs at) [ inl l ↦ apart.0 l | inr e ↦ new (inl (sym e)) ], apart_push xs y apart.1 (λ at. new (inr at)))

@@ -13,8 +13,8 @@ use Rattle.h5_repack.specs.Objects.Objects.{AreObjects, IsFilled}
 use Rattle.h5_repack.specs.Objects.Order.{AreMet}
 use Rattle.h5_repack.specs.Objects.Targets.{waiting}
 use Rattle.h5_laws.proofs.Lists.{In, all_in, in_left, in_either, in_right, in_contains, contains_in}
-use Rattle.h5_laws.proofs.Pigeonhole.{Apart, distinct_of_apart}
-use Rattle.h5_repack.proofs.ObjectLaws.Members.{in_front, in_last, apart_push}
+use Rattle.h5_laws.proofs.Pigeonhole.{Apart, distinct_of_apart, apart_push}
+use Rattle.h5_repack.proofs.ObjectLaws.Members.{in_front, in_last}
 use Rattle.h5_repack.proofs.ObjectLaws.Trees.{filled_of, link_waits, some_of}
 use Rattle.h5_repack.proofs.ObjectLaws.Zips.{filled_below}
 

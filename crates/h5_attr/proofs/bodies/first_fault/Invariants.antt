@@ -5,4 +5,4 @@ use Rattle.h5_attr.proofs.bodies.first_fault.Given as goal
 
 abbrev pub invariant-loop-message : goal.invariant-loop-message
 invariant-loop-message l =
-    first_fault (messages_in l.image.bytes (drop l.message-index l.messages.list)) ≡ first_fault (messages_in l.image.bytes l.messages.list)
+    first_fault (messages_in l.header.image (drop l.message-index l.header.list)) ≡ first_fault l.header.messages

@@ -1,6 +1,7 @@
 use Rattle.std.proofs.Common.{◌≡◌, ◌∷◌, ◌++◌, IsTrue, List, length, get_or, refl, sym, ap, ◌∙◌, subst, arith}
 use Rattle.std.specs.List.{list_any}
 use Rattle.std.proofs.lemmas.List.{length-append, length-map, get_or-map}
+use Rattle.h5_model.specs.Format.MessageTypes.{nil_kind, attribute_kind}
 use Rattle.h5_model.specs.Format.Messages.{Message}
 use Rattle.h5_header.specs.Added.{is_movable}
 use Rattle.h5_header.specs.Listed.{message_in, messages_in}
@@ -13,7 +14,7 @@ use Rattle.h5_attr.proofs.edit.remove_at.Goals as goal
 use Rattle.h5_attr.proofs.edit.remove_at.Goals.{After-blank}
 
 pub blank-requires-clause-own : goal.blank-requires-clause-own
-blank-requires-clause-own c sixteen = absurd (omega (arith, c.requires.attribute, sixteen))
+blank-requires-clause-own c same = absurd (omega (arith, c.requires.attribute, same))
 
 abbrev ms : (c : After-blank) → List Message
 ms c = messages_in c.args.image.now.bytes c.args.messages.now.list
@@ -22,12 +23,12 @@ abbrev x : (c : After-blank) → Message
 x c = get_or (ms c) c.args.k none
 
 abbrev nil : (c : After-blank) → Message
-nil c = record (x c) { kind = 0 }
+nil c = record (x c) { kind = nil_kind }
 
 cut : (c : After-blank) → IsCut (ms c) c.args.k (x c)
 cut c = cut_by_place (ms c) c.args.k none (omega (arith, length-map c.args.messages.now.list (message_in c.args.image.now.bytes), c.requires.known))
 
-was : (c : After-blank) → (x c).kind ≡ 12
+was : (c : After-blank) → (x c).kind ≡ attribute_kind
 was c = ap (λ (m : Message). m.kind) (get_or-map (message_in c.args.image.now.bytes) c.args.messages.now.list c.args.k nowhere none c.requires.known) ∙ c.requires.attribute
 
 after : (c : After-blank) → messages_in c.blank.new.image.bytes c.blank.new.self.list ≡ (cut c).front ++ nil c ∷ (cut c).back

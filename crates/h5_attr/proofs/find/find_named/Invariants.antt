@@ -6,5 +6,5 @@ use Rattle.h5_attr.proofs.find.find_named.Given as goal
 
 abbrev pub invariant-loop-message : goal.invariant-loop-message
 invariant-loop-message l = (l.k ≡ l.message-index)
-    × (position_from (is_attribute_named l.name) l.k (messages_in l.image.bytes (drop l.message-index l.messages.list))
-    ≡ position_from (is_attribute_named l.name) 0 (messages_in l.image.bytes l.messages.list))
+    × (position_from (is_attribute_named l.name) l.k (messages_in l.header.image (drop l.message-index l.header.list))
+    ≡ position_from (is_attribute_named l.name) 0 l.header.messages)

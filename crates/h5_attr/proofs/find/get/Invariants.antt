@@ -5,4 +5,4 @@ use Rattle.h5_attr.proofs.find.get.Given as goal
 
 abbrev pub invariant-loop-message : goal.invariant-loop-message
 invariant-loop-message l =
-    attribute_named l.name (messages_in l.image.bytes (drop l.message-index l.messages.list)) ≡ attribute_named l.name (messages_in l.image.bytes l.messages.list)
+    attribute_named l.name (messages_in l.header.image (drop l.message-index l.header.list)) ≡ attribute_named l.name l.header.messages

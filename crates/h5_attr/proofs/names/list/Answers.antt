@@ -1,7 +1,6 @@
 use Rattle.std.proofs.Common.{map, List, ℕ, Bor, subst}
 use Rattle.std.specs.List.Sorted.{IsPermutation}
 use Rattle.std.proofs.lemmas.List.Sorted.{IsPermutation-map}
-use Rattle.h5_header.specs.Listed.{messages_in}
 use Rattle.h5_attr.proofs.OrderLaws.{sorted-texts, keys-are}
 use Rattle.h5_attr.proofs.names.list.Goals as goal
 use Rattle.h5_attr.proofs.names.list.Goals.{In_ok-names}
@@ -19,5 +18,5 @@ returns-clause-same c =
 
 pub returns-clause-names : goal.returns-clause-names
 returns-clause-names c attributes has =
-    keys-are (messages_in c.args.image.now.bytes c.args.messages.now.list) attributes (texts c.sort_unstable.new.self.items) has
+    keys-are c.args.header.now.messages attributes (texts c.sort_unstable.new.self.items) has
     (returns-clause-same c) (returns-clause-sorted c)

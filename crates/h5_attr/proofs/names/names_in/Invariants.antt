@@ -5,4 +5,4 @@ use Rattle.h5_attr.proofs.names.names_in.Given as goal
 
 abbrev pub invariant-loop-message : goal.invariant-loop-message
 invariant-loop-message l =
-    map (λ name. name.now) l.names.items ++ attribute_names_in (messages_in l.image.bytes (drop l.message-index l.messages.list)) ≡ attribute_names_in (messages_in l.image.bytes l.messages.list)
+    map (λ name. name.now) l.names.items ++ attribute_names_in (messages_in l.header.image (drop l.message-index l.header.list)) ≡ attribute_names_in l.header.messages

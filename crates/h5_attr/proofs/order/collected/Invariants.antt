@@ -5,4 +5,4 @@ use Rattle.h5_attr.proofs.order.collected.Given as goal
 
 abbrev pub invariant-loop-message : goal.invariant-loop-message
 invariant-loop-message l =
-    l.listed.items ++ attributes_in (messages_in l.image.bytes (drop l.message-index l.messages.list)) ≡ attributes_in (messages_in l.image.bytes l.messages.list)
+    l.listed.items ++ attributes_in (messages_in l.header.image (drop l.message-index l.header.list)) ≡ attributes_in l.header.messages

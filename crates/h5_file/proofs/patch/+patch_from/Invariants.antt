@@ -12,6 +12,6 @@ abbrev pub invariant-loop-t : goal.invariant-loop-t
 invariant-loop-t l = record {
   from : l.initial.t ≤ l.t;
   index : take l.k l.index ≡ take l.k l.initial.index;
-  bytes : l.bytes ≡ with_writes l.array.fixed (flat_map (λ u. writes_in l.array l.axes l.spans (l.place * l.cells + u) (take l.k l.initial.index ++ number_along l.axis u ∷ []))
+  bytes : l.bytes ≡ with_writes l.array.fixed (flat_map (λ u. writes_in l.array l.inner l.spans (l.place * l.cells + u) (take l.k l.initial.index ++ number_along l.axis u ∷ []))
       (range_with_len l.initial.t (l.t - l.initial.t))) l.initial.bytes;
 }

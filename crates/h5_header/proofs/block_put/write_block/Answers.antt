@@ -2,6 +2,7 @@ use Rattle.std.proofs.Common.{◌≡◌, ℕ, ◌+◌, ◌-◌, List, [], ◌∷
 use Rattle.h5_bytes.specs.Bytes.{part, with_part, with_field, little_bytes}
 use Rattle.h5_bytes.specs.Numbers.{short, word}
 use Rattle.h5_bytes.proofs.PartLaws.{length-with_part, with_part-with_part}
+use Rattle.h5_model.specs.Format.MessageTypes.{continuation_kind}
 use Rattle.h5_model.specs.Format.Plain.{messages_bytes}
 use Rattle.h5_header.proofs.block_put.write_block.Goals as goal
 
@@ -36,8 +37,8 @@ returns c =
     let two_long : length two ≡ length image = length-with_part x.at name one (omega (arith, sixteen, one_long)) ∙ one_long in
     let none : x.at - 8 + 0 ≡ x.at - 8 = omega arith in
     let coded : length (little_bytes 2 16) ≡ 2 = refl in
-    let kind : c.put_u16.new.bytes ≡ with_field (part (x.at - 8) 2 two) 0 2 16
-    = c.put_u16.ensures ∙ ap (λ (bs : List ℕ). with_field bs 0 2 16) (c.part_at_mut-3.ensures.value ∙ ap (part (x.at - 8) 2) two_is) in
+    let kind : c.put_u16.new.bytes ≡ with_field (part (x.at - 8) 2 two) 0 2 continuation_kind
+    = c.put_u16.ensures ∙ ap (λ (bs : List ℕ). with_field bs 0 2 continuation_kind) (c.part_at_mut-3.ensures.value ∙ ap (part (x.at - 8) 2) two_is) in
     ap (λ (bs : List ℕ). record c.args.image.now { bytes = bs })
     (ap₂ (λ (v bs : List ℕ). with_part (x.at - 8) v bs) kind two_is
     ∙ with_part-with_part (x.at - 8) 2 0 (little_bytes 2 16) two (omega (arith, two_long)) (omega (arith, coded))

@@ -1,4 +1,5 @@
 use Rattle.std.proofs.Common.{◌≡◌, ◌<◌, length, sym, ◌∙◌, arith}
+use Rattle.h5_model.specs.Format.MessageTypes.{dataspace_kind}
 use Rattle.h5_space.specs.Whole.{IsApart}
 use Rattle.h5_header.specs.Added.{HasMovable}
 use Rattle.h5_header.specs.Listed.{messages_in}
@@ -16,7 +17,7 @@ blank-requires-clause-own c is_16 =
 
 -- once it is NIL
 module _ (c : After-blank) where
-  kind : (c.unwrap-k.result < length c.args.messages.now.list) × ((kept_at c.args.messages.now.list c.unwrap-k.result).kind ≡ 1)
+  kind : (c.unwrap-k.result < length c.args.messages.now.list) × ((kept_at c.args.messages.now.list c.unwrap-k.result).kind ≡ dataspace_kind)
   kind = place_kind c.args.messages.now.list c.unwrap-k.result (sym c.extent_place.ensures ∙ c.unwrap-k.ensures)
 
   ready : HasMovable (messages_in c.blank.new.image.bytes c.blank.new.self.list) × IsApart c.blank.new.self.blocks c.blank.new.image.free (length c.blank.new.image.bytes)

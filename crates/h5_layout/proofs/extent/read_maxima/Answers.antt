@@ -3,7 +3,7 @@ use Rattle.std.specs.Prelude.{option_and_then}
 use Rattle.std.proofs.lemmas.List.{take_more, take_more_set, length-set}
 use Rattle.std.proofs.lemmas.Option.{get_or_from_slice_get, slice_get_within}
 use Rattle.h5_model.specs.Format.Extent.{Extent, extent_of}
-use Rattle.h5_layout.specs.ArrayEdits.{described_in}
+use Rattle.h5_layout.specs.Told.{array_told}
 use Rattle.h5_layout.proofs.extent.read_maxima.Goals as goal
 
 pub loop-k-preserved : goal.loop-k-preserved
@@ -21,11 +21,11 @@ loop-k-preserved c =
 
 pub returns-clause-maxima : goal.returns-clause-maxima
 returns-clause-maxima c =
-    let a = described_in c.args.image.now.bytes c.args.messages.now in
+    let a = array_told c.args.header.now.messages in
     let e = c.unwrap-extent.result in
     let x : Extent = record { sizes = a.sizes; maxima = a.maxima } in
     let whole : c.loop-k.k ≡ c.rank-rank.result = omega (arith, c.loop-k-test.false, c.loop-k.auto.k-end) in
-    let says = sym (ap (option_and_then extent_of) c.one_body-body.ensures) ∙ c.requires.array.array.space in
+    let says = sym (ap (option_and_then extent_of) c.one_body-body.ensures) ∙ c.requires.space in
     let read = rw says at c.read_dataspace.ensures in
     let same : e ≡ x = cc (read, c.unwrap-extent.ensures) in
     ap (λ n. take n c.loop-k.room) (sym whole) ∙ c.loop-k.invariant.1 ∙ ap (λ n. take n e.maxima) whole

@@ -19,7 +19,7 @@ bounds : (c : After-read_maxima-lacks) → are_maxima c.args.sizes.now c.read_ma
 bounds c =
     let image = c.args.image.now.bytes in
     let m = c.args.messages.now in
-    ap (are_maxima c.args.sizes.now) c.read_maxima-lacks.ensures.maxima
+    ap (are_maxima c.args.sizes.now) (rw c.new.ensures at c.read_maxima-lacks.ensures.maxima)
     ∙ sizes_bounded (messages_in image m.list) (described_in image m) c.requires.array.array c.args.sizes.now c.requires.sizes
 
 pub add_extent-requires-clause-bounds : goal.add_extent-requires-clause-bounds
@@ -36,7 +36,7 @@ returns-then-lacks-clause-sized c =
     let m' = c.add_extent.new.messages in
     sized old new m m' c.requires.array c.args.sizes.now c.requires.sizes
     (subst (λ (ns : List (Option ℕ)). HasExtentNow old new m m' (record { sizes = c.args.sizes.now; maxima = ns }))
-    c.read_maxima-lacks.ensures.maxima c.add_extent.ensures.extent)
+    (rw c.new.ensures at c.read_maxima-lacks.ensures.maxima) c.add_extent.ensures.extent)
 
 pub returns-else-lacks-clause-sized : goal.returns-else-lacks-clause-sized
 returns-else-lacks-clause-sized c =
@@ -45,4 +45,4 @@ returns-else-lacks-clause-sized c =
     let new = c.write_extent.new.image in
     sized old new m m c.requires.array c.args.sizes.now c.requires.sizes
     (subst (λ (ns : List (Option ℕ)). HasExtentNow old new m m (record { sizes = c.args.sizes.now; maxima = ns }))
-    c.read_maxima-lacks.ensures.maxima c.write_extent.ensures.extent)
+    (rw c.new.ensures at c.read_maxima-lacks.ensures.maxima) c.write_extent.ensures.extent)

@@ -1,6 +1,7 @@
 use Rattle.std.proofs.Common.{◌≡◌, ◌==◌, Some, length, refl, sym, ap, ◌∙◌, arith}
 use Rattle.std.specs.Option.{option_copied}
 use Rattle.std.specs.List.{find}
+use Rattle.h5_model.specs.Format.MessageTypes.{dataspace_kind}
 use Rattle.h5_space.specs.Lending.{with_bytes_at}
 use Rattle.h5_space.specs.Moves.{Spends}
 use Rattle.h5_space.specs.Space.{Space}
@@ -18,7 +19,7 @@ unwrap-message-requires c =
     let x = extent_found c.args.image.now c.args.messages.now c.requires.array in
     extent_lent c.args.messages.now.list x.0 c.find_message.result x.1 c.find_message.ensures
 
-found : (c : After-unwrap-message) → find (λ (y : Placed). y.kind == 1) c.args.messages.now.list ≡ Some c.unwrap-message.result.now
+found : (c : After-unwrap-message) → find (λ (y : Placed). y.kind == dataspace_kind) c.args.messages.now.list ≡ Some c.unwrap-message.result.now
 found c = sym c.find_message.ensures ∙ ap option_copied c.unwrap-message.ensures
 
 pub part_at_mut-body-requires : goal.part_at_mut-body-requires

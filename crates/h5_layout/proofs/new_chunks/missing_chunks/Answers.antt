@@ -19,7 +19,8 @@ use Rattle.h5_layout.specs.NewChunks.{AreMissing}
 use Rattle.h5_layout.specs.Missing.{corners_missing}
 use Rattle.h5_layout.proofs.CornerInside.{inside_words}
 use Rattle.h5_layout.proofs.KeptValues.{layout_parts, stored_below}
-use Rattle.h5_layout.proofs.MissingLaws.{missing_each, missing_rising, parts_ranked}
+use Rattle.h5_layout.proofs.MissingLaws.{missing_each, missing_rising}
+use Rattle.h5_shape.proofs.MetLaws.{parts_ranked}
 use Rattle.h5_layout.proofs.new_chunks.missing_chunks.Goals as goal
 use Rattle.h5_layout.proofs.new_chunks.missing_chunks.Goals.{After-chunk_parts-parts}
 

@@ -11,18 +11,18 @@ use Rattle.h5_layout.proofs.places.stand_of.Goals as goal
 
 pub returns-in-Compact : goal.returns-in-Compact
 returns-in-Compact c =
-    let image = c.args.image.now.bytes in
-    let list = c.args.messages.now.list in
+    let image = c.args.header.now.image in
+    let list = c.args.header.now.list in
     let a = c.args.array.now in
     let laid : InMessage c.in-Compact.field-0.now ≡ a.layout = ap layout_in (sym c.in-Compact.is) ∙ c.layout.ensures.layout in (
       subst (λ (l : Layout). IsLineAt list l c.compact_place.result) laid c.compact_place.ensures,
-      compact_place_low image list c.requires.within a c.requires.array c.in-Compact.field-0.now (sym laid) c.compact_place.result c.compact_place.ensures
+      compact_place_low image list c.list-list.ensures.within a (rw c.list-list.ensures.messages at c.requires.array) c.in-Compact.field-0.now (sym laid) c.compact_place.result c.compact_place.ensures
           (cells a.sizes) (omega arith),
     )
 
 pub returns-in-Some-tree : goal.returns-in-Some-tree
 returns-in-Some-tree c =
-    let image = c.args.image.now.bytes in
+    let image = c.args.header.now.image in
     let a = c.args.array.now in
     let laid : a.layout ≡ InChunks c.in-Chunked.sizes (Some c.in-Some-tree.root)
     = sym (ap layout_in (sym c.in-Chunked.is) ∙ c.layout.ensures.layout) ∙ ap (InChunks c.in-Chunked.sizes) c.in-Some-tree.is in

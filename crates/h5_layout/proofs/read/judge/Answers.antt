@@ -3,7 +3,6 @@ use Rattle.std.proofs.lemmas.Result.{err_from_is_err_and}
 use mir.Syntax.{w128}
 use Rattle.h5_model.specs.Format.Datatype.{fixed_of}
 use Rattle.h5_model.specs.Format.Reached.{extent_among, type_among}
-use Rattle.h5_header.specs.Listed.{messages_in}
 use Rattle.h5_model.specs.Tree.Places.{extent_cells}
 use Rattle.h5_msg.specs.Layouts.{layout_in}
 use Rattle.h5_layout.proofs.RoomLaws.{room_of}
@@ -12,7 +11,7 @@ use Rattle.h5_layout.proofs.read.judge.Goals as goal
 
 pub returns-in_err-layout-clause-first : goal.returns-in_err-layout-clause-first
 returns-in_err-layout-clause-first c =
-    let ms = messages_in c.args.image.now.bytes c.args.messages.now.list in
+    let ms = c.args.header.now.messages in
     let p = err_from_is_err_and c.from_residual-in_err-layout.result c.from_residual-in_err-layout.ensures.1 in
     let space : extent_among ms ≡ Some c.in_ok-extent.extent = rw c.one_body.ensures c.in_ok-extent.ensures.told in
     let told : fixed_of c.one_body-2.result.now ≡ Some c.in_ok-fixed.fixed = grind arith in

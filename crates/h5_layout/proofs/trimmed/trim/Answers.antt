@@ -29,14 +29,14 @@ new-array-requires-clause-chunked c =
 -- no tree
 pub returns-then-lacks_tree-clause-trimmed : goal.returns-then-lacks_tree-clause-trimmed
 returns-then-lacks_tree-clause-trimmed c =
-    trimmed_already c.args.image.now c.args.messages.now c.args.sizes.now c.requires.array (c.lacks_tree.ensures.trimmed c.if-lacks_tree.true c.args.sizes.now)
+    trimmed_already c.args.image.now c.args.messages.now c.args.sizes.now c.requires.array (rw c.new.ensures at c.lacks_tree.ensures.trimmed c.if-lacks_tree.true c.args.sizes.now)
 
 -- else there is a root
 pub unreachable-requires : goal.unreachable-requires
 unreachable-requires c =
     let k : ArrayChunks = c.new-array.result in
     let rootless : k.root ≡ None = sym c.root.ensures ∙ c.in_default.is in
-    let lacks : c.lacks_tree.result ≡ true = c.lacks_tree.ensures.exact k.chunk k.root c.new-array.ensures.chunks.layout ∙ ap is_none rootless in
+    let lacks : c.lacks_tree.result ≡ true = c.lacks_tree.ensures.exact k.chunk k.root (rw c.new.ensures c.new-array.ensures.chunks.layout) ∙ ap is_none rootless in
     absurd (let never : true ≡ false = sym lacks ∙ c.if-lacks_tree.false in cc)
 
 module _ (c : In-Some) where

@@ -27,12 +27,12 @@ returns-in_err-judge_kind-clause-refused c =
     rw (p.1, p.2) (λ followed field met. kind_fault image m
     (subst (λ (h : ℕ). HasMessages image h (messages_in image m.list) m.blocks) (sym same) c.in_ok-messages.ensures.read) c.in_ok-messages.ensures.inside
     c.args.claims.now.held followed field c.args.depth (subst (λ (h : ℕ). IsHeaderMet image c.args.claims.now.held followed field h c.args.depth) (sym same) met) _ _
-    c.in_err-judge_kind.ensures.address c.in_err-judge_kind.ensures.refused)
+    (rw c.new.ensures at c.in_err-judge_kind.ensures.address) (rw c.new.ensures at c.in_err-judge_kind.ensures.refused))
 
 pub returns-in-Dataset-clause-read : goal.returns-in-Dataset-clause-read
 returns-in-Dataset-clause-read c =
     let image = c.args.image.now.bytes in
-    let inner = (c.in_ok-judge_kind.ensures.dataset.0 (cc)).0 in
+    let inner = ((rw c.new.ensures at c.in_ok-judge_kind.ensures.dataset).0 (cc)).0 in
     MatchResult-weaker c.read_array_object.result c.read_array_object.ensures.read
     (λ o read. subst (λ (h : ℕ). IsObjectRead image c.args.claims.now.held c.read_array_object.new.claims.held h c.args.depth o) c.in_ok-messages.ensures.header
     (read c.args.depth inner c.args.claims.now.held c.in_ok-messages.ensures.claimed.covered)) (λ _ h. h)
@@ -56,8 +56,8 @@ returns-in_err-judge_kind-clause-first c =
     let p = err_from_is_err_and c.from_residual-in_err-judge_kind.result c.from_residual-in_err-judge_kind.ensures.1 in
     rw (p.1, p.2) (λ r.
     let same = one_messages image c.args.header r.messages (messages_in image m.list) r.blocks m.blocks r.has c.in_ok-messages.ensures.read in (
-      λ group. absurd (let never = c.in_err-judge_kind.ensures.group.1 (subst IsOfGroup same group) in cc),
-      λ inner dataset. absurd (let never = c.in_err-judge_kind.ensures.dataset.1 (inner, subst IsOfDataset same dataset) in cc),
+      λ group. absurd (let never = (rw c.new.ensures at c.in_err-judge_kind.ensures.group).1 (subst IsOfGroup same group) in cc),
+      λ inner dataset. absurd (let never = (rw c.new.ensures at c.in_err-judge_kind.ensures.dataset).1 (inner, subst IsOfDataset same dataset) in cc),
     ))
 
 pub returns-in-Group-clause-first : goal.returns-in-Group-clause-first
@@ -68,7 +68,7 @@ returns-in-Group-clause-first c = λ r.
     subst (λ (ms : List Message). IfErr result (λ fault. NamesFirst ms c.args.depth fault.cause))
     (one_messages image c.args.header (messages_in image m.list) r.messages m.blocks r.blocks c.in_ok-messages.ensures.read r.has)
     (MatchResult-weaker result c.read_group_object.ensures.first (λ _ h. h)
-    (λ fault first. group_first (messages_in image m.list) c.args.depth fault.cause (c.in_ok-judge_kind.ensures.group.0 (cc)) first))
+    (λ fault first. group_first (messages_in image m.list) c.args.depth fault.cause ((rw c.new.ensures at c.in_ok-judge_kind.ensures.group).0 (cc)) first))
 
 pub returns-in-Dataset-clause-first : goal.returns-in-Dataset-clause-first
 returns-in-Dataset-clause-first c = λ r.
@@ -78,4 +78,4 @@ returns-in-Dataset-clause-first c = λ r.
     subst (λ (ms : List Message). IfErr result (λ fault. NamesFirst ms c.args.depth fault.cause))
     (one_messages image c.args.header (messages_in image m.list) r.messages m.blocks r.blocks c.in_ok-messages.ensures.read r.has)
     (MatchResult-weaker result c.read_array_object.ensures.first (λ _ h. h)
-    (λ fault first. array_first (messages_in image m.list) c.args.depth fault.cause (c.in_ok-judge_kind.ensures.dataset.0 (cc)).1 first))
+    (λ fault first. array_first (messages_in image m.list) c.args.depth fault.cause ((rw c.new.ensures at c.in_ok-judge_kind.ensures.dataset).0 (cc)).1 first))

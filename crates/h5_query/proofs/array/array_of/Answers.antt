@@ -13,9 +13,9 @@ returns-in-Group c =
 
 pub stored_array-requires : goal.stored_array-requires
 stored_array-requires c =
-    rw c.image.ensures.bytes (array_kept c.args.opened.now c.args.number.0 c.in_ok-object.object.now c.in_ok-object.ensures.found c.in-Array.is)
+    rw (c.new-header.ensures, c.image.ensures.bytes) (array_kept c.args.opened.now c.args.number.0 c.in_ok-object.object.now c.in_ok-object.ensures.found c.in-Array.is)
 
 pub returns-in-Array : goal.returns-in-Array
 returns-in-Array c =
     let there = array_there c.args.opened.now c.args.number.0 c.in_ok-object.object.now c.in_ok-object.ensures.found c.in-Array.is in
-    there ∙ ap (λ (d : Dataset). Some d) (sym (rw c.image.ensures.bytes at c.stored_array.ensures))
+    there ∙ ap (λ (d : Dataset). Some d) (sym (rw (c.new-header.ensures, c.image.ensures.bytes) at c.stored_array.ensures))

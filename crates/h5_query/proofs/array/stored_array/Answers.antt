@@ -1,12 +1,11 @@
-use Rattle.h5_header.specs.Listed.{messages_in}
 use Rattle.h5_open.specs.Told.{array_told}
 use Rattle.h5_query.proofs.array.stored_array.Goals as goal
 
 pub known_array-requires-clause-array : goal.known_array-requires-clause-array
-known_array-requires-clause-array c = (array_told (messages_in c.args.image.now.bytes c.args.messages.now.list), c.requires.list.array)
+known_array-requires-clause-array c = (array_told c.args.header.now.messages, c.requires.list.array)
 
 pub new-requires : goal.new-requires
-new-requires c = rw c.known_array.ensures c.requires.stored
+new-requires c = rw (c.image.ensures, c.known_array.ensures) c.requires.stored
 
 pub returns : goal.returns
-returns c = rw c.known_array.ensures at c.new.ensures
+returns c = rw (c.image.ensures, c.known_array.ensures) at c.new.ensures

@@ -21,7 +21,7 @@ returns-in_err-attributes c =
 pub stored_array-requires : goal.stored_array-requires
 stored_array-requires c =
     let place = rw c.in-Object.is at c.in_ok-number.ensures in
-    rw c.image-in-Array.ensures.bytes (array_kept c.args.opened.now c.in-Object.number c.in-Object.object.now place.1 c.in-Array.is)
+    rw (c.new-header.ensures, c.image.ensures.bytes) (array_kept c.args.opened.now c.in-Object.number c.in-Object.object.now place.1 c.in-Array.is)
 
 pub returns-in-Group : goal.returns-in-Group
 returns-in-Group c =
@@ -29,7 +29,7 @@ returns-in-Group c =
     let kept = place.1.kept.header in
     group_found c.args.opened.now c.in-Object.number c.in-Object.object.now place.1 c.args.path.now place.0
     c.in-Group.field-0 c.in-Group.is _ refl c.in_ok-attributes.attributes
-    ((rw c.image.ensures.bytes at c.in_ok-attributes.ensures) (attributes_of (messages_in c.args.opened.now.image c.in-Object.object.now.messages.list)) kept.attributes)
+    ((rw (c.new-header.ensures, c.image.ensures.bytes) at c.in_ok-attributes.ensures) (attributes_of (messages_in c.args.opened.now.image c.in-Object.object.now.messages.list)) kept.attributes)
 
 pub returns-in-Array : goal.returns-in-Array
 returns-in-Array c =
@@ -37,5 +37,5 @@ returns-in-Array c =
     let kept = place.1.kept.header in
     array_found c.args.opened.now c.in-Object.number c.in-Object.object.now place.1 c.args.path.now place.0
     c.in-Array.is _ refl c.in_ok-attributes.attributes
-    ((rw c.image.ensures.bytes at c.in_ok-attributes.ensures) (attributes_of (messages_in c.args.opened.now.image c.in-Object.object.now.messages.list)) kept.attributes)
-    _ (rw c.image-in-Array.ensures.bytes at c.stored_array.ensures)
+    ((rw (c.new-header.ensures, c.image.ensures.bytes) at c.in_ok-attributes.ensures) (attributes_of (messages_in c.args.opened.now.image c.in-Object.object.now.messages.list)) kept.attributes)
+    _ (rw (c.new-header.ensures, c.image.ensures.bytes) at c.stored_array.ensures)

@@ -5,13 +5,13 @@ use Rattle.h5_query.proofs.links.kind_at.Goals as goal
 pub stored_array-array-requires : goal.stored_array-array-requires
 stored_array-array-requires c =
     let place = rw c.in-Object.is at c.in_ok-object.ensures in
-    rw c.image.ensures.bytes (array_kept c.args.opened.now c.in-Object.number c.in-Object.object.now place.1 c.in-Array.is)
+    rw (c.new-header.ensures, c.image.ensures.bytes) (array_kept c.args.opened.now c.in-Object.number c.in-Object.object.now place.1 c.in-Array.is)
 
 pub returns-in-Array : goal.returns-in-Array
 returns-in-Array c =
     let place = rw c.in-Object.is at c.in_ok-object.ensures in
     known_kind c.args.opened.now c.in-Object.number c.in-Object.object.now place.1 c.args.path.now place.0
-    c.in-Array.is _ (rw c.image.ensures.bytes at c.stored_array-array.ensures) _ c.array_kind.ensures
+    c.in-Array.is _ (rw (c.new-header.ensures, c.image.ensures.bytes) at c.stored_array-array.ensures) _ c.array_kind.ensures
 
 pub returns-in-Group : goal.returns-in-Group
 returns-in-Group c =

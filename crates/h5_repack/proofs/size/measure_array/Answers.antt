@@ -1,15 +1,15 @@
 use Rattle.std.proofs.Common.{◌≤◌, ◌<◌, arith, length, None}
+use Rattle.h5_model.proofs.EditLaws.{length-are_maxima}
 use Rattle.std.proofs.lemmas.Bool.Decides.{nat_tests}
 use Rattle.h5_btree.specs.Writing.Written.{root_level}
 use Rattle.h5_repack.specs.Blocks.Written.{chunks_of}
 use Rattle.h5_repack.proofs.Sizes.{array_bounded, array_deep, array_few, array_fits, array_header_size, array_long, array_room, array_size, array_writable, chunks_few}
-use Rattle.h5_msg.proofs.WordLaws.{as_many_maxima}
 use Rattle.h5_repack.proofs.size.measure_array.Goals as goal
 
 pub array_header_length-header-requires-clause-same : goal.array_header_length-header-requires-clause-same
 array_header_length-header-requires-clause-same c =
     let a = c.args.array.now in
-    as_many_maxima a.sizes a.maxima (array_bounded a c.args.cells.now c.args.others.now c.requires.held.0 c.requires.held.1)
+    length-are_maxima a.sizes a.maxima (array_bounded a c.args.cells.now c.args.others.now c.requires.held.0 c.requires.held.1)
 
 pub array_header_length-header-requires-clause-few : goal.array_header_length-header-requires-clause-few
 array_header_length-header-requires-clause-few c = array_few c.args.array.now c.args.cells.now c.args.others.now c.requires.held.0 c.requires.held.1

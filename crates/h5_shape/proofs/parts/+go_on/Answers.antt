@@ -31,8 +31,8 @@ returns-then-go_on-clause-on t c =
 pub returns-then-go_on-clause-kept : goal.returns-then-go_on-clause-kept
 returns-then-go_on-clause-kept t c = kept_before c.args.spans.now c.go_on.new.spans c.args.k c.go_on.ensures.kept
 
-pub bounds-axes-k : goal.bounds-axes-k
-bounds-axes-k t c = (on_more c.args.axes.now c.args.chunk.now c.args.spans.now c.args.k no_axis no_span (omega arith) c.requires).0
+pub at-axis-requires : goal.at-axis-requires
+at-axis-requires t c = (on_more c.args.axes.now c.args.chunk.now c.args.spans.now c.args.k no_axis no_span (omega arith) c.requires).0
 
 pub overflow_sub-span : goal.overflow_sub-span
 overflow_sub-span t c =
@@ -50,7 +50,7 @@ overflow_add-span t c =
 pub returns-then-span-last_position-clause-next : goal.returns-then-span-last_position-clause-next
 returns-then-span-last_position-clause-next t c =
     let more = on_more c.args.axes.now c.args.chunk.now c.args.spans.now c.args.k no_axis no_span (omega arith) c.requires in
-    go_outer c.args.axes.now c.args.chunk.now c.args.spans.now c.go_on.new.spans c.args.k no_axis no_span c.span_at.result more.0 more.1 (omega arith) (omega arith) c.go_on.ensures.kept c.if-go_on.ensures.next.0 c.if-go_on.ensures.next.1 c.span_at.ensures.first
+    go_outer c.args.axes.now c.args.chunk.now c.args.spans.now c.go_on.new.spans c.args.k no_axis no_span c.span_at.result more.0 more.1 (omega arith) (omega arith) c.go_on.ensures.kept c.if-go_on.ensures.next.0 c.if-go_on.ensures.next.1 (rw (c.at-axis.ensures no_axis) at c.span_at.ensures.first)
 
 pub returns-then-span-last_position-clause-kept : goal.returns-then-span-last_position-clause-kept
 returns-then-span-last_position-clause-kept t c = kept_set c.args.spans.now c.go_on.new.spans c.args.k c.span_at.result c.go_on.ensures.kept
@@ -58,7 +58,7 @@ returns-then-span-last_position-clause-kept t c = kept_set c.args.spans.now c.go
 pub returns-then-span-last_position-clause-on : goal.returns-then-span-last_position-clause-on
 returns-then-span-last_position-clause-on t c =
     let more = on_more c.args.axes.now c.args.chunk.now c.args.spans.now c.args.k no_axis no_span (omega arith) c.requires in
-    set_on c.args.axes.now c.args.chunk.now c.go_on.new.spans c.args.k no_axis c.span_at.result more.0 more.1 (omega arith) c.go_on.ensures.on c.span_at.ensures.on
+    set_on c.args.axes.now c.args.chunk.now c.go_on.new.spans c.args.k no_axis c.span_at.result more.0 more.1 (omega arith) c.go_on.ensures.on (rw (c.at-axis.ensures no_axis) at c.span_at.ensures.on)
 
 pub returns-clause-next : goal.returns-clause-next
 returns-clause-next t c =
@@ -66,15 +66,35 @@ returns-clause-next t c =
     let here : get_or c.go_on.new.spans c.args.k no_span ≡ get_or c.args.spans.now c.args.k no_span = kept_at c.args.spans.now c.go_on.new.spans c.args.k no_span c.go_on.ensures.kept in
     let long : (get_or c.go_on.new.spans c.args.k no_span).length ≡ (get_or c.args.spans.now c.args.k no_span).length = ap (λ (s : Span). s.length) here in
     let last : (get_or c.args.axes.now c.args.k no_axis).count * (get_or c.args.axes.now c.args.k no_axis).block ≤ (get_or c.go_on.new.spans c.args.k no_span).from + (get_or c.go_on.new.spans c.args.k no_span).length =
-    omega (arith, c.last_position.ensures, c.if-span-last_position.false, long, more.2.some) in (
+    omega (arith, rw (c.at-axis.ensures no_axis) at c.last_position.ensures, c.if-span-last_position.false, long, more.2.some) in (
       go_end c.args.axes.now c.args.chunk.now c.args.spans.now c.go_on.new.spans c.args.k no_axis no_span more.0 more.1 (omega arith) c.go_on.ensures.kept c.if-go_on.ensures.next.0 last,
-      start_first c.args.axes.now c.args.chunk.now c.go_on.new.spans c.args.k no_axis c.span_at-2.result more.0 more.1 (omega arith) c.if-go_on.ensures.next.1 c.span_at-2.ensures.first,
+      start_first c.args.axes.now c.args.chunk.now c.go_on.new.spans c.args.k no_axis c.span_at-2.result more.0 more.1 (omega arith) c.if-go_on.ensures.next.1 (rw (c.at-axis.ensures no_axis) at c.span_at-2.ensures.first),
     )
 
 pub returns-clause-on : goal.returns-clause-on
 returns-clause-on t c =
     let more = on_more c.args.axes.now c.args.chunk.now c.args.spans.now c.args.k no_axis no_span (omega arith) c.requires in
-    set_on c.args.axes.now c.args.chunk.now c.go_on.new.spans c.args.k no_axis c.span_at-2.result more.0 more.1 (omega arith) c.go_on.ensures.on c.span_at-2.ensures.on
+    set_on c.args.axes.now c.args.chunk.now c.go_on.new.spans c.args.k no_axis c.span_at-2.result more.0 more.1 (omega arith) c.go_on.ensures.on (rw (c.at-axis.ensures no_axis) at c.span_at-2.ensures.on)
 
 pub returns-clause-kept : goal.returns-clause-kept
 returns-clause-kept t c = kept_set c.args.spans.now c.go_on.new.spans c.args.k c.span_at-2.result c.go_on.ensures.kept
+
+pub last_position-requires : goal.last_position-requires
+last_position-requires t c =
+    let more = on_more c.args.axes.now c.args.chunk.now c.args.spans.now c.args.k no_axis no_span (omega arith) c.requires in
+    let boxed = more.2.boxed in
+    rw (c.at-axis.ensures no_axis) (record { sized = omega arith; some = boxed.some; apart = boxed.apart; top = boxed.top })
+
+pub bounds-chunk-k : goal.bounds-chunk-k
+bounds-chunk-k t c = (on_more c.args.axes.now c.args.chunk.now c.args.spans.now c.args.k no_axis no_span (omega arith) c.requires).1
+
+pub span_at-requires-clause-boxed : goal.span_at-requires-clause-boxed
+span_at-requires-clause-boxed t c =
+    rw (c.at-axis.ensures no_axis) (on_more c.args.axes.now c.args.chunk.now c.args.spans.now c.args.k no_axis no_span (omega arith) c.requires).2.boxed
+
+pub bounds-chunk-k-2 : goal.bounds-chunk-k-2
+bounds-chunk-k-2 t c = (on_more c.args.axes.now c.args.chunk.now c.args.spans.now c.args.k no_axis no_span (omega arith) c.requires).1
+
+pub span_at-requires-2-clause-boxed : goal.span_at-requires-2-clause-boxed
+span_at-requires-2-clause-boxed t c =
+    rw (c.at-axis.ensures no_axis) (on_more c.args.axes.now c.args.chunk.now c.args.spans.now c.args.k no_axis no_span (omega arith) c.requires).2.boxed

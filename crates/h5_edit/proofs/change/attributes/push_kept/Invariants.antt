@@ -7,5 +7,5 @@ use Rattle.h5_edit.proofs.change.attributes.push_kept.Given as goal
 
 abbrev pub invariant-loop-message : goal.invariant-loop-message
 invariant-loop-message l =
-    IsPushing l.fn.others l.others (kept_messages (messages_in l.image.bytes (drop l.message-index l.list))) (kept_messages (messages_in l.image.bytes l.list))
-    × AllByRecursion IsPlainKept (kept_in (messages_in l.image.bytes (drop l.message-index l.list)))
+    IsPushing l.fn.others l.others (kept_messages (messages_in l.header.image (drop l.message-index l.header.list))) (kept_messages l.header.messages)
+    × AllByRecursion IsPlainKept (kept_in (messages_in l.header.image (drop l.message-index l.header.list)))

@@ -9,20 +9,20 @@ use Rattle.h5_query.proofs.Indexed.{group_read}
 use Rattle.h5_query.proofs.ListedLaws.{found_led}
 use Rattle.h5_edit.proofs.change.objects.opened_object.Goals as goal
 
-pub others_in-requires-clause-kept : goal.others_in-requires-clause-kept
-others_in-requires-clause-kept c = rw c.image-image.ensures.bytes (c.requires.object.1).kept.header
+pub others_in-requires-clause-attributes : goal.others_in-requires-clause-attributes
+others_in-requires-clause-attributes c = rw (c.new-header.ensures, c.image.ensures.bytes) (c.requires.object.1).kept.header.attributes
 
 pub links_in-requires-clause-read : goal.links_in-requires-clause-read
 links_in-requires-clause-read c = group_read c.args.opened.now c.requires.object.0 c.args.object.now c.requires.object.1 c.in-Group.table c.in-Group.is
 
 pub links_in-requires-clause-led : goal.links_in-requires-clause-led
 links_in-requires-clause-led c =
-    found_led c.args.opened.now c.image-image.ensures.sound c.requires.object.0 c.args.object.now c.requires.object.1 c.in-Group.table c.in-Group.is
+    found_led c.args.opened.now c.image.ensures.sound c.requires.object.0 c.args.object.now c.requires.object.1 c.in-Group.table c.in-Group.is
 
 pub returns-clause-object : goal.returns-clause-object
 returns-clause-object c =
     let o = object_in c.args.opened.now.image c.args.opened.now.table c.args.object.now in
-    record { content = search rules; others = (rw c.image-image.ensures.bytes at c.in_ok-others.ensures) o.content }
+    record { content = search rules; others = (rw (c.new-header.ensures, c.image.ensures.bytes) at c.in_ok-others.ensures) o.content }
 
 pub returns-clause-stored : goal.returns-clause-stored
 returns-clause-stored c number of =
@@ -31,5 +31,5 @@ returns-clause-stored c number of =
       | in-Group+in_ok-links_in-in-Group w ↦ group_stored f number c.args.object.now of w.in-Group.table w.in-Group.is (content_chunks c.match-object.content)
       | in-Array+in_ok-content-in-Array w ↦
           subst (λ (x : NewContent). AreChunksOf f (object_in f.image f.table c.args.object.now) c.args.object.now.messages.header (content_chunks x)) (sym w.content-is)
-          (array_stored f number c.args.object.now of w.in-Array.is w.in_ok-content-in-Array.content (rw c.image-image.ensures.bytes at w.in_ok-content-in-Array.ensures.chunks))
+          (array_stored f number c.args.object.now of w.in-Array.is w.in_ok-content-in-Array.content (rw (c.new-header.ensures, c.image.ensures.bytes) at w.in_ok-content-in-Array.ensures.chunks))
     ]

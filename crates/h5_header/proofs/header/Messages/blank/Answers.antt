@@ -1,4 +1,5 @@
 use Rattle.std.proofs.Common.{◌≡◌, ℕ, ◌+◌, ◌-◌, ◌≤◌, List, length, slice_set, slice_index_or, refl, ◌∙◌, ap, arith}
+use Rattle.h5_model.specs.Format.MessageTypes.{nil_kind}
 use Rattle.h5_bytes.specs.Bytes.{part, with_part, with_field, little_bytes}
 use Rattle.h5_bytes.proofs.PartLaws.{with_part-with_part}
 use Rattle.h5_space.specs.Lending.{with_bytes_at}
@@ -36,7 +37,7 @@ written c =
     ∙ with_part-with_part (head c) 2 0 (little_bytes 2 0) bytes (room c) (omega (arith, two))
     ∙ ap (λ (h : ℕ). with_part h (little_bytes 2 0) bytes) none)
 
-after : (c : After-set) → c.set.new.self ≡ record c.args.self.now { list = slice_set c.args.self.now.list c.args.k (record (kept_at c.args.self.now.list c.args.k) { kind = 0 }) }
+after : (c : After-set) → c.set.new.self ≡ record c.args.self.now { list = slice_set c.args.self.now.list c.args.k (record (kept_at c.args.self.now.list c.args.k) { kind = nil_kind }) }
 after c = rw c.list.ensures at c.set.ensures
 
 pub overflow_sub-message : goal.overflow_sub-message

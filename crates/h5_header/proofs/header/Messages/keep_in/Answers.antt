@@ -1,6 +1,7 @@
 use Rattle.std.proofs.Common.{◌≡◌, ◌+◌, ◌-◌, ◌<◌, nat_lt, true, false, List, length, slice_index_or, sym, ap, ◌∙◌, arith}
 use Rattle.std.proofs.lemmas.Bool.Decides.{nat_tests}
 use Rattle.std.proofs.lemmas.List.{get_or_default}
+use Rattle.h5_model.specs.Format.MessageTypes.{nil_kind}
 use Rattle.h5_header.specs.Listed.{Listed}
 use Rattle.h5_header.specs.Standing.{nowhere}
 use Rattle.h5_header.specs.declared.message.Message.{Message as Placed}
@@ -20,7 +21,7 @@ returns c =
     let whole : List Placed → Listed = λ ys. record { header = c.self.inside.header; list = ys; blocks = c.self.inside.blocks.items; room = c.self.inside.room - 1 } in
     elim c.if-size-old.branch [
       | then-size-old w ↦
-          let rest : Placed = record { kind = 0; at = old.at + c.args.size + 8; size = old.size - c.args.size - 8 } in
+          let rest : Placed = record { kind = nil_kind; at = old.at + c.args.size + 8; size = old.size - c.args.size - 8 } in
           let test : nat_lt c.args.size old.size ≡ true = grind (arith, nat_tests, w.if-size-old.true) in
           let ok = w.insert.ensures.succeeds (omega (arith, c.self.invariant.list_fits, c.requires.room, ap (λ (s : Listed). s.room) c.self.view_is)) in
           rw (← c.self.view_is, w.self-inside-is, here, test) (ap whole (rw (w.insert.ensures.items, ok) (insert_behind xs k low nowhere now rest)))

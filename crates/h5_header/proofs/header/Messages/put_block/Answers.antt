@@ -1,4 +1,5 @@
 use Rattle.std.proofs.Common.{◌≡◌, ◌≢◌, ℕ, ◌+◌, ◌-◌, ◌≤◌, ◌⊎◌, inl, inr, List, length, take, drop, refl, ap, ◌∙◌, arith}
+use Rattle.h5_model.specs.Format.MessageTypes.{datatype_kind, continuation_kind, symbol_table_kind}
 use Rattle.h5_bytes.specs.Bytes.{part, with_part, with_field, little_bytes}
 use Rattle.h5_bytes.specs.Blocks.{block}
 use Rattle.h5_bytes.proofs.PartLaws.{with_part-with_part}
@@ -15,10 +16,10 @@ use Rattle.h5_header.proofs.BlockTaken as laws
 use Rattle.h5_header.proofs.header.Messages.put_block.Goals as goal
 use Rattle.h5_header.proofs.header.Messages.put_block.Goals.{After-bytes, After-put_u16}
 
-no_name : (x : Placed) → (x.kind ≡ 17) ⊎ (x.kind ≡ 3) → x.kind ≢ 16
-no_name x may sixteen = elim may [
-  | inl table ↦ absurd (omega (arith, table, sixteen))
-  | inr datatype ↦ absurd (omega (arith, datatype, sixteen))
+no_name : (x : Placed) → (x.kind ≡ symbol_table_kind) ⊎ (x.kind ≡ datatype_kind) → x.kind ≢ continuation_kind
+no_name x may same = elim may [
+  | inl table ↦ absurd (omega (arith, table, same))
+  | inr datatype ↦ absurd (omega (arith, datatype, same))
 ]
 
 slice_part : (bytes : List ℕ) (at : ℕ) → take (at + 16 - at) (drop at bytes) ≡ part at 16 bytes

@@ -1,4 +1,5 @@
 use Rattle.std.proofs.Common.{◌≡◌, ◌≢◌, ℕ, ◌+◌, ◌-◌, ◌%◌, ◌<◌, ◌≤◌, ◌++◌, List, length, take, drop, slice_index_or, refl, ap, ◌∙◌, arith, rules}
+use Rattle.h5_model.specs.Format.MessageTypes.{continuation_kind}
 use Rattle.h5_bytes.specs.Bytes.{part, with_part, with_field, little_bytes}
 use Rattle.h5_bytes.proofs.PartLaws.{with_part-with_part}
 use Rattle.h5_space.specs.Moves.{Spends}
@@ -13,8 +14,8 @@ use Rattle.h5_header.proofs.NilPuts.{header_inside, nil_added, nil_count, nil_mo
 use Rattle.h5_header.proofs.header.Messages.put_into.Goals as goal
 use Rattle.h5_header.proofs.header.Messages.put_into.Goals.{After-header, After-list, After-put_u16}
 
-own : (c : After-list) → (kept_at c.args.self.now.list c.args.k).kind ≢ 16
-own c sixteen = absurd (omega (arith, c.requires.nil, sixteen))
+own : (c : After-list) → (kept_at c.args.self.now.list c.args.k).kind ≢ continuation_kind
+own c same = absurd (omega (arith, c.requires.nil, same))
 
 low : (c : After-list) → 8 ≤ (kept_at c.args.self.now.list c.args.k).at
 low c = behind_head c.args.image.now.bytes c.args.self.now c.requires.standing c.args.k c.requires.known (own c)

@@ -89,15 +89,15 @@ unwrap-object-requires c =
     lent_some_mut c.as_mut.result there.0
     (c.as_mut.ensures.value ∙ slot_read c.self.inside.index.objects.items c.args.number there.0 there.1 c.index_mut.result.now c.index_mut.ensures.value)
 
-pub find_named-requires : goal.find_named-requires
-find_named-requires c =
+pub new-requires : goal.new-requires
+new-requires c =
     let at = lent c.self.inside.image c.self.inside.index.objects.items c.self.inside.index.numbers c.self.invariant c.args.self.now c.self.view_is c.args.number c.args.name.now c.requires.there
     c.index_mut.result.now c.index_mut.ensures.value c.as_mut.result c.as_mut.ensures.value c.unwrap-object.result c.unwrap-object.ensures in
     (header_standing c.self.inside.image c.self.inside.index.objects.items c.self.inside.index.numbers c.self.invariant c.args.number c.unwrap-object.result.now at).within
 
 pub remove_at-requires-clause-attribute : goal.remove_at-requires-clause-attribute
 remove_at-requires-clause-attribute c =
-    named_kind c.args.name.now c.self.inside.image.bytes c.unwrap-object.result.now.messages.list c.in-Some.k (sym c.find_named.ensures ∙ c.in-Some.is)
+    named_kind c.args.name.now c.self.inside.image.bytes c.unwrap-object.result.now.messages.list c.in-Some.k (sym (rw c.new.ensures at c.find_named.ensures) ∙ c.in-Some.is)
 
 pub remove_at-requires-clause-standing : goal.remove_at-requires-clause-standing
 remove_at-requires-clause-standing c =
@@ -110,7 +110,7 @@ unreachable-requires c =
     let at = lent c.self.inside.image c.self.inside.index.objects.items c.self.inside.index.numbers c.self.invariant c.args.self.now c.self.view_is c.args.number c.args.name.now c.requires.there
     c.index_mut.result.now c.index_mut.ensures.value c.as_mut.result c.as_mut.ensures.value c.unwrap-object.result c.unwrap-object.ensures in
     never c.self.inside.image c.self.inside.index.objects.items c.self.inside.index.numbers c.self.invariant c.args.self.now c.self.view_is c.args.number c.args.name.now c.requires.there
-    c.unwrap-object.result.now at (sym c.find_named.ensures ∙ c.in-None.is)
+    c.unwrap-object.result.now at (sym (rw c.new.ensures at c.find_named.ensures) ∙ c.in-None.is)
 
 -- the slot
 lent_here : (c : After-remove_at) → slice_get c.self.inside.index.objects.items c.args.number ≡ Some (Some c.unwrap-object.result.now)
@@ -124,7 +124,7 @@ done : (c : After-remove_at) → IsOpened c.remove_at.new.image
     (opened_state c.remove_at.new.image (slots_with c.self.inside.image c.self.inside.index.objects.items c.self.inside.index.numbers c.self.invariant c.args.number c.unwrap-object.result.now (lent_here c) c.remove_at.new.messages))
     (with_object c.args.self.now.tree c.args.number (with_attributes (λ before. without before c.args.name.now))) c.args.self.now.next (c.args.number ∷ []) 0
 done c =
-    let found = sym c.find_named.ensures ∙ c.in-Some.is in
+    let found = sym (rw c.new.ensures at c.find_named.ensures) ∙ c.in-Some.is in
     let e = c.remove_at.ensures in
     after c.self.inside.image c.self.inside.index.objects.items c.self.inside.index.numbers c.self.invariant c.args.self.now c.self.view_is c.args.number c.args.name.now c.requires.there
     c.unwrap-object.result.now (lent_here c) c.remove_at.new.image c.remove_at.new.messages e.standing e.header e.others

@@ -13,19 +13,24 @@ use Rattle.h5_open.proofs.opened.resized.look_outside.Goals as goal
 few : (image : List ℕ) (m : Listed) (ms : HasArray (messages_in image m.list) (described_in image m)) (old : List ℕ) → old ≡ (described_in image m).sizes → length old ≤ 32
 few image m has old same = omega (arith, few_sizes (messages_in image m.list) (described_in image m) has, ap length same)
 
+pub returns-then-lacks_tree : goal.returns-then-lacks_tree
+returns-then-lacks_tree c =
+    let sizes : List ℕ = smaller_sizes (described_in c.args.image.now.bytes c.args.messages.now).sizes c.args.sizes.now in
+    (rw c.new-header.ensures at c.lacks_tree.ensures.trimmed c.if-lacks_tree.true sizes)
+
 pub slice_bounds-room-end : goal.slice_bounds-room-end
-slice_bounds-room-end c = few c.args.image.now.bytes c.args.messages.now c.requires.array.array c.sizes_of-old.result.now c.sizes_of-old.ensures
+slice_bounds-room-end c = few c.args.image.now.bytes c.args.messages.now c.requires.array.array c.sizes_of-old.result.now (rw c.new-header.ensures at c.sizes_of-old.ensures)
 
 pub slice_bounds-smaller-end : goal.slice_bounds-smaller-end
-slice_bounds-smaller-end c = sym (length-take-le (length c.sizes_of-old.result.now) _ (few c.args.image.now.bytes c.args.messages.now c.requires.array.array c.sizes_of-old.result.now c.sizes_of-old.ensures))
+slice_bounds-smaller-end c = sym (length-take-le (length c.sizes_of-old.result.now) _ (few c.args.image.now.bytes c.args.messages.now c.requires.array.array c.sizes_of-old.result.now (rw c.new-header.ensures at c.sizes_of-old.ensures)))
 
 pub copy_smaller-requires-clause-room : goal.copy_smaller-requires-clause-room
-copy_smaller-requires-clause-room c = length-take-le (length c.sizes_of-old.result.now) _ (few c.args.image.now.bytes c.args.messages.now c.requires.array.array c.sizes_of-old.result.now c.sizes_of-old.ensures)
+copy_smaller-requires-clause-room c = length-take-le (length c.sizes_of-old.result.now) _ (few c.args.image.now.bytes c.args.messages.now c.requires.array.array c.sizes_of-old.result.now (rw c.new-header.ensures at c.sizes_of-old.ensures))
 
 pub outside_of-requires-clause-rank : goal.outside_of-requires-clause-rank
 outside_of-requires-clause-rank c =
     let old : List ℕ = c.sizes_of-old.result.now in
-    let same = c.sizes_of-old.ensures in
+    let same = (rw c.new-header.ensures at c.sizes_of-old.ensures) in
     let rank : length c.args.sizes.now ≡ length old = c.requires.sizes.ranked ∙ ap length (sym same) in
     ap length c.copy_smaller.ensures ∙ length-smaller old c.args.sizes.now rank ∙ ap length same
 
@@ -35,4 +40,4 @@ returns c =
     let a : Described = described_in image c.args.messages.now in
     let sizes : List ℕ = c.args.sizes.now in
     subst (λ (ns : List ℕ). AreOutside image a ns c.in_ok-outside.outside)
-    (c.copy_smaller.ensures ∙ ap (λ (old : List ℕ). smaller_sizes old sizes) c.sizes_of-old.ensures) (c.in_ok-outside.ensures.lost, c.in_ok-outside.ensures.edge)
+    (c.copy_smaller.ensures ∙ ap (λ (old : List ℕ). smaller_sizes old sizes) (rw c.new-header.ensures at c.sizes_of-old.ensures)) (c.in_ok-outside.ensures.lost, c.in_ok-outside.ensures.edge)

@@ -33,6 +33,10 @@ stands c =
 
 -- ---- before the first run
 
+pub new-requires : goal.new-requires
+new-requires c =
+    header_within c.args.image.now c.args.index.now.objects.items c.args.index.now.numbers c.requires.opened c.args.number c.unwrap-object.result.now (stands (goal.at.new-requires c).After-unwrap-object)
+
 pub new-places-requires : goal.new-places-requires
 new-places-requires c =
     let image = c.args.image.now in
@@ -40,15 +44,14 @@ new-places-requires c =
     let numbers = c.args.index.now.numbers in
     let object = c.unwrap-object.result.now in
     let opened = c.requires.opened in
-    let at = stands c in
+    let at = stands (goal.at.new-places-requires c).After-unwrap-object in
     let run = c.requires.run in
     let content = array_content image slots numbers opened c.args.number object at (kept_array image slots numbers opened c.args.number object at run.0 run.1.array).0 in
-    record {
-      within = header_within image slots numbers opened c.args.number object at;
+    rw c.new.ensures (record {
       dataset = content.0.kinds;
       array = content.0.array;
       read = content.1;
-    }
+    })
 
 first_sound : (c : After-unwrap-object) → IsSound (opened_state c.args.image.now c.args.index.now.objects.items)
 first_sound c = sound c.args.image.now c.args.index.now.objects.items c.args.index.now.numbers c.requires.opened
@@ -60,7 +63,7 @@ loop-run-init c = record {
   first = none_first (opened_state c.args.image.now c.args.index.now.objects.items) c.args.number c.args.runs c.args.values.now c.requires.run.0 c.requires.run.1
       (first_sound (goal.at.loop-run-init c).After-unwrap-object) _ (sym c.into_iter-run-iterator.ensures.into_iter_gives) _ c.lend-left.ensures;
   opened = c.requires.opened;
-  its = record { object = c.unwrap-object.result.now; kept = stands (goal.at.loop-run-init c).After-unwrap-object; stand = c.new-places.ensures };
+  its = record { object = c.unwrap-object.result.now; kept = stands (goal.at.loop-run-init c).After-unwrap-object; stand = rw c.new.ensures at c.new-places.ensures };
 }
 
 -- ---- one run

@@ -1,5 +1,6 @@
 use Rattle.std.proofs.Common.{◌≡◌, ◌-◌, ◌++◌, ℕ, List, ℤ, length, take, drop, ap, ◌∙◌, sym}
 use Rattle.std.specs.List.{list_all}
+use Rattle.h5_model.specs.Format.MessageTypes.{attribute_kind}
 use Rattle.h5_bytes.specs.Texts.{pad8}
 use Rattle.h5_model.specs.Edits.Applied.{attribute_from}
 use Rattle.h5_model.specs.Format.Bodies.{attribute_bytes}
@@ -34,4 +35,4 @@ returns c =
     part_written 12 c.attribute_length-size.result _ c.in_ok-at.at c.args.out.now.items c.push_message_room.new.out.items c.deref_mut.result.now
     c.in_ok-at.ensures.room c.in_ok-at.ensures.place c.deref_mut.ensures.value c.deref_mut.ensures.len
     c.write_attribute.new.bytes (ap length body ∙ length-body attr.name (attribute_from attr) c.requires ∙ ap pad8 (sym used))
-    ∙ ap (λ bytes. c.args.out.now.items ++ message_bytes (12, bytes)) body
+    ∙ ap (λ bytes. c.args.out.now.items ++ message_bytes (attribute_kind, bytes)) body

@@ -1,5 +1,6 @@
 use Rattle.std.proofs.Common.{◌≡◌, ℕ, List, Option, ◌-◌, ◌*◌, ◌++◌, length, take, drop, ap, ◌∙◌, sym}
 use Rattle.std.specs.Prelude.{unwrap_or}
+use Rattle.h5_model.specs.Format.MessageTypes.{attribute_kind}
 use Rattle.h5_bytes.specs.Texts.{pad8}
 use Rattle.h5_model.specs.Format.Bodies.{attribute_bytes, stored_attribute_bytes}
 use Rattle.h5_model.specs.Format.Plain.{message_bytes}
@@ -37,4 +38,4 @@ returns c =
     part_written 12 c.attribute_length-size.result _ c.in_ok-at.at c.args.out.now.items c.push_message_room.new.out.items c.deref_mut.result.now
     c.in_ok-at.ensures.room c.in_ok-at.ensures.place c.deref_mut.ensures.value c.deref_mut.ensures.len
     c.write_stored_attribute.new.bytes (ap length body ∙ length-body attr.0 a c.requires ∙ ap pad8 (sym used))
-    ∙ ap (λ bytes. c.args.out.now.items ++ message_bytes (12, bytes)) (body ∙ ap (λ (b : Option (List ℕ)). unwrap_or b (attribute_body attr.0 a)) c.in_default.ensures)
+    ∙ ap (λ bytes. c.args.out.now.items ++ message_bytes (attribute_kind, bytes)) (body ∙ ap (λ (b : Option (List ℕ)). unwrap_or b (attribute_body attr.0 a)) c.in_default.ensures)

@@ -1,5 +1,5 @@
 use Rattle.std.proofs.Common.{◌++◌, ap, ◌∙◌}
-use Rattle.h5_msg.proofs.WordLaws.{as_many_maxima}
+use Rattle.h5_model.proofs.EditLaws.{length-are_maxima}
 use Rattle.h5_model.specs.Format.Fixed.{Fixed}
 use Rattle.h5_model.specs.Format.Plain.{message_bytes}
 use Rattle.h5_repack.specs.Bodies.Bodies.{type_message}
@@ -8,7 +8,7 @@ use Rattle.h5_repack.proofs.BlockLaws.ArrayParts.{header_pushed}
 use Rattle.h5_repack.proofs.blocks.header.push_array_header.Goals as goal
 
 pub messages_size-requires-clause-same : goal.messages_size-requires-clause-same
-messages_size-requires-clause-same c = as_many_maxima c.args.array.now.sizes c.args.array.now.maxima (c.requires.array).bounded
+messages_size-requires-clause-same c = length-are_maxima c.args.array.now.sizes c.args.array.now.maxima (c.requires.array).bounded
 
 pub returns : goal.returns
 returns c =

@@ -1,5 +1,6 @@
 use Rattle.std.proofs.Common.{◌≡◌, ◌++◌, ◌∙◌, List, ℕ, rules, to_z, of_z, ap, arith, length, replicate}
 use Rattle.std.specs.Int.{w128}
+use Rattle.h5_model.specs.Format.MessageTypes.{data_layout_kind}
 use Rattle.h5_model.specs.Format.Bodies.{compact_bytes, padded_body}
 use Rattle.h5_model.specs.Format.Plain.{cells_bytes, message_bytes}
 use Rattle.h5_model.specs.Tree.Places.{cells}
@@ -23,4 +24,4 @@ returns c =
     = c.deref.ensures.value ∙ c.in_ok-push_cells.ensures
     ∙ (λ i. c.new-filled.ensures.items i ++ cells_bytes (c.fixed.ensures i) (replicate (c.cells.ensures.exact i) ((value ∙ c.fill.ensures.value) i))) in
     c.in_ok-push_compact_data.ensures
-    ∙ ap (λ (bytes : List ℕ). c.args.out.now.items ++ message_bytes (8, padded_body (compact_bytes bytes))) filled
+    ∙ ap (λ (bytes : List ℕ). c.args.out.now.items ++ message_bytes (data_layout_kind, padded_body (compact_bytes bytes))) filled

@@ -1,6 +1,6 @@
 -- Members of lists.
-use Rattle.std.proofs.Common.{◌≡◌, ◌⊎◌, ℕ, zero, suc, ◌+◌, ◌<◌, inl, inr, List, [], ◌∷◌, map, ap, refl, subst, arith}
-use Rattle.std.specs.List.{AllByRecursion, Contains, range_with_len}
+use Rattle.std.proofs.Common.{◌≡◌, ◌⊎◌, ℕ, zero, suc, ◌+◌, ◌<◌, inl, inr, List, [], ◌∷◌, Bool, true, false, cond, map, refl, sym, ap, ◌∙◌, subst, arith}
+use Rattle.std.specs.List.{AllByRecursion, Contains, filter, range_with_len}
 
 -- x is one of the list
 abbrev pub In : {X : Type 0} → X → List X → Type 0
@@ -21,6 +21,27 @@ from_map f y [] at = absurd at
 from_map f y (x ∷ xs) (inl e) = (x, inl refl, e)
 from_map f y (x ∷ xs) (inr at) = let rest = from_map f y xs at in (rest.0, inr rest.1, rest.2)
 
+-- those that pass a test
+pub filter_in : {X : Type 0} (test : X → Bool) (x : X) (xs : List X) → In x (filter test xs) → In x xs × (test x ≡ true)
+filter_in {X} test x [] at = absurd at
+filter_in {X} test x (y ∷ ys) at = by_test (filter_in test x ys) (test y) refl at where
+  by_test : (In x (filter test ys) → In x ys × (test x ≡ true)) → (b : Bool) → test y ≡ b → In x (cond b (y ∷ filter test ys) (filter test ys))
+      → In x (y ∷ ys) × (test x ≡ true)
+  by_test below true is (inl e) = (inl e, ap test (sym e) ∙ is)
+  by_test below true is (inr there) = let rest = below there in (inr rest.0, rest.1)
+  by_test below false is there = let rest = below there in (inr rest.0, rest.1)
+
+pub in_filter : {X : Type 0} (test : X → Bool) (x : X) (xs : List X) → In x xs → test x ≡ true → In x (filter test xs)
+in_filter {X} test x [] at passes = absurd at
+in_filter {X} test x (y ∷ ys) (inl e) passes =
+    let own : test y ≡ true = ap test e ∙ passes in
+    subst (λ b. In x (cond b (y ∷ filter test ys) (filter test ys))) (sym own) (inl e)
+in_filter {X} test x (y ∷ ys) (inr there) passes = by_test (in_filter test x ys there passes) (test y) where
+  by_test : In x (filter test ys) → (b : Bool) → In x (cond b (y ∷ filter test ys) (filter test ys))
+  by_test below true = inr below
+  by_test below false = below
+
+-- a member stands at a place
 pub in_contains : {X : Type 0} (x : X) (xs : List X) → Contains xs x → In x xs
 in_contains x [] (k, low, is) = absurd (omega (arith, low))
 in_contains x (y ∷ ys) (zero, low, is) = inl is

@@ -1,0 +1,26 @@
+-- The project's own limits, which no section of the format sets: what goes past one is refused.
+use Rattle.std.specs.Prelude.{ℕ, ◌^◌}
+
+-- the dimensions of an array or an attribute
+abbrev pub most_dimensions : ℕ
+most_dimensions = 32
+
+-- the cells of an array or an attribute, counted by its extent
+abbrev pub most_cells : ℕ
+most_cells = 2 ^ 40
+
+-- the names of a path
+abbrev pub most_names : ℕ
+most_names = 64
+
+-- the hard links that lead to one object
+abbrev pub most_hard_links : ℕ
+most_hard_links = 65535
+
+-- the bytes of an image
+abbrev pub most_bytes : ℕ
+most_bytes = 2 ^ 31
+
+-- the views that a session has open
+abbrev pub most_views : ℕ
+most_views = 1024
