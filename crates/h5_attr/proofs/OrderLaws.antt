@@ -19,6 +19,7 @@ use Rattle.h5_model.specs.Format.Messages.{Message}
 use Rattle.h5_model.specs.Tree.Objects.{Attribute, Attributes}
 use Rattle.h5_model.specs.Format.Reads.{HasAttributes}
 use Rattle.h5_model.specs.Faults.HeaderFaults.{HasNameTwice}
+use Rattle.h5_model.proofs.TextOrder.{is_less}
 use Rattle.h5_attr.specs.Attributes.{attributes_in, attribute_names_in, HasNamesOnce}
 use Rattle.h5_attr.proofs.EntryLaws.{names_once, attributes-is}
 
@@ -39,11 +40,6 @@ rises x y up apart = rises_by (order x y) (ap is_lt (sym (nat_list_cmp_total.ant
 
 abbrev texts : List (Bor (List ℕ)) → List (List ℕ)
 texts names = map (λ (name : Bor (List ℕ)). name.now) names
-
-is_less : (r : Ordering) → is_lt r ≡ true → r ≡ Less
-is_less Less e = refl
-is_less Equal e = cc
-is_less Greater e = cc
 
 no_text : Bor (List ℕ)
 no_text = record { ref_ptr = (0, 0); now = [] }

@@ -105,8 +105,8 @@ pub over_kept : (V W : Reading) (m root p : ℕ) (way : List Step) (i : ℕ) (li
 over_kept V W m root p way i list high out over t =
     refills_tree V W m p over.front over.back (remove (V p).children i) (omega (arith, high)) out over.row t root way list high over.above over.under
 
--- the only child of a node goes
-pub remove_alone : (xs : List ℕ) (i : ℕ) → length xs ≡ 1 → i < length xs → remove xs i ≡ []
+-- the only one of a list goes
+pub remove_alone : {X : Type 0} (xs : List X) (i : ℕ) → length xs ≡ 1 → i < length xs → remove xs i ≡ []
 remove_alone [] i one low = absurd (omega (arith, low))
 remove_alone (x ∷ []) zero one low = refl
 remove_alone (x ∷ []) (suc i) one low = absurd (omega (arith, low))

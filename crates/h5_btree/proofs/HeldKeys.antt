@@ -5,13 +5,14 @@ use Rattle.std.specs.List.{AllByRecursion, insert}
 use Rattle.std.proofs.lemmas.List.Edits.{length-insert}
 use Rattle.h5_bytes.proofs.PartLaws.{length-part}
 use Rattle.h5_model.specs.Format.Nodes.{Kind, entries_in, node_at, node_bytes, node_length}
+use Rattle.h5_model.proofs.Members.{all_both}
 use Rattle.h5_space.specs.Space.{Space}
 use Rattle.h5_btree.specs.Held.{IsNodeThere, IsStepThere, held_key}
 use Rattle.h5_btree.specs.Removal.{EndsInTree}
 use Rattle.h5_btree.specs.declared.way.Step.{Step}
-use Rattle.h5_laws.proofs.KeyInserts.{all_both}
+use Rattle.h5_space.proofs.AddressLaws.{all_at}
 use Rattle.h5_btree.proofs.NodeLaws.{keys_long}
-use Rattle.h5_btree.proofs.WaySteps.{all_at, way_there, way_places}
+use Rattle.h5_btree.proofs.WaySteps.{way_there, way_places}
 
 all_insert : {X : Type 0} (P : X → Type 0) (xs : List X) (j : ℕ) (x : X) → AllByRecursion P xs → P x → AllByRecursion P (insert xs j x)
 all_insert P xs zero x all here = (here, all)
@@ -26,8 +27,7 @@ long_keys image kind at there = keys_long kind (node_bytes image kind at) (lengt
 pub between_long : (keys : List (List ℕ)) (j n long : ℕ) (key : List ℕ) → AllByRecursion (λ (k : List ℕ). length k ≡ long) keys → length key ≡ long → j ≤ length keys → n ≤ length keys
     → length (slice_index_or (insert keys j key) n []) ≡ long
 between_long keys j n long key all here low within =
-    all_at (λ (k : List ℕ). length k ≡ long) (insert keys j key) n [] (let l = length-insert keys j key low in omega (arith, l, within))
-    (all_insert (λ (k : List ℕ). length k ≡ long) keys j key all here)
+    all_at (λ (k : List ℕ). length k ≡ long) (insert keys j key) n [] (all_insert (λ (k : List ℕ). length k ≡ long) keys j key all here) (let l = length-insert keys j key low in omega (arith, l, within))
 
 -- a key held between two
 pub held_long : (follows : List ℕ → List ℕ → Bool) (low key high : List ℕ) (long : ℕ) → length low ≡ long → length key ≡ long → length high ≡ long

@@ -2,6 +2,7 @@
 use Rattle.std.proofs.Common.{◌≡◌, ◌≢◌, inl, inr, ℕ, suc, ◌+◌, ◌*◌, ◌<◌, List, [], ◌∷◌, length, take, drop, refl, sym, ap, ◌∙◌, subst, arith, ◌==◌}
 use Rattle.std.specs.List.{AllByRecursion, insert, list_any}
 use Rattle.std.proofs.lemmas.Bool.{or_right}
+use Rattle.h5_bytes.proofs.BlockLaws.{all_so}
 use Rattle.h5_model.specs.Format.Rows.{Node}
 use Rattle.h5_model.specs.Format.Nodes.{Kind, node_at, node_bytes, node_of, reading_of}
 use Rattle.h5_model.proofs.RowLaws.{same_number}
@@ -11,7 +12,6 @@ use Rattle.h5_btree.specs.Insertion.{HasComeIn, HasHalves, HasRisen, IsClimbing,
 use Rattle.h5_btree.specs.declared.way.Step.{Step}
 use Rattle.h5_btree.proofs.ClimbSteps.{others_stay}
 use Rattle.h5_btree.proofs.ClimbStands.{own_p, above_known, not_here}
-use Rattle.h5_btree.proofs.WaySteps.{all_map}
 
 -- ---- nodes that keep their keys and children
 
@@ -45,16 +45,14 @@ owns_new q own = rw (same_number q) refl
 pub above_apart : (s t : Space) (kind : Kind) (root m p : ℕ) (way : List Step) (j child : ℕ) (list owned own : List ℕ)
     → IsClimbing s t kind root m p way j child list owned own → AllByRecursion (λ (step : Step). Owns own step.node × (step.node ≢ p)) way
 above_apart s t kind root m p way j child list owned own c =
-    all_map (λ (step : Step). Owns own step.node × ((reading_of t.bytes kind own step.node).level ≢ m)) (λ (step : Step). Owns own step.node × (step.node ≢ p))
-    (λ step known. (known.0, not_here s t kind root m p way j child list owned own c step.node known.1)) way (above_known s t kind root m p way j child list owned own c)
+    all_so (λ (step : Step). Owns own step.node × ((reading_of t.bytes kind own step.node).level ≢ m)) (λ (step : Step). Owns own step.node × (step.node ≢ p)) way (λ step known. (known.0, not_here s t kind root m p way j child list owned own c step.node known.1)) (above_known s t kind root m p way j child list owned own c)
 
 -- and keep theirs where those that are not p do
 pub stays : (s t u : Space) (kind : Kind) (root m p : ℕ) (next : Step) (higher : List Step) (j child : ℕ) (list owned own : List ℕ) (q : ℕ)
     → IsClimbing s t kind root m p (next ∷ higher) j child list owned own → ((n : ℕ) → Owns own n → (n ≢ q) × (n ≢ p → KeepsEntries t.bytes u.bytes kind n))
     → AllByRecursion (λ (step : Step). KeepsEntries t.bytes u.bytes kind step.node) (next ∷ higher)
 stays s t u kind root m p next higher j child list owned own q c others =
-    all_map (λ (step : Step). Owns own step.node × (step.node ≢ p)) (λ (step : Step). KeepsEntries t.bytes u.bytes kind step.node)
-    (λ step known. (others step.node known.0).1 known.1) (next ∷ higher) (above_apart s t kind root m p (next ∷ higher) j child list owned own c)
+    all_so (λ (step : Step). Owns own step.node × (step.node ≢ p)) (λ (step : Step). KeepsEntries t.bytes u.bytes kind step.node) (next ∷ higher) (λ step known. (others step.node known.0).1 known.1) (above_apart s t kind root m p (next ∷ higher) j child list owned own c)
 
 -- where a node is written, the others keep theirs
 pub filled_others : (s t u : Space) (kind : Kind) (root m p : ℕ) (way : List Step) (j child : ℕ) (list owned own : List ℕ) (node : Node)
@@ -66,9 +64,7 @@ filled_others s t u kind root m p way j child list owned own node c r n listed o
 pub above_keep : (s t u : Space) (kind : Kind) (root m p : ℕ) (way : List Step) (j child : ℕ) (list owned own : List ℕ) (node : Node)
     → IsClimbing s t kind root m p way j child list owned own → IsRewritten t u kind p node → AllByRecursion (λ (step : Step). KeepsEntries t.bytes u.bytes kind step.node) way
 above_keep s t u kind root m p way j child list owned own node c r =
-    all_map (λ (step : Step). Owns own step.node × (step.node ≢ p)) (λ (step : Step). KeepsEntries t.bytes u.bytes kind step.node)
-    (λ step known. filled_others s t u kind root m p way j child list owned own node c r step.node known.0 known.1) way
-    (above_apart s t kind root m p way j child list owned own c)
+    all_so (λ (step : Step). Owns own step.node × (step.node ≢ p)) (λ (step : Step). KeepsEntries t.bytes u.bytes kind step.node) way (λ step known. filled_others s t u kind root m p way j child list owned own node c r step.node known.0 known.1) (above_apart s t kind root m p way j child list owned own c)
 
 -- ---- along the way
 

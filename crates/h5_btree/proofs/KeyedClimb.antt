@@ -1,7 +1,9 @@
 -- An insertion along a way, node by node, as one into the tree of keys: from the node where a child comes in up to the root.
-use Rattle.std.proofs.Common.{◌≡◌, ◌⊎◌, inl, inr, ℕ, zero, suc, ◌+◌, ◌*◌, ◌<◌, ◌≤◌, Bool, List, [], ◌∷◌, ◌++◌, length, map, take, drop, get_or, refl, sym, ap, ◌∙◌, subst, arith, add-one}
+use Rattle.std.proofs.Common.{◌≡◌, ◌⊎◌, inl, inr, ℕ, suc, ◌+◌, ◌*◌, ◌<◌, ◌≤◌, Bool, List, [], ◌∷◌, ◌++◌, length, map, take, drop, get_or, refl, sym, ap, ◌∙◌, subst, arith, add-one}
 use Rattle.std.specs.List.{AllByRecursion, insert}
 use Rattle.std.proofs.lemmas.List.Edits.{length-insert}
+use Rattle.std.proofs.lemmas.List.{drop_all}
+use Rattle.std.proofs.Math.Seq.{drop-cons}
 use Rattle.h5_bytes.specs.Bytes.{undefined_address}
 use Rattle.h5_bytes.proofs.BlockLaws.{all_right}
 use Rattle.h5_model.specs.Format.Rows.{Node, Reading, IsRow, AreRows}
@@ -21,16 +23,10 @@ use Rattle.h5_btree.proofs.ClimbLaws.{row_here}
 use Rattle.h5_btree.proofs.NodeLaws.{length-children}
 use Rattle.h5_btree.proofs.RowEdits.{level_here}
 use Rattle.h5_btree.proofs.TreeReadings.{Listed, owned_at, owned_of_level}
-use Rattle.h5_btree.proofs.KeyedTrees.{IsOffWay, cut_at, drop_at}
+use Rattle.h5_btree.proofs.KeyedTrees.{IsOffWay, cut_at}
 use Rattle.h5_btree.proofs.KeyedOwn.{keys_count, keys_cut, long_trees, trees_cut}
 use Rattle.h5_btree.proofs.KeyedGrown.{GoesIn, IsWide, wide_same, wide_behind, fits_one, fits_two}
 use Rattle.h5_btree.proofs.HalfLists.{left_bounds}
-
-pub drop_past : {X : Type 0} (xs : List X) (n : ℕ) → length xs ≤ n → drop n xs ≡ []
-drop_past [] zero past = refl
-drop_past [] (suc n) past = refl
-drop_past (x ∷ xs) zero past = absurd (omega (arith, past))
-drop_past (x ∷ xs) (suc n) past = drop_past xs n (omega (arith, past))
 
 module _ {B X : Type 0} (sides : Sides (List ℕ) X) (items : B → List X) (Base : B → Type 0) (Puts : B → Grown (List ℕ) B → Type 0) (x : X) (low high : List ℕ)
     (follows : List ℕ → List ℕ → Bool) (s t : List ℕ) (kind : Kind) (root level : ℕ) (owned : List ℕ) (out : IsNoNode (reading_of s kind owned) undefined_address) (top : level ≤ 15)
@@ -213,9 +209,9 @@ module _ {B X : Type 0} (sides : Sides (List ℕ) X) (items : B → List X) (Bas
           init = take last (W r).keys;
           first_is = cut_at (W l).keys 0 [] (omega (arith, kl));
           last_is = cut_at (W r).keys last [] (omega (arith, kr)) ∙ ap (λ (more : List (List ℕ)). take last (W r).keys ++ get_or (W r).keys last [] ∷ more)
-              (drop_past (W r).keys (suc last) (omega (arith, kr)));
+              (drop_all (suc last) (W r).keys (omega (arith, kr)));
           keys_are = risen.keys ∙ ap (λ (k : List ℕ). get_or (W l).keys 0 [] ∷ k ∷ get_or (W r).keys last [] ∷ [])
-              (ap (λ (ks : List (List ℕ)). get_or ks 0 []) (risen.right_keys ∙ drop_at (insert (V root).keys j key) n [] within));
+              (ap (λ (ks : List (List ℕ)). get_or ks 0 []) (risen.right_keys ∙ drop-cons (insert (V root).keys j key) n [] within));
           children_are = ap (map (λ n. keys_from W now m n)) risen.children;
         }
 

@@ -2,6 +2,7 @@
 use Rattle.std.proofs.Common.{◌≡◌, ◌≢◌, ◌⊎◌, inl, inr, ℕ, suc, ◌+◌, ◌<◌, ◌≤◌, true, List, [], ◌∷◌, ◌++◌, length, take, drop, get_or, sym, ap, ap₂, ◌∙◌, subst, arith}
 use Rattle.std.specs.List.{AllByRecursion, flat_map, remove}
 use Rattle.std.proofs.lemmas.Grind.{flat_map-append}
+use Rattle.std.proofs.lemmas.List.{drop_all}
 use Rattle.h5_bytes.specs.Bytes.{undefined_address}
 use Rattle.h5_bytes.proofs.BlockLaws.{all_append, all_left, all_right}
 use Rattle.h5_model.specs.Format.Rows.{Node, Reading}
@@ -19,7 +20,7 @@ use Rattle.h5_btree.specs.declared.way.Step.{Step}
 use Rattle.h5_btree.proofs.KeyedTrees.{StandsAlike, AreAlike, IsOffWay, tree_below, below_append, below_none, below_one, below-same}
 use Rattle.h5_btree.proofs.KeyedOwn.{all_stand, keys_count, keys_own, keys_cut, children_cut, long_front, long_trees, trees_cut}
 use Rattle.h5_btree.proofs.KeyedOff.{off_out, off_steps, off_here, off_stands, off_is}
-use Rattle.h5_btree.proofs.KeyedClimb.{drop_past, there, sorted_way}
+use Rattle.h5_btree.proofs.KeyedClimb.{there, sorted_way}
 
 -- ---- one node
 
@@ -79,7 +80,7 @@ module _ {B X : Type 0} (sides : Sides (List ℕ) X) (orderly : IsOrderly sides)
     falls = elim gives.0 [ inl same ↦ subst (λ (n : List ℕ). sides.Rise n kk) (sym same) (orderly.itself kk) | inr first ↦ first.1 ]
 
     is_high : (ka ≡ []) ⊎ (h ≡ jj)
-    is_high = elim gives.1 [ inl same ↦ inr same | inr last ↦ inl (drop_past keys (suc (suc i)) (omega (arith, last.0, long))) ]
+    is_high = elim gives.1 [ inl same ↦ inr same | inr last ↦ inl (drop_all (suc (suc i)) keys (omega (arith, last.0, long))) ]
 
     climbs_up : sides.Rise jj h
     climbs_up = elim gives.1 [ inl same ↦ subst (sides.Rise jj) (sym same) (orderly.itself jj) | inr last ↦ last.1 ]
@@ -88,7 +89,7 @@ module _ {B X : Type 0} (sides : Sides (List ℕ) X) (orderly : IsOrderly sides)
     right_trees = elim gives.1 [
       | inl same ↦ ap (λ (n : List ℕ). trees_below W at m (n ∷ ka) ys) same ∙ below-same Y W at at m (jj ∷ ka) ys behind
       | inr last ↦
-          let none : ys ≡ [] = drop_past children (suc i) (omega (arith, last.0)) in
+          let none : ys ≡ [] = drop_all (suc i) children (omega (arith, last.0)) in
           ap (trees_below W at m (h ∷ ka)) none ∙ below_none W at m (h ∷ ka) ∙ sym (below_none Y at m (jj ∷ ka)) ∙ ap (trees_below Y at m (jj ∷ ka)) (sym none)
     ]
 

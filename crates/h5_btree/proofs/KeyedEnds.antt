@@ -2,8 +2,9 @@
 use Rattle.std.proofs.Common.{◌≡◌, ◌⊎◌, inl, inr, ℕ, zero, suc, ◌+◌, ◌<◌, Bool, true, false, List, [], ◌∷◌, ◌++◌, length, take, drop, get_or, refl, ap, ◌∙◌, arith}
 use Rattle.std.specs.Prelude.{if◌then◌else◌, slice_set}
 use Rattle.std.proofs.lemmas.List.{length-take-le}
+use Rattle.std.proofs.Math.Seq.{drop-cons}
 use Rattle.h5_laws.specs.Ladders.{Sides, IsOrderly}
-use Rattle.h5_btree.proofs.KeyedTrees.{cut_at, drop_at}
+use Rattle.h5_btree.proofs.KeyedTrees.{cut_at}
 use Rattle.h5_btree.proofs.KeyedEases.{GivesWay}
 
 module _ {X : Type 0} where
@@ -45,7 +46,7 @@ module _ (keys : List (List ℕ)) (children : List ℕ) (i : ℕ) (long : length
   ka = drop (suc (suc i)) keys
 
   cut : keys ≡ take i keys ++ kk ∷ jj ∷ ka
-  cut = cut_at keys i [] (omega (arith, long, at)) ∙ ap (λ (more : List (List ℕ)). take i keys ++ kk ∷ more) (drop_at keys (suc i) [] (omega (arith, long, at)))
+  cut = cut_at keys i [] (omega (arith, long, at)) ∙ ap (λ (more : List (List ℕ)). take i keys ++ kk ∷ more) (drop-cons keys (suc i) [] (omega (arith, long, at)))
 
   front : length (take i keys) ≡ i
   front = length-take-le i keys (omega (arith, long, at))

@@ -3,6 +3,7 @@ use Rattle.std.proofs.Common.{◌≡◌, ◌≢◌, ◌⊎◌, inl, inr, ℕ, su
 use Rattle.std.specs.Prelude.{Option, None}
 use Rattle.std.specs.List.{AllByRecursion, flat_map, remove}
 use Rattle.std.proofs.lemmas.Grind.{flat_map-append}
+use Rattle.std.proofs.lemmas.List.{drop_all}
 use Rattle.h5_bytes.specs.Bytes.{undefined_address}
 use Rattle.h5_bytes.proofs.BlockLaws.{all_left, all_right}
 use Rattle.h5_model.specs.Format.Links.{Before, NotAfter}
@@ -23,7 +24,7 @@ use Rattle.h5_btree.specs.Keyed.{AtChild, trees_below, keys_from}
 use Rattle.h5_btree.specs.Removal.{EndsInTree}
 use Rattle.h5_btree.specs.Retired.{lowest_key}
 use Rattle.h5_btree.specs.declared.way.Step.{Step}
-use Rattle.h5_btree.proofs.KeyedClimb.{drop_past, there}
+use Rattle.h5_btree.proofs.KeyedClimb.{there}
 use Rattle.h5_btree.proofs.KeyedEases.{GivesWay, new_trees}
 use Rattle.h5_btree.proofs.KeyedExactPuts.{AreExactFor}
 use Rattle.h5_btree.proofs.KeyedOff.{off_here, off_is, off_out, off_stands, off_steps}
@@ -103,7 +104,7 @@ module _ (text : List ℕ → List ℕ) (empty : text lowest_key ≡ []) (x : Li
     low_is = elim lets.0 [ inl same ↦ inl same | inr first ↦ inr (ap (λ (n : ℕ). take n keys) first.0, first.1, first.2) ]
 
     high_is : (h ≡ jj) ⊎ ((ka ≡ []) × (h ≡ x))
-    high_is = elim lets.1 [ inl same ↦ inl same | inr last ↦ inr (drop_past keys (suc (suc i)) (omega (arith, last.0, long)), last.1) ]
+    high_is = elim lets.1 [ inl same ↦ inl same | inr last ↦ inr (drop_all (suc (suc i)) keys (omega (arith, last.0, long)), last.1) ]
 
     items_of : (t : T) → flat_map (I m) (ls ++ t ∷ rs) ≡ flat_map (I m) ls ++ (I m t ++ flat_map (I m) rs)
     items_of t = flat_map-append (I m) ls (t ∷ rs)

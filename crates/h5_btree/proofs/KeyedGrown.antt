@@ -1,13 +1,14 @@
 -- A node into which a child comes, or whose child is cut in two, as a step of an insertion into the tree of keys.
 use Rattle.std.proofs.Common.{◌≡◌, inl, inr, ℕ, zero, suc, ◌+◌, ◌-◌, ◌*◌, ◌<◌, ◌≤◌, List, [], ◌∷◌, ◌++◌, length, take, drop, get_or, refl, sym, ap, ap₂, ◌∙◌, arith}
 use Rattle.std.specs.List.{insert}
-use Rattle.std.proofs.lemmas.List.{length-take-le, length-drop, take-append-drop}
+use Rattle.std.proofs.lemmas.List.{length-take-le, length-drop, take-append-drop, take_more}
+use Rattle.std.proofs.Math.Seq.{drop-cons}
 use Rattle.h5_model.specs.Format.Rows.{Reading}
 use Rattle.h5_laws.specs.Ladders.{Sides}
 use Rattle.h5_laws.specs.KeyTrees.{KeyTree}
 use Rattle.h5_laws.specs.KeyEdits.{Grown, One, Two, Descends, IsHeld, Widens, Inserts}
 use Rattle.h5_btree.specs.Keyed.{AtChild, trees_below, keys_from}
-use Rattle.h5_btree.proofs.KeyedTrees.{AreAlike, cut_at, drop_at, tree_below, below_append, below_less, below_long, below_one, below-same}
+use Rattle.h5_btree.proofs.KeyedTrees.{AreAlike, cut_at, tree_below, below_append, below_less, below_long, below_one, below-same}
 use Rattle.h5_btree.proofs.KeyedOwn.{keys_behind, keys_cut, long_front, long_trees, trees_cut}
 
 -- ---- lists
@@ -19,14 +20,7 @@ insert_behind (x ∷ xs) zero d v low = refl
 insert_behind {X} (x ∷ xs) (suc i) d v low = ap (λ (ys : List X). x ∷ ys) (insert_behind xs i d v (omega (arith, low)))
 
 pub insert_before : {X : Type 0} (xs : List X) (i : ℕ) (d v : X) → i < length xs → insert xs i v ≡ take i xs ++ v ∷ get_or xs i d ∷ drop (suc i) xs
-insert_before {X} xs i d v low = ap (λ (ys : List X). take i xs ++ v ∷ ys) (drop_at xs i d low)
-
-take_one_more : {X : Type 0} (xs : List X) (n : ℕ) (d : X) → n < length xs → take (n + 1) xs ≡ take n xs ++ get_or xs n d ∷ []
-take_one_more [] n d low = absurd (omega (arith, low))
-take_one_more (x ∷ xs) zero d low = refl
-take_one_more {X} (x ∷ xs) (suc n) d low =
-    let more : suc n + 1 ≡ suc (n + 1) = omega arith in
-    ap (λ (k : ℕ). take k (x ∷ xs)) more ∙ ap (λ (ys : List X). x ∷ ys) (take_one_more xs n d (omega (arith, low)))
+insert_before {X} xs i d v low = ap (λ (ys : List X). take i xs ++ v ∷ ys) (drop-cons xs i d low)
 
 -- ---- one node
 
@@ -188,8 +182,8 @@ module _ {B X : Type 0} (sides : Sides (List ℕ) X) (Puts : B → Grown (List �
         let u = get_or keys' n [] in
         let lk = take n keys' in
         let rk = drop (suc n) keys' in
-        let one : take (n + 1) keys' ≡ lk ++ u ∷ [] = take_one_more keys' n [] (omega (arith, long, full, most, some)) in
-        let two : drop n keys' ≡ u ∷ rk = drop_at keys' n [] (omega (arith, long, full, most, some)) in
+        let one : take (n + 1) keys' ≡ lk ++ u ∷ [] = take_more keys' n [] (omega (arith, long, full, most, some)) in
+        let two : drop n keys' ≡ u ∷ rk = drop-cons keys' n [] (omega (arith, long, full, most, some)) in
         let long_lk : length lk ≡ n = length-take-le n keys' (omega (arith, long, full, most, some)) in
         let long_cs : length (take n children') ≡ n = length-take-le n children' (omega (arith, full, most, some)) in
         let front : length lk ≡ length (take n children') = long_lk ∙ sym long_cs in

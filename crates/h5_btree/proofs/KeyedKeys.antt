@@ -126,13 +126,15 @@ module _ {K : Type 0} (B : Type 0) (Knows : K → Type 0) where
 
 -- ---- nodes of an image
 
-all_of_map : {X Y : Type 0} (f : X → Y) (P : Y → Type 0) (xs : List X) → AllByRecursion P (map f xs) → AllByRecursion (λ x. P (f x)) xs
-all_of_map f P [] all = tt
-all_of_map f P (x ∷ xs) all = (all.0, all_of_map f P xs all.1)
+-- what holds of the images of a list's items
+pub all_unmapped : {X Y : Type 0} (P : Y → Type 0) (f : X → Y) (xs : List X) → AllByRecursion P (map f xs) → AllByRecursion (λ x. P (f x)) xs
+all_unmapped P f [] all = tt
+all_unmapped P f (x ∷ xs) all = (all.0, all_unmapped P f xs all.1)
 
-map_of_all : {X Y : Type 0} (f : X → Y) (P : Y → Type 0) (xs : List X) → AllByRecursion (λ x. P (f x)) xs → AllByRecursion P (map f xs)
-map_of_all f P [] all = tt
-map_of_all f P (x ∷ xs) all = (all.0, map_of_all f P xs all.1)
+-- the other way
+pub all_mapped : {X Y : Type 0} (P : Y → Type 0) (f : X → Y) (xs : List X) → AllByRecursion (λ x. P (f x)) xs → AllByRecursion P (map f xs)
+all_mapped P f [] all = tt
+all_mapped P f (x ∷ xs) all = (all.0, all_mapped P f xs all.1)
 
 top_all : {X : Type 0} (P : X → Type 0) → ((x : X) → P x) → (xs : List X) → AllByRecursion P xs
 top_all P so [] = tt
@@ -151,7 +153,7 @@ module _ {B : Type 0} (Knows : List ℕ → Type 0) (V : Reading) (at : AtChild 
   below_row : (level : ℕ) (row : List ℕ) → AllByRecursion (KnowsBelow (suc level)) row → AllByRecursion (KnowsBelow level) (next_row V row)
   below_row level [] all = tt
   below_row level (n ∷ row) all = all_append (KnowsBelow level) (V n).children (next_row V row)
-      (all_of_map (keys_from V at level) (Known (suc level)) (V n).children all.0.1) (below_row level row all.1)
+      (all_unmapped (Known (suc level)) (keys_from V at level) (V n).children all.0.1) (below_row level row all.1)
 
   -- of all keys of a tree, those of each node
   pub nodes_known : (level : ℕ) (row : List ℕ) → AllByRecursion (KnowsBelow level) row → AllByRecursion KnowsNode (nodes V level row)
@@ -162,7 +164,7 @@ module _ {B : Type 0} (Knows : List ℕ → Type 0) (V : Reading) (at : AtChild 
   above_row : (level : ℕ) (row : List ℕ) → AllByRecursion KnowsNode row → AllByRecursion (KnowsBelow level) (next_row V row) → AllByRecursion (KnowsBelow (suc level)) row
   above_row level [] own below = tt
   above_row level (n ∷ row) own below = (
-    (own.0, map_of_all (keys_from V at level) (Known (suc level)) (V n).children (all_left (KnowsBelow level) (V n).children (next_row V row) below)),
+    (own.0, all_mapped (Known (suc level)) (keys_from V at level) (V n).children (all_left (KnowsBelow level) (V n).children (next_row V row) below)),
     above_row level row own.1 (all_right (KnowsBelow level) (V n).children (next_row V row) below),
   )
 

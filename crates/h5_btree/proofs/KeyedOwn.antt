@@ -2,6 +2,7 @@
 use Rattle.std.proofs.Common.{◌≡◌, ℕ, suc, ◌+◌, ◌<◌, ◌≤◌, List, [], ◌∷◌, ◌++◌, length, take, drop, get_or, refl, sym, ap, ap₂, ◌∙◌, subst, arith, append-nil}
 use Rattle.std.specs.List.{AllByRecursion, remove}
 use Rattle.std.proofs.lemmas.List.{length-take-le}
+use Rattle.std.proofs.Math.Seq.{drop-cons}
 use Rattle.h5_model.specs.Format.Rows.{Node, Reading, AreRows, leaves}
 use Rattle.h5_model.specs.Format.Nodes.{Kind, HasTree, node_at, node_bytes, reading_of}
 use Rattle.h5_laws.specs.KeyTrees.{KeyTree}
@@ -9,7 +10,7 @@ use Rattle.h5_laws.specs.KeyEdits.{Enters}
 use Rattle.h5_btree.specs.Keyed.{AtChild, trees_below, keys_from}
 use Rattle.h5_btree.proofs.NodeLaws.{length-keys, length-children}
 use Rattle.h5_btree.proofs.TreeReadings.{owned_at, owned_of_level}
-use Rattle.h5_btree.proofs.KeyedTrees.{cut_at, drop_at, tree_below, below_append, below_one, below_long, IsAlike, StandsAlike, AreAlike, alike_rows, keys-same}
+use Rattle.h5_btree.proofs.KeyedTrees.{cut_at, tree_below, below_append, below_one, below_long, IsAlike, StandsAlike, AreAlike, alike_rows, keys-same}
 
 -- there is one key more than there are children
 pub keys_count : (image : List ℕ) (kind : Kind) (n : ℕ) → length (node_at image kind n).keys ≡ length (node_at image kind n).children + 1
@@ -71,7 +72,7 @@ module _ {B : Type 0} (V : Reading) (at : AtChild B) (m : ℕ) (keys : List (Lis
   ys = drop (suc i) children
 
   pub keys_behind : drop (suc i) keys ≡ j ∷ ka
-  keys_behind = drop_at keys (suc i) [] (omega (arith, long, low))
+  keys_behind = drop-cons keys (suc i) [] (omega (arith, long, low))
 
   pub keys_cut : keys ≡ kb ++ k ∷ j ∷ ka
   keys_cut = cut_at keys i [] (omega (arith, long, low)) ∙ ap (λ (more : List (List ℕ)). kb ++ k ∷ more) keys_behind

@@ -8,10 +8,10 @@ use Rattle.h5_model.specs.Format.Rows.{Node, Reading, next_row, IsRow, AreRows, 
 use Rattle.h5_model.specs.Format.Nodes.{Kind, node_at, reading_of, tree_blocks}
 use Rattle.h5_model.proofs.OneTree.{level_is}
 use Rattle.h5_model.proofs.RowLaws.{at_listed, root_level}
+use Rattle.h5_model.proofs.Members.{all_both}
 use Rattle.h5_laws.specs.Ladders.{Sides, IsOrderly}
 use Rattle.h5_laws.specs.KeyTrees.{KeyTree, items_in, IsSorted}
 use Rattle.h5_laws.specs.KeyEdits.{IsTaken, Removes}
-use Rattle.h5_laws.proofs.KeyInserts.{all_both}
 use Rattle.h5_laws.proofs.KeyRemoves.{removes_sorted}
 use Rattle.h5_laws.proofs.Rows.{row_is}
 use Rattle.h5_space.specs.Space.{Space}

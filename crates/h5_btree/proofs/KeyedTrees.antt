@@ -21,11 +21,6 @@ cut_at [] i d low = absurd (omega (arith, low))
 cut_at (x ∷ xs) zero d low = refl
 cut_at {X} (x ∷ xs) (suc i) d low = ap (λ (ys : List X). x ∷ ys) (cut_at xs i d (omega (arith, low)))
 
-pub drop_at : {X : Type 0} (xs : List X) (i : ℕ) (d : X) → i < length xs → drop i xs ≡ get_or xs i d ∷ drop (suc i) xs
-drop_at [] i d low = absurd (omega (arith, low))
-drop_at (x ∷ xs) zero d low = refl
-drop_at (x ∷ xs) (suc i) d low = drop_at xs i d (omega (arith, low))
-
 pub all_by_place : (P : ℕ → Type 0) (xs : List ℕ) → ((i : ℕ) → i < length xs → P (get_or xs i 0)) → AllByRecursion P xs
 all_by_place P [] each = tt
 all_by_place P (x ∷ xs) each = (each 0 (omega arith), all_by_place P xs (λ i low. each (suc i) (omega (arith, low))))

@@ -24,10 +24,11 @@ use Rattle.h5_btree.specs.declared.way.Step.{Step}
 use Rattle.h5_btree.proofs.ClimbSteps.{at_or}
 use Rattle.h5_btree.proofs.KeyedOff.{off_list, off_steps}
 use Rattle.h5_btree.proofs.KeyedTrees.{row_levels}
-use Rattle.h5_btree.proofs.RetiredNodes.{all_flat, under_named}
+use Rattle.h5_btree.proofs.RetiredNodes.{under_named}
 use Rattle.h5_btree.proofs.RetiredReads.{all_got}
 use Rattle.h5_btree.proofs.RetiredTrees.{root_under}
 use Rattle.h5_btree.proofs.TreeReadings.{owned_at, owned_of_level}
+use Rattle.h5_btree.proofs.OrderLaws.BetweenLaws.{each_up}
 
 -- ALL IS LOOKED AT where no way is told
 pub looked_everywhere : (hit : List ℕ → Bool) (V : Reading) (height : ℕ) (edge : Bool) (at : ℕ) → AreHitsLooked hit V None height edge at
@@ -257,7 +258,7 @@ module _ (hit : List ℕ → Bool) (keys : ℕ → List (List ℕ)) where
     lift_row : (m : ℕ) → m < 16 → (f : List ℕ) → AllByRecursion (λ n. (Y n).level ≡ m) f → AllByRecursion (U m) (next_row Y f) → AllByRecursion (U (suc m)) f
     lift_row m low [] levels all = tt
     lift_row m low (n ∷ f) levels all = (
-      all_flat (λ (key : List ℕ). hit key ≡ false) (keys_below V keys m) (V n).children
+      each_up (λ (key : List ℕ). hit key ≡ false) (keys_below V keys m) (V n).children
           (subst (λ (o : Node). AllByRecursion (U m) o.children) (own m n low levels.0) (all_left (U m) (Y n).children (next_row Y f) all)),
       lift_row m low f levels.1 (all_right (U m) (Y n).children (next_row Y f) all),
     )

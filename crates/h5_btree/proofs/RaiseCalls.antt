@@ -12,6 +12,7 @@ use Rattle.h5_model.proofs.RowLaws.{same_number}
 use Rattle.h5_space.specs.Space.{Space}
 use Rattle.h5_space.specs.Moves.{Moves}
 use Rattle.h5_space.specs.Whole.{IsApart}
+use Rattle.h5_space.proofs.AddressLaws.{all_at}
 use Rattle.h5_btree.specs.Rewritten.{IsRewritten}
 use Rattle.h5_btree.specs.Insertion.{IsClimbing, IsChildPut, KeepsEntries}
 use Rattle.h5_btree.proofs.NodeLaws.{keys_long}
@@ -21,7 +22,6 @@ use Rattle.h5_btree.proofs.ClimbStands.{top, out, own_p, inside_p, form_p, same_
 use Rattle.h5_btree.proofs.SplitSteps.{taken_apart, taken_new, taken_others, written_apart, written_others}
 use Rattle.h5_btree.proofs.RaiseSteps.{climb_raise, others, others_filled, p_bytes, q_bytes}
 use Rattle.h5_btree.proofs.RewriteSteps.{rewritten_then, rewritten_as}
-use Rattle.h5_btree.proofs.WaySteps.{all_at}
 
 -- a key of a node that stands there is as long as those of its kind
 pub key_long : (image : List ℕ) (kind : Kind) (at i : ℕ) (key : List ℕ) → at + node_length kind ≤ length image → IsNode kind (node_bytes image kind at)
@@ -30,7 +30,7 @@ key_long image kind at i key inside form read =
     let low = slice_get_within (node_at image kind at).keys i key read in
     let all = keys_long kind (node_bytes image kind at) (length-part at (node_length kind) image inside) form.roomy in
     subst (λ (k : List ℕ). length k ≡ kind.key_length) (get_or_from_slice_get (node_at image kind at).keys i key [] read)
-    (all_at (λ (k : List ℕ). length k ≡ kind.key_length) (node_at image kind at).keys i [] low all)
+    (all_at (λ (k : List ℕ). length k ≡ kind.key_length) (node_at image kind at).keys i [] all low)
 
 three_keys : {X : Type 0} (x y z : X) (keys : List X) → 2 < length keys → slice_set (slice_set (slice_set (take 3 keys) 0 x) 1 y) 2 z ≡ x ∷ y ∷ z ∷ []
 three_keys x y z [] low = absurd (omega (arith, low))

@@ -14,6 +14,7 @@ use Rattle.h5_laws.specs.Ladders.{LieBetween, IsLadder}
 use Rattle.h5_laws.specs.NameLadders.{key_sides, key_text, name_sides}
 use Rattle.h5_laws.proofs.ExactKeysNames.{key_order, key_through}
 use Rattle.h5_laws.proofs.KeyRemoves.{AreRising, retires_sorted}
+use Rattle.h5_laws.proofs.KeyInstances.{none_before}
 use Rattle.h5_space.specs.Space.{Space}
 use Rattle.h5_btree.specs.Keyed.{at_children, keys_from, IsInOrder, items_of_tree}
 use Rattle.h5_btree.specs.Retired.{IsTreeRetired, IsSubtree, lowest_key}
@@ -26,10 +27,6 @@ abbrev Names : Type 0
 Names = List (List ℕ)
 
 -- ---- keys in place of names
-
-none_before : (t : List ℕ) → NotAfter [] t
-none_before [] = refl
-none_before (n ∷ t) = refl
 
 module _ (text : List ℕ → List ℕ) where
   -- the names are the texts of the keys

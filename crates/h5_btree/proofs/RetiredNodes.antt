@@ -1,11 +1,12 @@
 -- A tree of which only keys have changed: its nodes stand where they stood, and over the same.
-use Rattle.std.proofs.Common.{◌≡◌, ◌≢◌, ℕ, zero, suc, ◌≤◌, ◌==◌, Bool, true, false, List, [], ◌∷◌, ◌++◌, length, map, refl, sym, ap, ap₂, ◌∙◌, subst, arith}
+use Rattle.std.proofs.Common.{◌≡◌, ◌≢◌, ℕ, zero, suc, ◌≤◌, ◌==◌, Bool, true, false, List, [], ◌∷◌, length, map, refl, sym, ap, ap₂, ◌∙◌, subst, arith}
 use Rattle.std.specs.Prelude.{if◌then◌else◌}
 use Rattle.std.specs.List.{AllByRecursion, flat_map, list_any}
-use Rattle.h5_bytes.proofs.BlockLaws.{all_append, all_so}
+use Rattle.h5_bytes.proofs.BlockLaws.{all_so}
 use Rattle.h5_model.specs.Format.Rows.{Node, Reading, blank}
 use Rattle.h5_model.specs.Format.Nodes.{Kind, IsNode, HasTree, entries_in, node_at, node_bytes, node_of, reading_of, tree_blocks}
 use Rattle.h5_model.proofs.RowLaws.{all_listed, at_listed}
+use Rattle.h5_laws.proofs.Entries.{flat-same}
 use Rattle.h5_space.specs.Space.{Space}
 use Rattle.h5_space.specs.Moves.{Moves}
 use Rattle.h5_space.specs.Whole.{IsApart}
@@ -18,24 +19,15 @@ use Rattle.h5_btree.proofs.ClimbSteps.{all_from, at_or, inside_of_apart}
 use Rattle.h5_btree.proofs.NodeLaws.{length-children}
 use Rattle.h5_btree.proofs.SplitSteps.{apart_then, written_moves, written_others}
 use Rattle.h5_btree.proofs.WayRows.{AreRows-keyed, leaves-keyed, nodes-keyed}
+use Rattle.h5_btree.proofs.OrderLaws.BetweenLaws.{each_up}
+use Rattle.h5_btree.proofs.KeyedKeys.{all_mapped}
 
 -- ---- lists
 
-pub flat_same : (f g : ℕ → List (List ℕ)) (xs : List ℕ) → AllByRecursion (λ x. f x ≡ g x) xs → flat_map f xs ≡ flat_map g xs
-flat_same f g [] all = refl
-flat_same f g (x ∷ xs) all = ap₂ (λ (a b : List (List ℕ)). a ++ b) all.0 (flat_same f g xs all.1)
-
-pub map_same : (f g : ℕ → List (List ℕ)) (xs : List ℕ) → AllByRecursion (λ x. f x ≡ g x) xs → map f xs ≡ map g xs
+-- functions that agree on a list have the same images
+pub map_same : {X Y : Type 0} (f g : X → Y) (xs : List X) → AllByRecursion (λ x. f x ≡ g x) xs → map f xs ≡ map g xs
 map_same f g [] all = refl
-map_same f g (x ∷ xs) all = ap₂ (λ (a : List (List ℕ)) (b : List (List (List ℕ))). a ∷ b) all.0 (map_same f g xs all.1)
-
-pub all_flat : (P : List ℕ → Type 0) (f : ℕ → List (List ℕ)) (xs : List ℕ) → AllByRecursion (λ x. AllByRecursion P (f x)) xs → AllByRecursion P (flat_map f xs)
-all_flat P f [] all = tt
-all_flat P f (x ∷ xs) all = all_append P (f x) (flat_map f xs) all.0 (all_flat P f xs all.1)
-
-all_mapped : (P : List (List ℕ) → Type 0) (f : ℕ → List (List ℕ)) (xs : List ℕ) → AllByRecursion (λ x. P (f x)) xs → AllByRecursion P (map f xs)
-all_mapped P f [] all = tt
-all_mapped P f (x ∷ xs) all = (all.0, all_mapped P f xs all.1)
+map_same {Y = Y} f g (x ∷ xs) all = ap₂ (λ (a : Y) (b : List Y). a ∷ b) all.0 (map_same f g xs all.1)
 
 -- ---- what is so of the items at the bottom is so of those below a node
 
@@ -43,7 +35,7 @@ module _ (P : List ℕ → Type 0) (V : Reading) (keys : ℕ → List (List ℕ)
   pub under_named : (height at : ℕ) → IsSubtree V owned list height at → AllByRecursion P (keys_below V keys height at)
   under_named zero at is = at_listed (λ at'. AllByRecursion P (keys at')) list at named is
   under_named (suc height) at is =
-      all_flat P (keys_below V keys height) (V at).children
+      each_up P (keys_below V keys height) (V at).children
       (all_so (IsSubtree V owned list height) (λ c. AllByRecursion P (keys_below V keys height c)) (V at).children (under_named height) is.2)
 
   pub lists_named : (level at : ℕ) → IsSubtree V owned list (suc level) at → AllByRecursion (AllByRecursion P) (map (keys_below V keys level) (V at).children)
@@ -120,7 +112,7 @@ module _ (s t : Space) (kind : Kind) (owned list : List ℕ) (apart : IsApart (t
     keyed_below zero at is = at_listed (λ at'. now at' ≡ was at') list at same is
     keyed_below (suc height) at is =
         ap (flat_map (keys_below W now height)) (keyed_children at is.0)
-        ∙ flat_same (keys_below W now height) (keys_below V was height) (V at).children
+        ∙ flat-same (keys_below W now height) (keys_below V was height) (V at).children
         (all_so (IsSubtree V owned list height) (λ c. keys_below W now height c ≡ keys_below V was height c) (V at).children (keyed_below height) is.2)
 
     pub keyed_lists : (level at : ℕ) → IsSubtree V owned list (suc level) at → map (keys_below W now level) (W at).children ≡ map (keys_below V was level) (V at).children

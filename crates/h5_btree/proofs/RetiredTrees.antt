@@ -8,6 +8,7 @@ use Rattle.h5_model.specs.Format.Rows.{Node, Reading, next_row, AreRows, leaves,
 use Rattle.h5_model.specs.Format.Nodes.{Kind, HasTree, node_at, reading_of}
 use Rattle.h5_model.proofs.RowLaws.{all_listed}
 use Rattle.h5_laws.specs.Ladders.{Sides, IsOrderly, Bottom, items_under, lists_below, all_of}
+use Rattle.h5_laws.proofs.Entries.{flat-same}
 use Rattle.h5_space.specs.Space.{Space}
 use Rattle.h5_btree.specs.Insertion.{Owns}
 use Rattle.h5_btree.specs.Keyed.{AtChild, at_children}
@@ -17,7 +18,7 @@ use Rattle.h5_btree.proofs.KeyedOwn.{keys_count}
 use Rattle.h5_btree.proofs.KeyedRetires.{IsRetired, tree_retires}
 use Rattle.h5_btree.proofs.KeyedTrees.{row_levels}
 use Rattle.h5_btree.proofs.RetiredKeys.{retired_all}
-use Rattle.h5_btree.proofs.RetiredNodes.{lists_named, flat_same, keyed_tree, map_same}
+use Rattle.h5_btree.proofs.RetiredNodes.{lists_named, keyed_tree, map_same}
 use Rattle.h5_btree.proofs.RetiredSteps.{all_two, node_unhit, retiring_keyed}
 use Rattle.h5_btree.proofs.TreeReadings.{owned_at}
 
@@ -125,7 +126,7 @@ module _ (s : Space) (kind : Kind) (root level : ℕ) (owned list : List ℕ) (h
     items_below zero c is = flat_all (Y c).children ∙ ap (λ (o : Node). flat_map keys o.children) (read c is.0)
     items_below (suc m) c is =
         ap (λ (o : Node). flat_map (items_under Y bottom m) o.children) (read c is.0)
-        ∙ flat_same (items_under Y bottom m) (keys_below V keys (suc m)) (V c).children
+        ∙ flat-same (items_under Y bottom m) (keys_below V keys (suc m)) (V c).children
         (all_so (IsSubtree V owned list (suc m)) (λ d. items_under Y bottom m d ≡ keys_below V keys (suc m) d) (V c).children (items_below m) is.2)
 
     lists_same : (h n : ℕ) → IsSubtree V owned list (suc h) n → lists_below Y bottom h (Y n) ≡ map (keys_below V keys h) (V n).children

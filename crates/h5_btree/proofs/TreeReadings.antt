@@ -5,6 +5,7 @@ use Rattle.std.specs.Prelude.{if◌then◌else◌}
 use Rattle.std.specs.List.{list_any, insert, AllByRecursion}
 use Rattle.h5_bytes.specs.Bytes.{undefined_address}
 use Rattle.h5_bytes.specs.Blocks.{Inside}
+use Rattle.h5_bytes.proofs.BlockLaws.{all_append}
 use Rattle.h5_model.specs.Format.Rows.{Node, Reading, blank, only, next_row, IsRow, AreRows, nodes}
 use Rattle.h5_model.specs.Format.Nodes.{Kind, IsNode, HasTree, entries_in, node_at, node_bytes, reading_of, tree_blocks}
 use Rattle.h5_model.proofs.RowLaws.{Agree, AreRows-same, nodes-same, leaves-same, at_listed, all_listed, equal_number}
@@ -156,14 +157,10 @@ levels_of_row : (V : Reading) (level left : ℕ) (row : List ℕ) → level < 16
 levels_of_row V level left [] low is = tt
 levels_of_row V level left (n ∷ row) low is = (omega (arith, is.0, low), levels_of_row V level n row low is.3)
 
-all_join : (P : ℕ → Type 0) (xs ys : List ℕ) → AllByRecursion P xs → AllByRecursion P ys → AllByRecursion P (xs ++ ys)
-all_join P [] ys a b = b
-all_join P (x ∷ xs) ys a b = (a.0, all_join P xs ys a.1 b)
-
 pub levels_of : (V : Reading) (level : ℕ) (row : List ℕ) → level < 16 → AreRows V level row → AllByRecursion (λ n. (V n).level < 16) (nodes V level row)
 levels_of V zero row low are = levels_of_row V 0 undefined_address row low are
 levels_of V (suc level) row low are =
-    all_join (λ n. (V n).level < 16) row (nodes V level (next_row V row)) (levels_of_row V (suc level) undefined_address row low are.0)
+    all_append (λ n. (V n).level < 16) row (nodes V level (next_row V row)) (levels_of_row V (suc level) undefined_address row low are.0)
     (levels_of V level (next_row V row) (omega (arith, low)) are.1)
 
 -- what holds of each owned node holds of those that stand in rows

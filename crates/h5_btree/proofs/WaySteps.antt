@@ -3,6 +3,7 @@ use Rattle.std.proofs.Common.{◌≡◌, ℕ, zero, suc, ◌+◌, ◌<◌, ◌�
 use Rattle.std.specs.List.{AllByRecursion, remove}
 use Rattle.h5_bytes.specs.Bytes.{undefined_address}
 use Rattle.h5_bytes.specs.declared.Block.{Block}
+use Rattle.h5_bytes.proofs.BlockLaws.{all_so}
 use Rattle.h5_model.specs.Format.Rows.{Node}
 use Rattle.h5_model.specs.Format.Nodes.{Kind, IsNode, entries_in, node_at, node_bytes, node_length, reading_of}
 use Rattle.h5_model.proofs.RowLaws.{at_listed}
@@ -24,15 +25,6 @@ pub all_more : {X : Type 0} (P : X → Type 0) (xs : List X) (i : ℕ) (d : X) �
 all_more P [] i d low all here = absurd (omega (arith, low))
 all_more P (x ∷ xs) zero d low all here = (here, tt)
 all_more P (x ∷ xs) (suc i) d low all here = (all.0, all_more P xs i d (omega (arith, low)) all.1 here)
-
-pub all_at : {X : Type 0} (P : X → Type 0) (xs : List X) (i : ℕ) (d : X) → i < length xs → AllByRecursion P xs → P (get_or xs i d)
-all_at P [] i d low all = absurd (omega (arith, low))
-all_at P (x ∷ xs) zero d low all = all.0
-all_at P (x ∷ xs) (suc i) d low all = all_at P xs i d (omega (arith, low)) all.1
-
-pub all_map : {X : Type 0} (P Q : X → Type 0) → ((x : X) → P x → Q x) → (xs : List X) → AllByRecursion P xs → AllByRecursion Q xs
-all_map P Q f [] all = tt
-all_map P Q f (x ∷ xs) all = (f x all.0, all_map P Q f xs all.1)
 
 -- ---- the steps of a way
 
@@ -80,8 +72,7 @@ module _ (s : Space) (kind : Kind) (root level : ℕ) (way : List Step) (owned l
       (first_owned, on_way 0 e.above e.step.node e.front e.back (let h = way_low in omega (arith, h)) e.leads)
 
   pub way_there : AllByRecursion (IsStep s kind) way
-  way_there = all_map (λ (step : Step). Listed owned step.node) (IsStep s kind)
-      (λ step is. (inside_of_apart s kind owned e.apart step.node is, at_listed (λ at. IsNode kind (node_bytes s.bytes kind at)) owned step.node e.tree.formed is)) way way_owned
+  way_there = all_so (λ (step : Step). Listed owned step.node) (IsStep s kind) way (λ step is. (inside_of_apart s kind owned e.apart step.node is, at_listed (λ at. IsNode kind (node_bytes s.bytes kind at)) owned step.node e.tree.formed is)) way_owned
 
   -- and the places are those of children
   place_in : (step : Step) → Listed owned step.node → step.place < length (reading_of s.bytes kind owned step.node).children → step.place < entries_in (node_bytes s.bytes kind step.node)

@@ -6,11 +6,13 @@ use Rattle.std.specs.List.{AllByRecursion}
 use Rattle.h5_bytes.specs.Bytes.{undefined_address}
 use Rattle.h5_bytes.specs.Blocks.{cover}
 use Rattle.h5_bytes.specs.declared.Block.{Block}
+use Rattle.h5_bytes.proofs.BlockLaws.{all_so}
 use Rattle.h5_model.specs.Format.Rows.{Node, Reading}
 use Rattle.h5_model.specs.Format.Nodes.{Kind, IsNode, node_at, node_block, node_bytes, node_of, reading_of}
 use Rattle.h5_space.specs.Space.{Space}
 use Rattle.h5_space.specs.Moves.{Moves}
 use Rattle.h5_space.proofs.MovesLaws.{moves_none, moves_then, spends_none, spends_then}
+use Rattle.h5_space.proofs.AddressLaws.{all_at}
 use Rattle.h5_btree.specs.Climb.{IsNoNode, IsWay}
 use Rattle.h5_btree.specs.Insertion.{Owns}
 use Rattle.h5_btree.specs.Removal.{EndsInTree}
@@ -23,7 +25,7 @@ use Rattle.h5_btree.proofs.RewriteSteps.{rewritten_then}
 use Rattle.h5_btree.proofs.SplitSteps.{written_others}
 use Rattle.h5_btree.proofs.TreeReadings.{Listed}
 use Rattle.h5_btree.proofs.ClimbSteps.{undefined_free}
-use Rattle.h5_btree.proofs.WaySteps.{all_at, all_map, way_low, way_owned}
+use Rattle.h5_btree.proofs.WaySteps.{way_low, way_owned}
 
 -- ---- the ends
 
@@ -90,15 +92,13 @@ module _ (s : Space) (kind : Kind) (root level : ℕ) (way : List Step) (owned l
   -- one node on the way is written
   module _ (t : Space) (i : ℕ) (d : Step) (low : i < length way) (node : Node) (r : IsRewritten s t kind (get_or way i d).node node) where
     written_listed : Listed owned (get_or way i d).node
-    written_listed = all_at (λ (step : Step). Listed owned step.node) way i d low (way_owned s kind root level way owned list k e)
+    written_listed = all_at (λ (step : Step). Listed owned step.node) way i d (way_owned s kind root level way owned list k e) low
 
     pub written_other : (n : ℕ) → Owns owned n → n ≢ (get_or way i d).node → node_at t.bytes kind n ≡ node_at s.bytes kind n
     written_other n listed other = ap (node_of kind) (written_others s t kind owned (get_or way i d).node node e.apart written_listed r n listed other)
 
     pub written_along : AllByRecursion (λ (step : Step). step.node ≢ (get_or way i d).node → node_at t.bytes kind step.node ≡ node_at s.bytes kind step.node) way
-    written_along = all_map (λ (step : Step). Listed owned step.node)
-        (λ (step : Step). step.node ≢ (get_or way i d).node → node_at t.bytes kind step.node ≡ node_at s.bytes kind step.node)
-        (λ step listed other. written_other step.node listed other) way (way_owned s kind root level way owned list k e)
+    written_along = all_so (λ (step : Step). Listed owned step.node) (λ (step : Step). step.node ≢ (get_or way i d).node → node_at t.bytes kind step.node ≡ node_at s.bytes kind step.node) way (λ step listed other. written_other step.node listed other) (way_owned s kind root level way owned list k e)
 
 -- ---- keys along a way
 
@@ -130,7 +130,7 @@ module _ (old now new : List ℕ) (kind : Kind) (low high : List ℕ) where
   )
   widened_more (step ∷ way) (end ∷ ends) (suc i) d none on within different others here is =
       let here_on : i < length way = omega (arith, on) in
-      let other = all_at (λ (other : Step). other.node ≢ step.node) way i d here_on different.0 in (
+      let other = all_at (λ (other : Step). other.node ≢ step.node) way i d different.0 here_on in (
         others.0 (λ same. other (sym same)) ∙ is.0,
         widened_more way ends i d none here_on (omega (arith, within)) different.1 others.1 here is.1,
       )

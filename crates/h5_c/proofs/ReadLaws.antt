@@ -1,8 +1,6 @@
 -- What a read answers: how many bytes the selected cells have, and which rule refuses it.
-use Rattle.std.proofs.Common.{◌≡◌, ℕ, ◌*◌, ◌-◌, ◌^◌, ◌≤◌, min, Bool, false, not, List, [], ◌∷◌, length, Option, refl, sym, ap, ◌∙◌, arith, inl, inr}
+use Rattle.std.proofs.Common.{◌≡◌, ℕ, ◌*◌, ◌-◌, ◌^◌, ◌≤◌, min, List, length, Option, refl, sym, ap, ◌∙◌, arith, inl, inr}
 use Rattle.std.proofs.lemmas.List.{length-map}
-use Rattle.std.specs.List.{list_any}
-use Rattle.std.specs.Option.{option_map_or}
 use Rattle.h5_file.specs.Selected.{IsSlabOf}
 use Rattle.h5_model.proofs.PlainValues.{length-cells_bytes}
 use Rattle.h5_file.specs.DatasetAt.{IsDatasetAt}
@@ -13,12 +11,11 @@ use Rattle.h5_model.specs.Scripts.Reading.{dataset_rules, selection_rules}
 use Rattle.h5_model.specs.Tree.Objects.{Dataset, Tree}
 use Rattle.h5_model.specs.Tree.Paths.{dataset_at}
 use Rattle.h5_model.specs.Tree.Places.{cells}
-use Rattle.h5_model.specs.Views.Selection.{Slab, axes_of, has_no_stride, has_rank, is_within, overlaps, selected_cells}
+use Rattle.h5_model.specs.Views.Selection.{Slab, axes_of, selected_cells}
 use Rattle.h5_model.specs.Views.Shown.{selected_values}
-use Rattle.h5_model.specs.declared.edit_fault.EditFault.{EditFault}
-use Rattle.h5_model.specs.declared.edit_fault.EditFault.TheVariants as fault
 use Rattle.h5_model.specs.declared.hyperslab.Hyper.{Hyper}
 use Rattle.h5_query.proofs.RuleLaws.{first-behind}
+use Rattle.h5_query.proofs.SelectionLaws.{asked_of}
 use Rattle.h5_c.specs.Read.{HasRead, HasReadOf, IsCopiedFrom}
 
 module _ (d : Dataset) (slab : Slab) (n size : ℕ) (of : IsSlabOf d.sizes slab) (low : cells d.sizes ≤ 2 ^ 40) (count : n ≡ min (selected_cells slab) (2 ^ 64 - 1)) (width : size ≡ (d.fixed).size) where
@@ -34,20 +31,11 @@ module _ (d : Dataset) (slab : Slab) (n size : ℕ) (of : IsSlabOf d.sizes slab)
 -- ---- the rules of a selection behind those of the path
 
 module _ (tree : Tree) (path : List ℕ) (hyper : Hyper) (old new : List ℕ) (status : ℕ) where
-  -- those of the lists, of what was found there
-  abbrev asked_of : Option Dataset → List (EditFault × Bool)
-  asked_of found =
-      (fault.RankMismatch, option_map_or (λ (d : Dataset). not (has_rank (length d.sizes) hyper)) found false)
-      ∷ (fault.StrideZero, list_any has_no_stride (axes_of hyper))
-      ∷ (fault.BlocksOverlap, list_any overlaps (axes_of hyper))
-      ∷ (fault.OutOfExtent, option_map_or (λ (d : Dataset). not (is_within d.sizes (axes_of hyper))) found false)
-      ∷ []
-
   -- of the array that stands there
   pub read_there : (d : Dataset) → IsDatasetAt tree path d → HasReadOf d hyper old new status → HasRead tree path hyper old new status
   read_there d there = by_answer where
     same : first_holding (selection_rules tree path hyper) ≡ first_holding (hyper_rules d.sizes hyper)
-    same = first-behind (dataset_rules tree path) (asked_of (dataset_at tree path)) there.accepted ∙ ap (λ (found : Option Dataset). first_holding (asked_of found)) there.stands
+    same = first-behind (dataset_rules tree path) (asked_of tree path hyper (dataset_at tree path)) there.accepted ∙ ap (λ (found : Option Dataset). first_holding (asked_of tree path hyper found)) there.stands
 
     by_answer : HasReadOf d hyper old new status → HasRead tree path hyper old new status
     by_answer (inl read) = inl ((d, axes_of hyper), record { accepted = same ∙ read.0.accepted; found = there.stands; axes = refl; slab = read.0.slab }, read.1)

@@ -11,6 +11,7 @@ use Rattle.std.proofs.lemmas.List.{length-map}
 use Rattle.std.proofs.lemmas.List.FromFn.{map-range_with_len_more, take-map-range_with_len}
 use Rattle.std.proofs.lemmas.Option.{get_or_from_slice_get}
 use Rattle.std.proofs.lemmas.Slice.Zip.{length-zip}
+use Rattle.std.proofs.Math.Seq.{take-append_seam}
 use Rattle.h5_bytes.specs.Bytes.{number_at}
 use Rattle.h5_bytes.specs.Blocks.{Inside, block}
 use Rattle.h5_bytes.specs.declared.Block.{Block}
@@ -42,10 +43,6 @@ use Rattle.h5_chunks.proofs.KeysRise.{keys_rise}
 use Rattle.h5_chunks.proofs.NodeKeys.{one_more_key}
 use Rattle.h5_chunks.proofs.Readable.{stored_tree}
 use Rattle.h5_chunks.proofs.Stored.{bottom_same, chunks_same}
-
-take_front : (xs ys : List ℕ) → take (length xs) (xs ++ ys) ≡ xs
-take_front [] ys = refl
-take_front (x ∷ xs) ys = ap (λ (zs : List ℕ). x ∷ zs) (take_front xs ys)
 
 none_below : (V : Reading) (level at : ℕ) → (V at).children ≡ [] → leaves V level (at ∷ []) ≡ []
 none_below V zero at none = rw none refl
@@ -82,7 +79,7 @@ module _ (rank : ℕ) (key offsets : List ℕ) (same : length offsets ≡ rank) 
       let f = λ (d : ℕ). number_at key (8 + 8 * d) 8 in
       let all : all_offsets_in rank key ≡ offsets ++ 0 ∷ [] = slice_cmp-IsAntisymmetric nat_cmp-IsAntisymmetric (all_offsets_in rank key) (offsets ++ 0 ∷ []) is in
       sym (take-map-range_with_len f 0 (rank + 1) rank (omega arith)) ∙ ap (take rank) all
-      ∙ ap (λ (n : ℕ). take n (offsets ++ 0 ∷ [])) (sym same) ∙ take_front offsets (0 ∷ [])
+      ∙ ap (λ (n : ℕ). take n (offsets ++ 0 ∷ [])) (sym same) ∙ take-append_seam offsets (0 ∷ [])
 
   whole : offsets_in rank key ≡ offsets → number_at key (8 + 8 * rank) 8 ≡ 0 → key_is_chunk
   whole offsets_are element =

@@ -18,7 +18,7 @@ use Rattle.h5_btree.specs.Removal.{EndsInTree}
 use Rattle.h5_btree.specs.declared.way.Step.{Step}
 use Rattle.h5_btree.proofs.TreeReadings.{Listed}
 use Rattle.h5_btree.proofs.WayInTree.{way_in_tree}
-use Rattle.h5_btree.proofs.WaySteps.{all_map, way_owned}
+use Rattle.h5_btree.proofs.WaySteps.{way_owned}
 use Rattle.h5_btree.proofs.WaysDown.{way_long}
 use Rattle.h5_chunks.specs.Edited.{IsFullAt}
 use Rattle.h5_chunks.specs.Read.{AreChunksRead}
@@ -84,8 +84,7 @@ module _ (s : Space) (shape : Shape) (root : ℕ) (read : AreChunksRead s.bytes 
       steps_rise =
           let rises = all_so (λ at. IsOrderedBy (rising_chunk_sides rank) V (chunk_lists rank) (V at)) (λ at. IsRisingNode rank (V at)) owned (λ at o. o.rising)
           (each_rises s.bytes shape root read) in
-          all_map (λ (step : Step). Listed owned step.node) (IsRisingStep rank V offsets) (λ step at. at_listed (λ n. IsRisingNode rank (V n)) owned step.node rises at) way
-          (way_owned s kind root level way owned (values (chunks_told s.bytes shape root)) own_ends.0 own_ends.1)
+          all_so (λ (step : Step). Listed owned step.node) (IsRisingStep rank V offsets) way (λ step at. at_listed (λ n. IsRisingNode rank (V n)) owned step.node rises at) (way_owned s kind root level way owned (values (chunks_told s.bytes shape root)) own_ends.0 own_ends.1)
 
       -- there is no other way
       pub of_full : IsFullAt s.bytes shape root offsets → IsFullWay s.bytes (shape_kind s.bytes shape) way

@@ -15,8 +15,8 @@ use Rattle.h5_model.specs.Format.Links.{Before}
 use Rattle.h5_model.specs.Format.Nodes.{HasTree}
 use Rattle.h5_model.specs.Format.Reached.{Shape, shape_kind}
 use Rattle.h5_model.specs.Format.Superblock.{chunk_k}
+use Rattle.h5_model.proofs.TextOrder.{is_less}
 use Rattle.h5_laws.specs.KeyEdits.{IsPut}
-use Rattle.h5_laws.proofs.Ascending.{less_of}
 use Rattle.h5_btree.specs.Walk.Forms.{OfChunks}
 use Rattle.h5_btree.specs.Walk.Trees.{nodes_blocks}
 use Rattle.h5_chunks.specs.Order.{AreChunksOrdered}
@@ -55,7 +55,7 @@ abbrev pub IsChunkBefore : List ℕ × ℕ → List ℕ × ℕ → Type 0
 IsChunkBefore y z = Before (y.0 ++ 0 ∷ []) (z.0 ++ 0 ∷ [])
 
 before_less : (y z : List ℕ × ℕ) → IsChunkBefore y z → slice_cmp nat_cmp y.0 z.0 ≡ Less
-before_less y z is = sym (numbers_order y.0 z.0) ∙ less_of (slice_cmp nat_cmp (y.0 ++ 0 ∷ []) (z.0 ++ 0 ∷ [])) is
+before_less y z is = sym (numbers_order y.0 z.0) ∙ is_less (slice_cmp nat_cmp (y.0 ++ 0 ∷ []) (z.0 ++ 0 ∷ [])) is
 
 -- ---- at its place
 

@@ -18,10 +18,6 @@ pub keeps_same : (bytes : List ℕ) (bs : List Block) → Keeps bytes bytes bs
 keeps_same bytes [] = tt
 keeps_same bytes (b ∷ bs) = (refl, keeps_same bytes bs)
 
-pub keeps_after : (old mid new : List ℕ) (bs : List Block) → Keeps old mid bs → Keeps mid new bs → Keeps old new bs
-keeps_after old mid new [] first second = tt
-keeps_after old mid new (b ∷ bs) first second = (second.0 ∙ first.0, keeps_after old mid new bs first.1 second.1)
-
 -- the blocks of chunks
 abbrev pub blocks_of_chunks : Shape → Chunks → List Block
 blocks_of_chunks shape chunks = map (λ at. block at shape.bytes) (values chunks)

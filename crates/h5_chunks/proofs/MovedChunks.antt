@@ -5,13 +5,14 @@ use Rattle.h5_bytes.specs.Blocks.{Keeps}
 use Rattle.h5_model.specs.Format.Chunks.{Chunks}
 use Rattle.h5_model.specs.Format.Reached.{Shape}
 use Rattle.h5_model.specs.Tree.Places.{is_inside}
+use Rattle.h5_model.proofs.Frames.{keeps_then}
 use Rattle.h5_space.specs.Moves.{Spends}
 use Rattle.h5_space.specs.Space.{Space}
 use Rattle.h5_space.proofs.MovesLaws.{moves_none, moves_then, spends_none, spends_then}
 use Rattle.h5_chunks.specs.Edited.{AreChunksApart, HasChunksNow}
 use Rattle.h5_chunks.specs.Lists.{offsets_outside}
 use Rattle.h5_chunks.specs.Told.{chunk_blocks_told, chunks_told}
-use Rattle.h5_chunks.proofs.KeptChunks.{blocks_of_chunks, keeps_after, keeps_same, less_kept}
+use Rattle.h5_chunks.proofs.KeptChunks.{blocks_of_chunks, keeps_same, less_kept}
 use Rattle.h5_chunks.proofs.OutsideLaws.{last_outside, none_outside}
 
 module _ (shape : Shape) (root : ℕ) where
@@ -57,7 +58,7 @@ module _ (shape : Shape) (root : ℕ) where
           spent = spends_then old now next 0 0 calls 16 taken.spent spent;
           kept = subst (λ (c : Chunks). Keeps old.bytes next.bytes (blocks_of_chunks shape c)) (sym step.told)
               (less_kept (chunks_told now.bytes shape root) shape old.bytes next.bytes offsets
-              (keeps_after old.bytes now.bytes next.bytes (blocks_of_chunks shape (chunks_told now.bytes shape root)) taken.kept kept));
+              (keeps_then old.bytes now.bytes next.bytes (blocks_of_chunks shape (chunks_told now.bytes shape root)) taken.kept kept));
         }
 
     pub all_taken : (old now : Space) (calls : ℕ) → AreTakenOut old now [] calls

@@ -30,7 +30,7 @@ same_of : (q x : List ℕ) → is_same q x ≡ true → q ≡ x
 same_of q x tied = order_same q x ((Equal-is (slice_cmp nat_cmp q x)).0 tied)
 
 -- a test answers alike at keys that tie
-alike : (test : List ℕ → Bool) (q x : List ℕ) → slice_cmp nat_cmp q x ≡ Equal → test x ≡ test q
+pub alike : (test : List ℕ → Bool) (q x : List ℕ) → slice_cmp nat_cmp q x ≡ Equal → test x ≡ test q
 alike test q x tied = ap test (sym (order_same q x tied))
 
 pub get_kept : (m : Chunks) (test : List ℕ → Bool) (q : List ℕ) → get (retain_keys m test) q ≡ cond (test q) (get m q) None

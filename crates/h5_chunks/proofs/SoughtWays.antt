@@ -3,7 +3,7 @@ use Rattle.std.proofs.Common.{◌≡◌, ℕ, zero, suc, ◌+◌, ◌<◌, ◌�
 use Rattle.std.specs.Cmp.Lexicographic.{slice_cmp}
 use Rattle.std.specs.List.{AllByRecursion}
 use Rattle.std.specs.Ordering.{is_le, nat_cmp}
-use Rattle.h5_bytes.proofs.BlockLaws.{all_left, all_right}
+use Rattle.h5_bytes.proofs.BlockLaws.{all_left, all_right, all_so}
 use Rattle.h5_model.specs.Format.Chunks.{all_offsets_in}
 use Rattle.h5_model.specs.Format.Links.{NotAfter}
 use Rattle.h5_model.specs.Format.Nodes.{entries_in, node_at, node_bytes}
@@ -19,7 +19,7 @@ use Rattle.h5_btree.specs.Walk.Forms.{OfChunks}
 use Rattle.h5_btree.specs.Walk.Stands.{IsNodeAt}
 use Rattle.h5_btree.specs.declared.way.Step.{Step}
 use Rattle.h5_btree.proofs.NodeLaws.{length-children}
-use Rattle.h5_btree.proofs.WaySteps.{IsStep, all_map, way_places, way_there}
+use Rattle.h5_btree.proofs.WaySteps.{IsStep, way_places, way_there}
 use Rattle.h5_btree.proofs.WaysDown.{FallsAt, one_way}
 use Rattle.h5_chunks.specs.Way.{chunk_behind}
 
@@ -100,4 +100,4 @@ module _ (rank : ℕ) where
     pub chunk_way : (level at : ℕ) (way way' : List Step) → IsWayTo V (behind_at rank offsets) level at way → IsWayTo V (behind_at rank offsets) level at way'
         → AllByRecursion IsRisingStep way → way ≡ way'
     chunk_way level at way way' to to' all =
-        one_way (behind_at rank offsets) V level at way way' to to' (all_map IsRisingStep (FallsAt (behind_at rank offsets) V) falls way all)
+        one_way (behind_at rank offsets) V level at way way' to to' (all_so IsRisingStep (FallsAt (behind_at rank offsets) V) way falls all)

@@ -4,16 +4,16 @@ use Rattle.std.specs.FinMap.{values}
 use Rattle.std.specs.List.{AllByRecursion}
 use Rattle.std.proofs.lemmas.List.{length-replicate, places, same_lists}
 use Rattle.h5_bytes.specs.Bytes.{part}
-use Rattle.h5_bytes.specs.Blocks.{block, Inside, IsKept, Keeps}
+use Rattle.h5_bytes.specs.Blocks.{block, IsKept, Keeps}
 use Rattle.h5_bytes.specs.declared.Block.{Block}
-use Rattle.h5_bytes.proofs.BlockLaws.{all_left, all_right}
+use Rattle.h5_bytes.proofs.BlockLaws.{all_left, all_right, all_so}
 use Rattle.h5_model.specs.Format.Nodes.{HasTree, Kind, node_at, tree_blocks}
 use Rattle.h5_model.specs.Format.Chunks.{Chunks}
 use Rattle.h5_model.specs.Format.Reached.{Shape, shape_kind}
 use Rattle.h5_model.specs.Format.Rows.{Node, Reading}
 use Rattle.h5_model.specs.Format.Superblock.{chunk_k, k_values}
 use Rattle.h5_model.proofs.KLaws.{same_chunk, same_length}
-use Rattle.h5_model.proofs.Frames.{reading-same, tree-same}
+use Rattle.h5_model.proofs.Frames.{reading-same, tree-same, keeps_then, inside_longer}
 use Rattle.h5_model.proofs.OneTree.{level_is, one_owned}
 use Rattle.h5_space.specs.Moves.{Moves}
 use Rattle.h5_space.specs.Space.{Space}
@@ -23,7 +23,7 @@ use Rattle.h5_btree.specs.Descent.{IsWayTo}
 use Rattle.h5_btree.specs.Insertion.{IsFullWay}
 use Rattle.h5_btree.specs.declared.way.Step.{Step}
 use Rattle.h5_btree.proofs.TreeReadings.{Listed, owned_at}
-use Rattle.h5_btree.proofs.WaySteps.{all_map, way_owned}
+use Rattle.h5_btree.proofs.WaySteps.{way_owned}
 use Rattle.h5_chunks.specs.Edited.{AreChunksApart, HasChunksNow, IsFullAt}
 use Rattle.std.specs.FinMap.{insert as with_chunk}
 use Rattle.h5_chunks.specs.Put.{HasChunkPut, IsBlockBeside}
@@ -34,12 +34,7 @@ use Rattle.h5_chunks.proofs.ChunkFound.{stored_there}
 use Rattle.h5_chunks.proofs.SoughtWays.{way_moved}
 use Rattle.h5_chunks.proofs.FullWays.{own_ends}
 use Rattle.h5_chunks.proofs.ToldLaws.{chunk_blocks_told-same, chunks_read-same, chunks_told-same}
-use Rattle.h5_chunks.proofs.KeptChunks.{keeps_after}
 use Rattle.h5_chunks.proofs.SuperblockStays.{k_stays, kind_stays, superblock_of}
-
-inside_longer : (m n : ℕ) (bs : List Block) → m ≤ n → Inside m bs → Inside n bs
-inside_longer m n [] more inside = tt
-inside_longer m n (b ∷ bs) more inside = (omega (arith, more, inside.0), inside_longer m n bs more inside.1)
 
 -- bytes behind an old end are zero
 pub zero_behind : (at len n : ℕ) (bytes : List ℕ) → length bytes ≤ at → at + len ≤ length bytes + n → part at len (bytes ++ replicate n 0) ≡ replicate len 0
@@ -72,7 +67,7 @@ module _ (s u : Space) (shape : Shape) (root new : ℕ) (stand : AreChunksApart 
   blocks_still = chunk_blocks_told-same s.bytes u.bytes shape root stand.read same_k kept
 
   read_still : AreChunksRead u.bytes shape root
-  read_still = chunks_read-same s.bytes u.bytes shape root stand.read same_k kept (inside_longer (length s.bytes) (length u.bytes) blocks taken.grown (stand.read).inside)
+  read_still = chunks_read-same s.bytes u.bytes shape root stand.read same_k kept (inside_longer (length s.bytes) (length u.bytes) taken.grown blocks (stand.read).inside)
 
   -- the block stands beside the chunks
   pub beside_now : IsBlockBeside u shape root new
@@ -132,8 +127,7 @@ module _ (s u : Space) (shape : Shape) (root new : ℕ) (stand : AreChunksApart 
         = subst (λ (ns : List ℕ). AllByRecursion (λ (step : Step). Listed ns step.node) f.way) one
         (way_owned u kind_u root (read_still.stored).level f.way (read_still.stored).owned (values (chunks_told u.bytes shape root)) ends.0 ends.1) in
         let steps : AllByRecursion IsSame f.way
-        = all_map (λ (step : Step). Listed owned step.node) IsSame
-        (λ step at. subst (λ (k : Kind). node_at s.bytes kind step.node ≡ node_at u.bytes k step.node) (sym same_kind) (sym (node_still step.node at))) f.way listed in
+        = all_so (λ (step : Step). Listed owned step.node) IsSame f.way (λ step at. subst (λ (k : Kind). node_at s.bytes kind step.node ≡ node_at u.bytes k step.node) (sym same_kind) (sym (node_still step.node at))) listed in
         record {
           way = f.way;
           high = level_is s.bytes kind root level owned list (stored_there s.bytes shape root stand.read) ∙ sym (level_is u.bytes kind_u root level owned list tree_own) ∙ f.high;
@@ -163,7 +157,7 @@ module _ (s u : Space) (shape : Shape) (root new : ℕ) (stand : AreChunksApart 
       let first = all_right (IsKept s.bytes u.bytes) (tree_blocks kind owned) (map (λ (at : ℕ). block at shape.bytes) list)
       (subst (Keeps s.bytes u.bytes) (stand.read.stored).laid kept) in
       let second = subst (λ (chunks : Chunks). Keeps u.bytes t.bytes (map (λ (at : ℕ). block at shape.bytes) (values chunks))) told_still put.kept.1 in
-      keeps_after s.bytes u.bytes t.bytes (map (λ (at : ℕ). block at shape.bytes) list) first second
+      keeps_then s.bytes u.bytes t.bytes (map (λ (at : ℕ). block at shape.bytes) list) first second
 
   -- and so do its own: behind the old end they are zero
   pub zero_still : (n : ℕ) → u.bytes ≡ s.bytes ++ replicate n 0 → new + shape.bytes ≤ length u.bytes → length s.bytes ≤ new

@@ -10,7 +10,7 @@ use Rattle.std.specs.FinMap.Entries.{below_all, is_sorted-where_key, where_key}
 use Rattle.std.proofs.lemmas.Cmp.{tied_itself}
 use Rattle.h5_model.proofs.MapSteps.{remove_by_name}
 use Rattle.h5_model.proofs.ReachLaws.{halves}
-use Rattle.h5_laws.proofs.Ascending.{less_of}
+use Rattle.h5_model.proofs.TextOrder.{is_less}
 use Rattle.h5_laws.proofs.Maps.{true_of}
 use Rattle.h5_laws.specs.KeyEdits.{IsTaken}
 
@@ -22,7 +22,7 @@ abbrev is_other : List ℕ → List ℕ → Bool
 is_other offsets of = not (eq_by_cmp by_offsets offsets of)
 
 less : (a b : List ℕ) → T (is_lt (by_offsets a b)) → by_offsets a b ≡ Less
-less a b is = less_of (by_offsets a b) (true_of (is_lt (by_offsets a b)) is)
+less a b is = is_less (by_offsets a b) (true_of (is_lt (by_offsets a b)) is)
 
 -- those behind it stay
 behind_stay : (offsets : List ℕ) (es : List (List ℕ × ℕ)) → T (below_all by_offsets offsets es) → where_key by_offsets (is_other offsets) es ≡ es

@@ -9,6 +9,7 @@ use Rattle.h5_model.specs.Format.Reached.{Shape}
 use Rattle.h5_model.specs.Format.Rows.{Node, Reading}
 use Rattle.h5_laws.specs.ChunkLadders.{rising_chunk_sides}
 use Rattle.h5_laws.proofs.ChunkLadders.{chunk_order}
+use Rattle.h5_laws.proofs.KeyInserts.{all_from_both}
 use Rattle.h5_space.specs.Moves.{Moves}
 use Rattle.h5_space.specs.Space.{Space}
 use Rattle.h5_btree.specs.Insertion.{IsFullWay, KeepsEntries, Owns}
@@ -25,10 +26,6 @@ use Rattle.h5_btree.proofs.WaysDown.{IsChosen}
 use Rattle.h5_chunks.proofs.SoughtWays.{behind_at}
 use Rattle.h5_chunks.proofs.KeyedTold.{IsKeyedChunk, IsOrderedTree, chunk_of, keyed_at}
 use Rattle.h5_chunks.proofs.WidenedNode.{gives_way, high_now, keys_now, left_there, low_now, low_there, right_there}
-
-all_both : {X : Type 0} (P Q R : X → Type 0) (xs : List X) → ((x : X) → P x → Q x → R x) → AllByRecursion P xs → AllByRecursion Q xs → AllByRecursion R xs
-all_both P Q R [] both ps qs = tt
-all_both P Q R (x ∷ xs) both ps qs = (both x ps.0 qs.0, all_both P Q R xs both ps.1 qs.1)
 
 -- with more blocks that are used before and after
 pub moves_wider : (s t : Space) (kind : Kind) (owned : List ℕ) (way : List Step) → AllByRecursion (λ (step : Step). Listed owned step.node) way
@@ -152,7 +149,7 @@ module _ (kind : Kind) (some : 1 ≤ kind.k) (s t : Space) (shape : Shape) (offs
 
   pub admits : AllByRecursion (λ (step : Step). NotAfter (all_offsets_in (length shape.sizes) (get_or (node_at t.bytes kind step.node).keys step.place [])) (offsets ++ 0 ∷ [])
       × Before (offsets ++ 0 ∷ []) (all_offsets_in (length shape.sizes) (get_or (node_at t.bytes kind step.node).keys (suc step.place) []))) e.above
-  admits = all_both (IsWide V t.bytes kind rank offsets low high) (IsChosen V (behind_at rank offsets)) Admits e.above admit above_wide choices.1
+  admits = all_from_both (IsWide V t.bytes kind rank offsets low high) (IsChosen V (behind_at rank offsets)) Admits e.above admit above_wide choices.1
 
   -- ---- the tree
 
@@ -160,7 +157,7 @@ module _ (kind : Kind) (some : 1 ≤ kind.k) (s t : Space) (shape : Shape) (offs
       × (items_of_tree (chunk_of rank) t.bytes kind keyed_at level root ≡ items_of_tree (chunk_of rank) s.bytes kind keyed_at level root)
   unfolding first_eased
   both = eased_sorted (rising_chunk_sides rank) (chunk_order rank) (chunk_of rank) (IsKeyedChunk shape) (offsets, 0) s t kind root level way owned list k e some keeps keyed_at
-      first_eased (all_both (IsWide V t.bytes kind rank offsets low high) (IsChosen V (behind_at rank offsets)) Eased e.above eases above_wide choices.1) refl
+      first_eased (all_from_both (IsWide V t.bytes kind rank offsets low high) (IsChosen V (behind_at rank offsets)) Eased e.above eases above_wide choices.1) refl
 
   -- ITS KEYS ARE IN ORDER STILL, and all chunks stay
   pub ordered_now : IsOrderedTree kind s.bytes shape root level owned list e.tree → IsOrderedTree kind t.bytes shape root level owned list ends_now.tree
@@ -183,5 +180,5 @@ module _ (kind : Kind) (some : 1 ≤ kind.k) (s t : Space) (shape : Shape) (offs
       let all = subst (AllByRecursion (IsFull W)) e.way_is full in
       subst (AllByRecursion (IsFull V)) (sym e.way_is) (
         ap (λ (ns : List ℕ). length ns) (sym first_children) ∙ all.0,
-        all_both (IsWide V t.bytes kind rank offsets low high) (IsFull W) (IsFull V) e.above (λ step is there. sym (ap (λ (o : Node). length o.children) is) ∙ there) above_wide all.1,
+        all_from_both (IsWide V t.bytes kind rank offsets low high) (IsFull W) (IsFull V) e.above (λ step is there. sym (ap (λ (o : Node). length o.children) is) ∙ there) above_wide all.1,
       )

@@ -4,6 +4,7 @@ use Rattle.std.specs.FinMap.{entries, retain_keys}
 use Rattle.std.specs.List.{AllByRecursion, filter}
 use Rattle.h5_bytes.specs.Bytes.{number_at}
 use Rattle.h5_model.specs.Format.Chunks.{Chunks}
+use Rattle.h5_model.specs.Format.Limits.{most_dimensions}
 use Rattle.h5_model.specs.Tree.Places.{is_inside}
 
 -- chunks of one tree: of how many dimensions and bytes each is, and their offsets
@@ -33,7 +34,7 @@ pub record IsKeyOf (rank bytes : ℕ) (key : List ℕ) : Type 0 where
 
 -- These bytes are keys of chunks of so many dimensions and bytes, one behind another, and nothing else.
 pub record AreKeysOf (rank bytes : ℕ) (keys : List ℕ) : Type 0 where
-  pub few : rank ≤ 32
+  pub few : rank ≤ most_dimensions
   pub whole : length keys % key_length rank ≡ 0
   pub each : AllByRecursion (IsKeyOf rank bytes) (keys_in rank keys)
 

@@ -22,7 +22,7 @@ pub mod WriteSteps
 pub mod FoundStanding
 pub mod StandingRuns
 pub mod MissingRuns
-pub mod SelectedRuns
+pub mod RunsReady
 pub mod OpenedAnew
 pub mod AttributeFacts
 pub mod ExtentFacts

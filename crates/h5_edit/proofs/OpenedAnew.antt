@@ -4,7 +4,7 @@ use Rattle.std.proofs.lemmas.Option.{slice_get_within}
 use Rattle.std.specs.FinMap.{get, len}
 use Rattle.h5_bytes.specs.Blocks.{cover, holds}
 use Rattle.h5_model.specs.Format.Reads.{Reads, ReadsAs, all_blocks}
-use Rattle.h5_model.specs.Format.Superblock.{IsSuperblock, end_of_file, k_values}
+use Rattle.h5_model.specs.Format.Superblock.{k_values}
 use Rattle.h5_model.specs.Tree.Objects.{Tree, Object}
 use Rattle.h5_laws.proofs.Objects.{in_table}
 use Rattle.h5_laws.proofs.SoundLaws.Read.{placed_at}
@@ -18,13 +18,6 @@ use Rattle.h5_query.proofs.RenumberedLaws.SameHeaders.{given_header}
 use Rattle.h5_edit.specs.Made.{HoldsAnew, IsAnew}
 
 module _ (f : FileState) (tree : Tree) (next : ℕ) (image : List ℕ) (hs : List (Option ℕ)) (is : IsAnew f tree next image hs) where
-  -- the image can be opened
-  pub anew_superblock : IsSuperblock image
-  anew_superblock = is.reads.reads.holds.superblock
-
-  pub anew_end : end_of_file image ≡ length image
-  anew_end = is.reads.reads.holds.whole
-
   pub anew_reads : Reads image (table_with hs) tree
   anew_reads = (is.reads.placed, is.reads.reads)
 

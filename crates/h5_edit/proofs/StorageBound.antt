@@ -33,26 +33,25 @@ use Rattle.h5_model.specs.declared.hyperslab.Hyper.{Hyper}
 use Rattle.h5_model.proofs.PlaceLaws.{index-place}
 use Rattle.h5_query.specs.Data.{dataset_told, stored_chunks}
 use Rattle.h5_model.proofs.Members.{contains_in, in_contains}
+use Rattle.h5_model.proofs.RowLaws.{equal_number}
+use Rattle.h5_laws.proofs.SoundLaws.NewPaths.{none_any}
 use Rattle.h5_layout.specs.Storage.{IsDeepFor, IsDeepIn, IsFullInNewTree, IsFullInTurn, chunks_room_in, storage_bytes}
 use Rattle.h5_layout.specs.Lacking.{IsMissing, IsMissingIn}
 use Rattle.h5_layout.specs.Lacking.{lacks_cells}
 use Rattle.h5_layout.specs.declared.lacking.Missing.{Missing}
 use Rattle.h5_layout.specs.declared.lacking.Missing.TheVariants as missing
 use Rattle.h5_layout.proofs.ChosenPlaces.{selected_place}
-use Rattle.h5_layout.proofs.LackingLaws.{lacking_some, none_passes}
+use Rattle.h5_layout.proofs.LackingLaws.{lacking_some}
 use Rattle.h5_edit.proofs.WriteBound.{new_counted}
 use Rattle.h5_edit.proofs.WrittenTrees.{some_of, storage_kept}
 
 -- ---- what messages say of chunks
 
-same_by : (x y : ℕ) → (x == y) ≡ true → x ≡ y
-same_by x y is = grind (arith, nat_tests)
-
 module _ (ms : List Message) (a : Described) (has : HasArray ms a) (chunk : List ℕ) (root : Option ℕ) (is : a.layout ≡ InChunks chunk root) where
   ranked : length chunk ≡ length a.sizes
   ranked =
       let room = (is_array ms a has).room in
-      same_by (length chunk) (length a.sizes) (rw is at room)
+      equal_number (length chunk) (length a.sizes) (rw is at room)
 
   some_cells : 0 < cells chunk
   some_cells =
@@ -133,7 +132,7 @@ module _ (image : List ℕ) (ms : List Message) (a : Described) (has : HasArray 
           unmet first (index, selected, corner) unstored =
               let place = place_of a.sizes index in
               let same : index_of a.sizes place ≡ index = index-place a.sizes index (within index selected) in
-              let passes = none_passes (λ p. not (is_some (get chunks (corner_of chunk (index_of a.sizes p))))) place (selection_of a.sizes slab)
+              let passes = none_any (λ p. not (is_some (get chunks (corner_of chunk (index_of a.sizes p))))) (selection_of a.sizes slab) place
               (sym (lacks_by (InChunks chunk root) is) ∙ none) (selected_place a.sizes slab index (within index selected) selected) in
               let here : not (room.is_stored first) ≡ false = ap (λ (o : List ℕ). not (room.is_stored o)) (sym (ap (corner_of chunk) same ∙ corner)) ∙ passes in
               let never : true ≡ false = sym (ap not unstored) ∙ here in

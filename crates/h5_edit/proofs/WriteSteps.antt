@@ -1,5 +1,5 @@
 -- A write of an opened image that no rule refuses, step by step: what is asked of each, and what it makes.
-use Rattle.std.proofs.Common.{◌≡◌, ℕ, ℤ, true, List, [], ◌∷◌, Option, Some, None, Result, Ok, Err, IfOk, length, refl, sym, ap, ◌∙◌, subst}
+use Rattle.std.proofs.Common.{◌≡◌, ℕ, ℤ, true, List, [], ◌∷◌, Option, Some, None, length, refl, sym, ap, ◌∙◌, subst}
 use Rattle.std.proofs.lemmas.Option.{same_Some}
 use Rattle.std.specs.List.{Contains, list_all}
 use Rattle.h5_model.specs.Edits.Applied.{with_dataset}
@@ -61,12 +61,6 @@ module _ {f : FileState} {path : List ℕ} {hyper : Hyper} {values : List ℤ} {
         write = record { at = is.at; array = a; there = there };
         found = subst (λ (axes : Slab). IsFound f.image a axes missing) same found;
       }
-
-      -- if memory was not refused
-      pub storing_found : {E : Type 0} → IsSound f → (slab : Slab) → slab ≡ axes_of hyper → (answer : Result (Option Missing) E)
-          → IfOk answer (IsFound f.image a slab) → IfOk answer (IsStoring f path hyper values number)
-      storing_found sound slab same (Ok missing) found = storing sound slab same missing found
-      storing_found sound slab same (Err e) found = tt
 
   -- ---- the storage
 

@@ -7,7 +7,7 @@ use Rattle.h5_model.specs.Edits.Applied.{with_edit}
 use Rattle.h5_model.specs.Edits.ImageAnswers.{Facts, IsGiven, refusal_or}
 use Rattle.h5_model.specs.Format.Addresses.{SymbolTable}
 use Rattle.h5_model.specs.Format.Heap.{segment_block}
-use Rattle.h5_model.specs.Format.Messages.{prefix_at, total_in}
+use Rattle.h5_model.specs.Format.Messages.{prefix_at, total_in, most_messages}
 use Rattle.h5_model.specs.Tree.Paths.{object_at, parent_at}
 use Rattle.h5_model.specs.Edits.Refusal.{refusal_of}
 use Rattle.h5_model.specs.Format.Superblock.{leaf_k, internal_k, chunk_k}
@@ -31,7 +31,7 @@ total_at f path = option_map_or (λ header. total_in (prefix_at f.image header))
 
 -- it has no place for a message more, with which a Continuation may come: the total has two bytes
 abbrev pub is_total_full : FileState → List ℕ → Bool
-is_total_full f path = nat_lt 65535 (total_at f path + 2)
+is_total_full f path = nat_lt most_messages (total_at f path + 2)
 
 -- the tree that an edit gives
 abbrev pub tree_after : FileState → Edit → Tree

@@ -1,11 +1,12 @@
 -- Storage made for cells that are to be written, and the cells written into it (File Format Specification 3.0, sections III.A.1 and
 -- IV.A.2.i).
-use Rattle.std.specs.Prelude.{◌≡◌, ℕ, ◌^◌, ◌≤◌, ℤ, true, Option, Some, None, List, [], ◌∷◌, length}
+use Rattle.std.specs.Prelude.{◌≡◌, ℕ, ◌≤◌, ℤ, true, Option, Some, None, List, [], ◌∷◌, length}
 use Rattle.std.specs.List.{Contains, list_all}
 use Rattle.std.specs.Option.{option_map}
 use Rattle.h5_model.specs.Edits.Applied.{with_dataset}
 use Rattle.h5_model.specs.Edits.Refusal.{first_holding}
 use Rattle.h5_model.specs.Format.Fixed.{fits}
+use Rattle.h5_model.specs.Format.Limits.{most_cells}
 use Rattle.h5_model.specs.Format.Superblock.{k_values}
 use Rattle.h5_model.specs.Tree.Objects.{Dataset, Storage, dataset_of, with_object}
 use Rattle.h5_model.specs.Tree.Places.{cells}
@@ -69,7 +70,7 @@ pub record AreSelectedReady (f : FileState) (number : ℕ) (hyper : Hyper) (valu
 pub record AreSelectedRuns (sizes : List ℕ) (hyper : Hyper) (runs : List CellRun) : Type 0 where
   pub places : places_in runs ≡ selection_of sizes (axes_of hyper)
   pub maximal : AreMaximal runs
-  pub few : cells sizes ≤ 2 ^ 40
+  pub few : cells sizes ≤ most_cells
 
 -- of the opened image the array of this number alone is another, which has these values in the cells at these places
 pub record AreValuesWritten (old : FileState) (number : ℕ) (places : List ℕ) (values : List ℤ) (new : FileState) : Type 0 where

@@ -22,9 +22,9 @@ pub use created::{create_dataset, create_group};
 pub use h5_layout::{Buffer, encode};
 pub use h5_query::{
     ArrayRef, AttrRef, Dims, Found, HyperRef, Kind, LinkNames, MAX_DEPTH, MAX_RANK, Opened, Piece,
-    Runs, Slab, SlabFault, StoredArray, Values, array_at, array_of, attributes_at, found_at,
-    kind_at, links_of, names_at, names_of_attributes, number_at, one_attribute, one_cell, runs_at,
-    selected_at, store_of,
+    Runs, SelectedRuns, Slab, SlabFault, StoredArray, Values, array_at, array_of, attributes_at,
+    found_at, kind_at, links_of, names_at, names_of_attributes, number_at, one_attribute, one_cell,
+    runs_at, selected_at, store_of,
 };
 pub use h5_repack::empty_image;
 pub use links::{hard_link, soft_link};

@@ -1,14 +1,13 @@
 //! Cells written (File Format Specification 3.0, sections III.A.1 and IV.A.2.i).
 
-ghost use Rattle.std.specs.Prelude.{◌≡◌, ℕ, ℤ, List, None, Some, MatchResult};
-ghost use Rattle.h5_model.specs.Edits.Refusal.{first_holding};
+ghost use Rattle.std.specs.Prelude.{◌≡◌, ◌^◌, ◌≤◌, ℕ, ℤ, List, Some, MatchResult};
 ghost use Rattle.h5_model.specs.Tree.Objects.{Dataset, dataset_of};
+ghost use Rattle.h5_model.specs.Tree.Places.{cells};
 ghost use Rattle.h5_model.specs.declared.edits.Edit.TheVariants.{Write};
 ghost use Rattle.h5_model.specs.declared.hyperslab.Hyper.{Hyper as TheHyper};
-ghost use Rattle.h5_query.specs.Selected.{hyper_rules};
 ghost use Rattle.h5_edit.specs.Carried.{IsRefused};
 ghost use Rattle.h5_edit.specs.Edited.{IsEdited};
-ghost use Rattle.h5_edit.specs.Stored.{AreSelectedReady, AreSelectedRuns, AreSelectedWritten, HasStorage, IsStoring, IsWriteMade};
+ghost use Rattle.h5_edit.specs.Stored.{AreSelectedReady, AreSelectedWritten, HasStorage, IsStoring, IsWriteMade};
 ghost use Rattle.h5_edit.specs.WriteTarget.{IsTarget};
 ghost use Rattle.h5_edit.specs.declared.target.TargetCells.TheVariants as target;
 
@@ -17,7 +16,7 @@ use crate::target::{MissingRun, TargetCells, cells_to_write};
 use h5_layout::{Buffer, Missing};
 use h5_model::{EditFault, Edited, ObjectNo};
 use h5_query::{Opened, StandingCells, array_number, described_of, slab_within};
-use h5_shape::{CellRuns, HyperRef};
+use h5_shape::{Dims, HyperRef};
 use std::alloc::Global;
 
 /// Writes values into the selected cells of the array at the path: one value for each cell, in row-major order.
@@ -127,28 +126,28 @@ fn make_missing(
 }
 
 /// Writes values into the selected cells of the array of this number, all of which are stored, run by run.
-///
-/// The selection and its runs are some KB, so they stand in functions that other writes do not call.
 fn write_by_runs(opened: &mut Opened, number: u32, hyper: &HyperRef<'_>, values: &Buffer<'_>)
     requires { (d : Dataset) × AreSelectedReady opened.old number hyper.now values.now d }
     ensures { AreSelectedWritten opened.old number hyper.now values.now opened.new }
 {
-    let runs = selected_runs(opened, number, hyper);
-    opened.write_cells(number, runs, values);
-}
-
-/// The selected cells of the array of this number, as runs of consecutive places.
-///
-/// That no rule refuses the selection is the caller's condition.
-fn selected_runs(opened: &Opened, number: u32, hyper: &HyperRef<'_>) -> CellRuns
-    requires { (d : Dataset) × (dataset_of opened.now.tree number ≡ Some d)
-        × (first_holding (hyper_rules d.sizes hyper.now) ≡ None) }
-    ensures { (d : Dataset) → dataset_of opened.now.tree number ≡ Some d
-        → AreSelectedRuns d.sizes hyper.now result }
-{
-    let array = described_of(opened, number);
-    let Ok(slab) = slab_within(array.dims(), hyper) else {
+    let dims = dims_of(opened, number);
+    let Ok(slab) = slab_within(&dims, hyper) else {
         unreachable!()
     };
-    slab.runs(array.dims())
+    opened.write_cells(number, slab.runs(&dims), values);
+}
+
+/// The sizes of the array of this number.
+///
+/// That an array has the number is the caller's condition.
+fn dims_of(opened: &Opened, number: u32) -> Dims
+    requires { (d : Dataset) × dataset_of opened.now.tree number ≡ Some d }
+    ensures sizes { (d : Dataset) → dataset_of opened.now.tree number ≡ Some d → result ≡ d.sizes }
+    ensures small { cells result ≤ 2 ^ 40 }
+{
+    let array = described_of(opened, number);
+    let Some(dims) = Dims::new(array.dims().sizes()) else {
+        unreachable!()
+    };
+    dims
 }

@@ -9,6 +9,8 @@ use Rattle.std.specs.FinMap.Entries.{below_all}
 use Rattle.std.specs.List.{AllByRecursion, sum_by}
 use Rattle.std.specs.Option.{option_and_then, option_map, option_map_or}
 use Rattle.std.specs.Ordering.{eq_by_cmp, nat_cmp}
+use Rattle.std.proofs.lemmas.Option.{same_Some}
+use Rattle.h5_bytes.proofs.BlockLaws.{all_so}
 use Rattle.h5_laws.specs.Rising.{RiseWithin}
 use Rattle.h5_laws.proofs.Numbered.{joined, less_holds}
 use Rattle.h5_laws.proofs.RisingMaps.{get_found}
@@ -30,7 +32,7 @@ use Rattle.h5_file.specs.declared.touched.Touched.{Touched}
 use Rattle.h5_file.specs.declared.views.KeptView.{KeptView}
 use Rattle.h5_file.proofs.EditedArrays.{IsArrayAfter, array_after, changed_array}
 use Rattle.h5_file.proofs.FollowedCells.{IsChange, count_followed, kept_followed, patches_followed}
-use Rattle.h5_file.proofs.ViewLaws.{all_weaker, held_patches, number_of}
+use Rattle.h5_file.proofs.ViewLaws.{held_patches, number_of}
 
 -- ---- the views in the order of their numbers
 
@@ -55,9 +57,6 @@ values_views views end rise = ap (map second) (entries_made nat_cmp_total (map n
 
 pub value_one : (view : View) → values (from_entries {R = nat_cmp} ((0, view) ∷ [])) ≡ view ∷ []
 value_one view = ap (map second) (entries_made nat_cmp_total ((0, view) ∷ []) tt)
-
-pub same_array : {x y : Dataset} → Some x ≡ Some y → x ≡ y
-same_array e = cc
 
 -- ---- an edit that changes no array
 
@@ -240,7 +239,7 @@ module _ (before after : FileState) (edit : Edit) (is : state_of after ≡ state
           record {
             count_is = count_is;
             shown = λ d there.
-                let same : new ≡ d = same_array (sym now ∙ ap (dataset_of after.tree) (sym (object_is ∙ here)) ∙ there) in
+                let same : new ≡ d = same_Some _ _ (sym now ∙ ap (dataset_of after.tree) (sym (object_is ∙ here)) ∙ there) in
                 subst (λ (X : Type 0). X) (λ i. IsKeptOf (same i) (sym slab_is i) w.kept) (kept_followed edit old new touched change sound boxes v.slab axes count v.kept w.kept kept then);
             stepped = record {
               same = followed.same;
@@ -302,22 +301,11 @@ module _ (number : ℕ) (d : Dataset) (touched : Touched) where
       let more = followed_more xs i ys b k w v (omega (arith, there)) others rest one in
       ((a, b + k, omega (arith, sum), first, more.0), more.1)
 
-  pub followed_next : (xs : List KeptView) (i : ℕ) (ys : List KeptView) (n k : ℕ) (w v : KeptView) → i < length xs
-      → AreViewsFollowed number d touched (take i xs) n (take i ys) → drop i ys ≡ drop i xs → IsViewFollowed number d touched (get_or xs i v) k w
-      → AreViewsFollowed number d touched (take (i + 1) xs) (n + k) (take (i + 1) (set ys i w)) × (drop (i + 1) (set ys i w) ≡ drop (i + 1) xs)
-  followed_next xs i ys n k w v there are rest one =
-      let next : suc i ≡ i + 1 = omega arith in
-      subst (λ (m : ℕ). AreViewsFollowed number d touched (take m xs) (n + k) (take m (set ys i w)) × (drop m (set ys i w) ≡ drop m xs)) next
-      (followed_more xs i ys n k w v there are rest one)
-
 -- where what is left is the same, so is the first of it
 front_of : (i : ℕ) (xs : List KeptView) (v : KeptView) → get_or (drop i xs) 0 v ≡ get_or xs i v
 front_of zero xs v = refl
 front_of (suc i) [] v = refl
 front_of (suc i) (x ∷ xs) v = front_of i xs v
-
-pub rest_at : (i : ℕ) (ys xs : List KeptView) (v : KeptView) → drop i ys ≡ drop i xs → get_or ys i v ≡ get_or xs i v
-rest_at i ys xs v rest = sym (front_of i ys v) ∙ ap (λ zs. get_or zs 0 v) rest ∙ front_of i xs v
 
 -- a view that fits the file fits its array
 view_ready : (tree : Tree) (next number : ℕ) (d : Dataset) → dataset_of tree number ≡ Some d → (v : KeptView) → IsViewFit tree next v → v.object ≡ number → IsViewReady d v
@@ -328,4 +316,4 @@ view_ready tree next number d there v fit is =
 pub views_ready : (tree : Tree) (next number : ℕ) (d : Dataset) → dataset_of tree number ≡ Some d → (views : List KeptView) → AllByRecursion (IsViewFit tree next) views
     → AreViewsReady number d views
 views_ready tree next number d there views fit =
-    all_weaker (IsViewFit tree next) (λ (v : KeptView). v.object ≡ number → IsViewReady d v) (view_ready tree next number d there) views fit
+    all_so (IsViewFit tree next) (λ (v : KeptView). v.object ≡ number → IsViewReady d v) views (view_ready tree next number d there) fit

@@ -1,5 +1,5 @@
 -- The boxes that an edit and a view of its array both meet, and the cells that are kept once they were patched.
-use Rattle.std.proofs.Common.{◌≡◌, ◌≢◌, ℕ, zero, suc, ◌-◌, ◌^◌, ◌≤◌, min, Bool, true, false, List, [], ◌∷◌, length, inl, refl, sym, ap, ◌∙◌, subst, arith}
+use Rattle.std.proofs.Common.{◌≡◌, ◌≢◌, ℕ, zero, suc, ◌-◌, ◌^◌, ◌≤◌, min, Bool, true, false, List, [], length, refl, sym, ap, ◌∙◌, subst, arith}
 use Rattle.std.proofs.lemmas.List.{length-map}
 use Rattle.h5_model.specs.Tree.Objects.{Dataset, Storage, Compact, Contiguous, Chunked}
 use Rattle.h5_model.specs.Tree.Places.{cells}
@@ -8,10 +8,9 @@ use Rattle.h5_model.specs.Views.Selection.{Slab, selected_cells, selects_none}
 use Rattle.h5_model.specs.Views.Shown.{box_of, met_boxes}
 use Rattle.h5_model.proofs.SelectionLaws.{from_is_selected}
 use Rattle.h5_model.proofs.WithinLaws.{no_cell}
-use Rattle.h5_model.proofs.Members.{In}
 use Rattle.h5_shape.specs.InBox.{AreApart}
 use Rattle.h5_shape.specs.MetFirsts.{first_of_box, met_firsts}
-use Rattle.h5_shape.proofs.MetLaws.{met_held, none_met}
+use Rattle.h5_shape.proofs.MetLaws.{met_held, none_met, no_member}
 use Rattle.h5_file.specs.OpenViews.{IsMetPatched}
 use Rattle.h5_file.specs.Patched.{AreCorners, KeptState}
 use Rattle.h5_file.specs.Touched.{HasGrid, IsArrayLeft, IsGridOf, IsTouchOf, is_touched_in, met_with, sizes_before}
@@ -19,10 +18,6 @@ use Rattle.h5_file.specs.declared.touched.Touched.{Touched}
 use Rattle.h5_file.specs.declared.touched.Touched.TheVariants.{Written, Lost}
 use Rattle.h5_file.proofs.Refreshed.{corners_met, few_met, none_patched}
 use Rattle.h5_file.proofs.SlabLaws.{some_selected, words_apart}
-
-no_member : {X : Type 0} (xs : List X) → ((x : X) → In x xs → ⊥) → xs ≡ []
-no_member [] never = refl
-no_member (x ∷ xs) never = absurd (never x (inl refl))
 
 -- a selection of no cell meets no box
 pub empty_met : (sizes box : List ℕ) (touched : List ℕ → Bool) (slab : Slab) → length box ≡ length sizes → selects_none slab ≡ true → met_firsts sizes box touched slab ≡ []

@@ -3,6 +3,7 @@ use Rattle.std.proofs.Common.{◌≡◌, ℕ, zero, suc, ◌+◌, ◌*◌, ◌^�
 use Rattle.std.proofs.lemmas.List.{length-map}
 use Rattle.std.specs.Option.{option_and_then}
 use Rattle.std.proofs.lemmas.Bool.{and_parts}
+use Rattle.std.proofs.lemmas.Option.{same_Some}
 use Rattle.h5_model.specs.Edits.Applied.{cell_or_fill, with_sizes, with_selection, written_storage}
 use Rattle.h5_model.specs.Edits.Refusal.{is_chunked, refusal_of}
 use Rattle.h5_model.specs.Format.Fixed.{Fixed, bytes_of}
@@ -88,15 +89,12 @@ write_chunked places Compact = refl
 write_chunked places (Contiguous stored) = refl
 write_chunked places (Chunked chunk) = refl
 
-some_same : {x y : Dataset} → Some x ≡ Some y → x ≡ y
-some_same e = cc
-
 module _ (tree : Tree) (next : ℕ) (path : List ℕ) (old : Dataset) (found : dataset_at tree path ≡ Some old) where
   write_change : (hyper : Hyper) (values : List ℤ) → refusal_of tree next (Write path hyper values) ≡ None
       → IsChange (Write path hyper values) old (with_selection (axes_of hyper) values old) (Written (axes_of hyper))
   write_change hyper values allowed =
       let w = write_allowed tree next path hyper values allowed in
-      let same : w.array ≡ old = some_same (sym w.found ∙ found) in
+      let same : w.array ≡ old = same_Some _ _ (sym w.found ∙ found) in
       record {
         is = refl;
         ranked = refl;
@@ -137,7 +135,7 @@ change_at tree next (Write path hyper values) (Lost sizes kept) is allowed numbe
 change_at tree next (Resize path dims) (Written slab) is allowed number at old there = absurd is
 change_at tree next (Resize path dims) (Lost sizes kept) is allowed number at old there =
     let found : dataset_at tree path ≡ Some old = ap (option_and_then (dataset_of tree)) at ∙ there in
-    let same : is.2 ≡ old = some_same (sym is.3 ∙ found) in
+    let same : is.2 ≡ old = same_Some _ _ (sym is.3 ∙ found) in
     let before : sizes ≡ old.sizes = is.4 ∙ ap (λ (d : Dataset). d.sizes) same in
     subst (λ (X : Type 0). X) (λ i. IsChange (Resize path dims) old (with_sizes dims old) (Lost (sym before i) (sym is.0 i)))
     (resize_change tree next path old found dims allowed (subst (λ (ds : List ℕ). cells ds ≤ 2 ^ 40) before is.1))

@@ -75,10 +75,6 @@ module _ (bytes : List ℕ) (is : IsSuperblock bytes) where
 
 -- ---- refusals
 
-pub field_refused : (bytes : List ℕ) (cause : Cause) (at : ℕ) → SuperblockBreach bytes cause at → RefusedBy bytes cause at
-field_refused bytes NoMemory at h = tt
-field_refused bytes _ at h = inl h
-
 pub walk_refused : (bytes : List ℕ) (cause : Cause) (at : ℕ) → IsOpenRefusedAt (up_to_end bytes) cause at → RefusedBy bytes cause at
 walk_refused bytes NoMemory at h = tt
 walk_refused bytes _ at h = inr h

@@ -3,6 +3,7 @@ use Rattle.std.proofs.Common.{◌≡◌, ℕ, zero, suc, ◌+◌, ◌*◌, ◌<�
 use Rattle.std.proofs.lemmas.Bool.{cases_order}
 use Rattle.std.proofs.Math.Nat.{mul-le-mul_right}
 use Rattle.std.specs.List.{AllByRecursion, flat_map, range_with_len}
+use Rattle.std.proofs.lemmas.Nat.{same_from_place}
 use Rattle.h5_bytes.specs.Bytes.{part, with_part}
 use Rattle.h5_bytes.proofs.PartLaws.{length-with_part}
 use Rattle.h5_bytes.proofs.BlockLaws.{all_append}
@@ -89,15 +90,6 @@ row_low place u w c N small room =
     let same : (place + 1) * (w * c) ≡ (place * w + w) * c = omega arith in
     omega (arith, less, same, room)
 
-row_same : (place base u t w : ℕ) → u < w → t < w → place * w + u ≡ base * w + t → (place ≡ base) × (u ≡ t)
-row_same place base u t w small low same = elim (cases_order place base) [
-  | inl equal ↦ let rows : place * w ≡ base * w = ap (λ n. n * w) equal in (equal, omega (arith, rows, same))
-  | inr other ↦ elim other [
-    | inl less ↦ let rows : (place + 1) * w ≤ base * w = mul-le-mul_right w (omega (arith, less)) in absurd (omega (arith, rows, same, small))
-    | inr more ↦ let rows : (base + 1) * w ≤ place * w = mul-le-mul_right w (omega (arith, more)) in absurd (omega (arith, rows, same, low))
-  ]
-]
-
 module _ (d : Dataset) (N : ℕ) where
   pub low_writes : (slab : Slab) (spans : List Span) (place : ℕ) (front : List ℕ) → AreSpans slab spans → (place + 1) * cells (selection_shape slab) ≤ N
       → AllByRecursion (IsLow N) (writes_in d slab spans place front)
@@ -136,7 +128,7 @@ module _ (d : Dataset) (N : ℕ) where
       (all_flat (IsElse N ((base * w + t) * c + place_of (selection_shape rest) ts)) g s.from s.length (λ u low high.
       let small : u < w = omega (arith, high, are.0.inside) in
       else_writes rest ss (place * w + u) (base * w + t) (front ++ number_along a u ∷ []) ts are.1 (row_low place u w c N small room) inside.1 (λ same held.
-      let both = row_same place base u t w small inside.0 same in
+      let both = same_from_place place u base t w small inside.0 same in
       apart both.0 ((omega (arith, low, both.1), omega (arith, high, both.1)), held))))
 
   pub held_write : (slab : Slab) (spans : List Span) (place : ℕ) (front at bytes : List ℕ) → AreSpans slab spans → (place + 1) * cells (selection_shape slab) ≤ N
@@ -163,7 +155,7 @@ module _ (d : Dataset) (N : ℕ) where
       (one_hit d.fixed N p value g t s.from s.length held.0.0 held.0.1
       (λ u low high. low_writes rest ss (place * w + u) (front ++ number_along a u ∷ []) are.1 (row_low place u w c N (small u high) room))
       (λ u low high other. else_writes rest ss (place * w + u) (place * w + t) (front ++ number_along a u ∷ []) ts are.1 (row_low place u w c N (small u high) room) inside.1
-      (λ same _. let both = row_same place place u t w (small u high) inside.0 same in elim other [ inl less ↦ omega (arith, less, both.1) | inr more ↦ omega (arith, more, both.1) ]))
+      (λ same _. let both = same_from_place place u place t w (small u high) inside.0 same in elim other [ inl less ↦ omega (arith, less, both.1) | inr more ↦ omega (arith, more, both.1) ]))
       (λ bytes long. held_write rest ss (place * w + t) (front ++ number_along a t ∷ []) ts bytes are.1 (row_low place t w c N inside.0 room) inside.1 held.1 long
       ∙ ap (λ (xs : List ℕ). bytes_of d.fixed (cell_or_fill d xs)) (append_assoc front (number_along a t ∷ []) (selected_index rest ts)))
       bytes long)

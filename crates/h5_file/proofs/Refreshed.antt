@@ -1,10 +1,10 @@
 -- Kept cells of which all boxes are patched that an edit and the selection both meet are the array's again.
-use Rattle.std.proofs.Common.{◌≡◌, ℕ, suc, ◌+◌, ◌-◌, ◌*◌, ◌/◌, ◌<◌, ◌≤◌, ◌&&◌, inl, inr, Bool, true, false, cond, List, [], ◌∷◌, ◌++◌, length, refl, sym, ap, ◌∙◌, subst, arith}
+use Rattle.std.proofs.Common.{◌≡◌, ℕ, suc, ◌+◌, ◌-◌, ◌*◌, ◌/◌, ◌<◌, ◌≤◌, ◌&&◌, inl, inr, Bool, true, false, List, [], ◌∷◌, ◌++◌, length, refl, sym, ap, ◌∙◌, subst, arith}
 use Rattle.std.proofs.lemmas.Bool.{and_parts}
 use Rattle.std.proofs.Math.Nat.{mul-le-mul_left, mul-le-mul_right}
 use Rattle.std.proofs.lemmas.List.FromFn.{length-map-range_with_len}
 use Rattle.std.proofs.lemmas.Nat.{div-mul-add, div_below}
-use Rattle.std.specs.List.{Contains, filter}
+use Rattle.std.specs.List.{Contains}
 use Rattle.h5_model.specs.Edits.Applied.{cell_or_fill}
 use Rattle.h5_model.specs.Format.Fixed.{Fixed, bytes_of}
 use Rattle.h5_model.specs.Tree.Grid.{boxes_along, boxes_of, corner_of, grid_of, some_in_box}
@@ -15,6 +15,7 @@ use Rattle.h5_model.specs.Views.Shown.{is_touched, met_boxes}
 use Rattle.h5_model.specs.declared.edits.Edit.{Edit}
 use Rattle.h5_model.specs.declared.edits.Edit.TheVariants.{CreateGroup, CreateDataset, HardLink, SoftLink, Unlink, SetAttr, RemoveAttr, Write, Resize}
 use Rattle.h5_model.proofs.SelectionLaws.{to_is_selected}
+use Rattle.h5_model.proofs.Members.{few_pass}
 use Rattle.h5_shape.specs.InBox.{IsCorner}
 use Rattle.h5_shape.specs.MetFirsts.{met_firsts}
 use Rattle.h5_shape.specs.PartCells.{selection_shape, selected_index}
@@ -151,16 +152,9 @@ few_boxes (d ∷ ds) (b ∷ bs) rank some =
     let two : d * cells (grid_of ds bs) ≤ d * cells ds = mul-le-mul_left d (few_boxes ds bs (omega (arith, rank)) parts.1) in
     omega (arith, one, two)
 
-fewer : {X : Type 0} (test : X → Bool) (xs : List X) → length (filter test xs) ≤ length xs
-fewer test [] = omega arith
-fewer test (x ∷ xs) = by_test (test x) (fewer test xs) where
-  by_test : (b : Bool) → length (filter test xs) ≤ length xs → length (cond b (x ∷ filter test xs) (filter test xs)) ≤ length (x ∷ xs)
-  by_test true less = omega (arith, less)
-  by_test false less = omega (arith, less)
-
 pub few_met : (sizes box : List ℕ) (touched : List ℕ → Bool) (slab : Slab) → length box ≡ length sizes → 0 < cells box → length (met_boxes sizes box touched slab) ≤ cells sizes
 unfolding met_boxes
 few_met sizes box touched slab rank some =
     let all : length (boxes_of sizes box) ≡ cells (grid_of sizes box) = length-map-range_with_len (index_of (grid_of sizes box)) 0 (cells (grid_of sizes box)) in
-    let less = fewer (λ at. some_in_box box touched at && some_in_box box (is_selected slab) at) (boxes_of sizes box) in
+    let less = few_pass (λ at. some_in_box box touched at && some_in_box box (is_selected slab) at) (boxes_of sizes box) in
     omega (arith, less, all, few_boxes sizes box rank some)

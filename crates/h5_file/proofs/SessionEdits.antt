@@ -7,6 +7,7 @@ use Rattle.std.proofs.lemmas.List.Sums.{sum_by-cons}
 use Rattle.std.specs.FinMap.{from_entries, values}
 use Rattle.std.specs.List.{AllByRecursion}
 use Rattle.std.specs.Option.{option_and_then, option_map, option_map_or}
+use Rattle.std.proofs.lemmas.Option.{same_Some}
 use Rattle.h5_model.specs.Edits.Applied.{State, with_edit, named_object, with_sizes, state_after, with_dataset, with_selection}
 use Rattle.h5_model.specs.Edits.Refusal.{refusal_of}
 use Rattle.h5_model.specs.Tree.Objects.{Tree, Dataset, dataset_of, with_object}
@@ -31,7 +32,7 @@ use Rattle.h5_file.specs.declared.touched.Touched.TheVariants.{Written, Lost}
 use Rattle.h5_file.specs.declared.views.KeptView.{KeptView}
 use Rattle.h5_file.proofs.AcceptedEdits.{write_allowed}
 use Rattle.h5_file.proofs.EditedArrays.{array_there, change_of, changed_array}
-use Rattle.h5_file.proofs.EditedViews.{AreStepped, AreViewsStepped, all_shown_still, patches_stepped, refreshed_none, refreshed_views, same_array, same_views, stepped_still, views_stepped}
+use Rattle.h5_file.proofs.EditedViews.{AreStepped, AreViewsStepped, all_shown_still, patches_stepped, refreshed_none, refreshed_views, same_views, stepped_still, views_stepped}
 use Rattle.h5_file.proofs.FollowedCells.{IsChange, change_at}
 use Rattle.h5_file.proofs.ViewLaws.{all_fit_edited, kept_again, room_of}
 
@@ -194,7 +195,7 @@ module _ (before after : FileState) (edit : Edit) (e : Edited) (is : IsEdited be
 
     pub touch_after : (d : Dataset) → dataset_of after.tree number ≡ Some d → IsTouchOf d touched × (cells d.sizes ≤ 2 ^ 40 → cells (sizes_before d touched) ≤ 2 ^ 40)
     touch_after d there =
-        let same : new ≡ d = same_array (sym now ∙ there) in
+        let same : new ≡ d = same_Some _ _ (sym now ∙ there) in
         subst (λ (d : Dataset). IsTouchOf d touched × (cells d.sizes ≤ 2 ^ 40 → cells (sizes_before d touched) ≤ 2 ^ 40)) same (change.touch, change.few)
 
     module _ (count : ℕ) (others : List KeptView) (followed : AreViewsFollowed number new touched views count others) (sound : IsDataset new × HasBoxes new) where

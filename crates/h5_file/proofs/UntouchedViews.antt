@@ -55,9 +55,6 @@ module _ (before after : FileState) (edit : Edit) (views : List KeptView) (next 
     unseen : NeedNotFollow
     unseen e is = none_followed before after edit e is views next kept none
 
-    pub kept_unseen : (result : Result Edited EditFault) → Answered result → AreViewsKept after views next
-    kept_unseen = kept_by unseen
-
     pub answered_unseen : (old : SessionState) → session_state before views next ≡ old → (result : Result Edited EditFault) → Answered result
         → MatchResult result (IsSessionEdited old edit (session_state after views next)) (λ e. IsRefused old.file edit e × (session_state after views next ≡ old))
     answered_unseen = answered_by unseen

@@ -11,6 +11,8 @@ use Rattle.std.specs.List as list
 use Rattle.std.specs.List.Sorted.{IsSearchInRange, IsBinarySearchResult}
 use Rattle.std.specs.Ordering.{nat_cmp}
 use Rattle.std.specs.Result.{result_ok}
+use Rattle.std.proofs.lemmas.Option.{same_Some}
+use Rattle.h5_bytes.proofs.BlockLaws.{all_so}
 use Rattle.h5_laws.specs.Rising.{RiseWithin}
 use Rattle.h5_laws.proofs.RisingMaps.{searched, rise_push, rise_remove, get_at, get_none, get_above, len_map, map_push, map_remove, found_all}
 use Rattle.h5_laws.proofs.TypesKept.{size-accepted}
@@ -56,15 +58,6 @@ module _ {X : Type 0} (P : X → Type 0) where
   all_remove [] (suc k) all = tt
   all_remove (x ∷ xs) zero all = all.1
   all_remove (x ∷ xs) (suc k) all = (all.0, all_remove xs k all.1)
-
-  pub all_at : (xs : List X) (k : ℕ) (d : X) → AllByRecursion P xs → k < length xs → P (get_or xs k d)
-  all_at [] k d all there = absurd (omega arith)
-  all_at (x ∷ xs) zero d all there = all.0
-  all_at (x ∷ xs) (suc k) d all there = all_at xs k d all.1 (omega arith)
-
-pub all_weaker : {X : Type 0} (P Q : X → Type 0) → ((x : X) → P x → Q x) → (xs : List X) → AllByRecursion P xs → AllByRecursion Q xs
-all_weaker P Q step [] all = tt
-all_weaker P Q step (x ∷ xs) all = (step x all.0, all_weaker P Q step xs all.1)
 
 -- ---- by number
 
@@ -152,8 +145,7 @@ pub all_fit_edited : (before after : FileState) (edit : Edit) → refusal_of bef
     → (views : List KeptView) → AllByRecursion (IsViewFit before.tree before.next) views → AllByRecursion (IsViewFit after.tree after.next) views
 all_fit_edited before after edit accepted is views all =
     subst (λ (s : State). AllByRecursion (IsViewFit s.tree s.next) views) (sym is)
-    (all_weaker (IsViewFit before.tree before.next) (IsViewFit (state_after (state_of before) edit).tree (state_after (state_of before) edit).next)
-    (fit_edited (state_of before) edit accepted) views all)
+    (all_so (IsViewFit before.tree before.next) (IsViewFit (state_after (state_of before) edit).tree (state_after (state_of before) edit).next) views (fit_edited (state_of before) edit accepted) all)
 
 -- ---- opening
 
@@ -208,16 +200,13 @@ pub fit_opened : (file : FileState) (path : List ℕ) (hyper : Hyper) (number : 
     → IsSlab slab → cells d.sizes ≤ 2 ^ 40 → (v : KeptView) → v.object ≡ number → v.slab ≡ slab → IsKeptOf d slab v.kept → IsViewFit file.tree file.next v
 fit_opened file path hyper number d slab sound at lists few v object axes kept =
     let there = selected_array file path hyper number d slab at in
-    let same = λ (e : Dataset) (is : dataset_of file.tree v.object ≡ Some e). some_same e d (sym is ∙ ap (dataset_of file.tree) object ∙ there) in
+    let same = λ (e : Dataset) (is : dataset_of file.tree v.object ≡ Some e). same_Some e d (sym is ∙ ap (dataset_of file.tree) object ∙ there) in
     record {
       given = subst (λ n. n < file.next) (sym object) (sound.numbers.given number (stands number d there));
       ranked = λ e is. ap length axes ∙ at.slab.rank ∙ ap (λ (x : Dataset). length x.sizes) (sym (same e is));
       apart = subst (λ (s : Slab). selects_none s ≡ false → AreApart s) (sym axes) (λ some. apart_within d.sizes slab (sym at.slab.rank) at.slab.within lists.apart few some);
       room = λ e is. subst (λ (X : Type 0). X) (λ i. HasKeptLength (sym (same e is) i) (sym axes i) v.kept) (room_of d slab v.kept kept);
     } where
-      some_same : (e d : Dataset) → Some e ≡ Some d → e ≡ d
-      some_same e d is = cc
-
       stands : (n : ℕ) (d : Dataset) → dataset_of file.tree n ≡ Some d → IsSome (get file.tree n)
       stands n d is = elim (get file.tree n) as (λ o. option_and_then (λ (x : Object). dataset_in x.content) o ≡ Some d → is_some o ≡ true) [
         | None ↦ λ no. absurd (let never : None ≡ Some d = no in cc)

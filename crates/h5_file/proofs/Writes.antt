@@ -1,20 +1,20 @@
 -- Cells written one behind another.
 use Rattle.std.proofs.Common.{◌≡◌, ℕ, zero, suc, ◌+◌, ◌-◌, ◌*◌, ◌^◌, ◌<◌, ◌≤◌, ℤ, List, [], ◌∷◌, ◌++◌, length, take, drop, set, get_or, refl, sym, ap, ◌∙◌, subst, arith}
 use Rattle.std.proofs.lemmas.Grind.{flat_map-append}
-use Rattle.std.proofs.lemmas.List.{take_all}
+use Rattle.std.proofs.lemmas.List.{take-set, append-nil}
 use Rattle.std.proofs.Math.Nat.{mul-le-mul_right}
 use Rattle.std.specs.List.{flat_map, range_with_len}
 use Rattle.h5_bytes.specs.Bytes.{with_part}
 use Rattle.h5_model.specs.declared.hyperslab.Axis.{Axis}
 use Rattle.h5_model.specs.Format.Fixed.{Fixed, bytes_of}
-use Rattle.h5_model.specs.Tree.Objects.{Dataset}
 use Rattle.h5_model.specs.Tree.Places.{cells}
 use Rattle.h5_model.specs.Views.Selection.{Slab}
 use Rattle.h5_shape.specs.PartCells.{selection_shape}
 use Rattle.h5_shape.specs.declared.parts.Span.{Span}
-use Rattle.h5_shape.specs.InBox.{AreSpans, IsSpan, number_along}
-use Rattle.h5_file.specs.Patched.{writes_in, with_writes}
+use Rattle.h5_shape.specs.InBox.{AreSpans, IsSpan}
+use Rattle.h5_file.specs.Patched.{with_writes}
 use Rattle.h5_shape.proofs.AxisNumbers.{few_cells}
+use Rattle.h5_shape.proofs.AxesLaws.{tail_of}
 
 pub with_writes-append : (t : Fixed) (xs ys : List (ℕ × ℤ)) (bytes : List ℕ) → with_writes t (xs ++ ys) bytes ≡ with_writes t ys (with_writes t xs bytes)
 with_writes-append t [] ys bytes = refl
@@ -34,22 +34,10 @@ one_more t g from at old so_far new low before after =
     let list : range_with_len from (at + 1 - from) ≡ range_with_len from (at - from) ++ at ∷ []
     = ap (range_with_len from) (sym count) ∙ range_next from (at - from) at (omega (arith, low)) in
     let parts : flat_map g (range_with_len from (at + 1 - from)) ≡ flat_map g (range_with_len from (at - from)) ++ g at
-    = ap (flat_map g) list ∙ flat_map-append g (range_with_len from (at - from)) (at ∷ []) ∙ ap (λ ys. flat_map g (range_with_len from (at - from)) ++ ys) (nil_end (g at)) in
+    = ap (flat_map g) list ∙ flat_map-append g (range_with_len from (at - from)) (at ∷ []) ∙ ap (λ ys. flat_map g (range_with_len from (at - from)) ++ ys) (append-nil (g at)) in
     after ∙ ap (with_writes t (g at)) before ∙ sym (with_writes-append t (flat_map g (range_with_len from (at - from))) (g at) old) ∙ ap (λ ws. with_writes t ws old) (sym parts)
-  where
-    nil_end : (ws : List (ℕ × ℤ)) → ws ++ [] ≡ ws
-    nil_end [] = refl
-    nil_end (w ∷ ws) = ap (λ xs. w ∷ xs) (nil_end ws)
 
 -- ---- the index so far
-
-front_next : (xs : List ℕ) (k v : ℕ) → k < length xs → take (suc k) (set xs k v) ≡ take k xs ++ v ∷ []
-front_next [] k v there = absurd (omega (arith, there))
-front_next (x ∷ xs) zero v there = refl
-front_next (x ∷ xs) (suc k) v there = ap (λ ys. x ∷ ys) (front_next xs k v (omega (arith, there)))
-
-pub front_more : (xs : List ℕ) (k v : ℕ) → k < length xs → take (k + 1) (set xs k v) ≡ take k xs ++ v ∷ []
-front_more xs k v there = let next : k + 1 ≡ suc k = omega arith in ap (λ n. take n (set xs k v)) next ∙ front_next xs k v there
 
 take_twice : (xs : List ℕ) (k : ℕ) → take k (take (suc k) xs) ≡ take k xs
 take_twice [] zero = refl
@@ -57,17 +45,11 @@ take_twice [] (suc k) = refl
 take_twice (x ∷ xs) zero = refl
 take_twice (x ∷ xs) (suc k) = ap (λ ys. x ∷ ys) (take_twice xs k)
 
-front_same : (xs : List ℕ) (k v : ℕ) → take k (set xs k v) ≡ take k xs
-front_same [] zero v = refl
-front_same [] (suc k) v = refl
-front_same (x ∷ xs) zero v = refl
-front_same (x ∷ xs) (suc k) v = ap (λ ys. x ∷ ys) (front_same xs k v)
-
 pub front_back : (new now old : List ℕ) (k v : ℕ) → take (k + 1) new ≡ take (k + 1) (set now k v) → take k now ≡ take k old → take k new ≡ take k old
 front_back new now old k v is before =
     let next : k + 1 ≡ suc k = omega arith in
     let is' : take (suc k) new ≡ take (suc k) (set now k v) = subst (λ n. take n new ≡ take n (set now k v)) next is in
-    sym (take_twice new k) ∙ ap (take k) is' ∙ take_twice (set now k v) k ∙ front_same now k v ∙ before
+    sym (take_twice new k) ∙ ap (take k) is' ∙ take_twice (set now k v) k ∙ take-set now k v ∙ before
 
 -- ---- the first axis and its span
 
@@ -79,10 +61,6 @@ some_cells (a ∷ rest) (s ∷ ss) are =
     let one : 1 ≤ a.count * a.block = omega (arith, are.0.some, are.0.inside) in
     let all : 1 * cells (selection_shape rest) ≤ a.count * a.block * cells (selection_shape rest) = mul-le-mul_right (cells (selection_shape rest)) one in
     omega (arith, more, all)
-
-tail : {X : Type 0} (xs : List X) → take (length xs - 1) (drop 1 xs) ≡ drop 1 xs
-tail [] = refl
-tail (x ∷ xs) = let less : length (x ∷ xs) - 1 ≡ length xs = omega arith in ap (λ n. take n xs) less ∙ take_all (length xs) xs (omega arith)
 
 module _ (a : Axis) (rest : Slab) (spans : List Span) (s : Span) (have : 1 ≤ length spans) (are : AreSpans (a ∷ rest) spans) where
   pub first_span : IsSpan a (get_or spans 0 s)
@@ -98,7 +76,7 @@ module _ (a : Axis) (rest : Slab) (spans : List Span) (s : Span) (have : 1 ≤ l
     others (y ∷ ys) have are = are.1
 
   pub spans_left : AreSpans rest (take (length spans - 1) (drop 1 spans))
-  spans_left = rw (tail spans) rest_spans
+  spans_left = rw (tail_of spans) rest_spans
 
   abbrev width : ℕ
   width = a.count * a.block
@@ -132,12 +110,3 @@ module _ (a : Axis) (rest : Slab) (spans : List Span) (s : Span) (have : 1 ≤ l
         omega (arith, more, all, room_behind) where
           mul-le : (n : ℕ) {x y : ℕ} → x ≤ y → n * x ≤ n * y
           mul-le n {x} {y} h = let right : x * n ≤ y * n = mul-le-mul_right n h in omega (arith, right)
-
-  pub writes_behind : (d : Dataset) (place : ℕ) (front : List ℕ) → writes_in d (a ∷ rest) spans place front
-      ≡ flat_map (λ u. writes_in d rest (take (length spans - 1) (drop 1 spans)) (place * width + u) (front ++ number_along a u ∷ [])) (range_with_len (get_or spans 0 s).from (get_or spans 0 s).length)
-  writes_behind d place front = all spans have ∙ (λ i. flat_map (λ u. writes_in d rest (sym (tail spans) i) (place * width + u) (front ++ number_along a u ∷ [])) (range_with_len (get_or spans 0 s).from (get_or spans 0 s).length))
-    where
-      all : (spans : List Span) → 1 ≤ length spans → writes_in d (a ∷ rest) spans place front
-          ≡ flat_map (λ u. writes_in d rest (drop 1 spans) (place * width + u) (front ++ number_along a u ∷ [])) (range_with_len (get_or spans 0 s).from (get_or spans 0 s).length)
-      all [] have = absurd (omega (arith, have))
-      all (y ∷ ys) have = refl

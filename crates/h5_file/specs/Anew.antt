@@ -1,5 +1,6 @@
 -- What a file is once it was repacked (File Format Specification 3.0, sections II.A, III and IV.A).
-use Rattle.std.specs.Prelude.{◌^◌, ◌≤◌, length}
+use Rattle.std.specs.Prelude.{◌≤◌, length}
+use Rattle.h5_model.specs.Format.Limits.{most_bytes}
 use Rattle.h5_edit.specs.Made.{HoldsAnew}
 use Rattle.h5_edit.specs.Opened.State.{FileState}
 use Rattle.h5_edit.specs.StoredChunks.{HasLengthAnew}
@@ -9,4 +10,4 @@ use Rattle.h5_edit.specs.StoredChunks.{HasLengthAnew}
 pub record IsRepacked (before after : FileState) : Type 0 where
   pub anew : HoldsAnew before before.tree before.next after
   pub long : HasLengthAnew before before.tree (length after.image)
-  pub few : length after.image ≤ 2 ^ 31
+  pub few : length after.image ≤ most_bytes

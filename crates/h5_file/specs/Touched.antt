@@ -2,6 +2,7 @@
 -- chunked raw data).
 use Rattle.std.specs.Prelude.{◌≡◌, ℕ, ◌^◌, ◌<◌, ◌≤◌, Bool, true, Some, None, List, [], length, replicate}
 use Rattle.h5_model.specs.Edits.Refusal.{is_chunked, refusal_of}
+use Rattle.h5_model.specs.Format.Limits.{most_cells}
 use Rattle.h5_model.specs.Tree.Objects.{Tree, Dataset}
 use Rattle.h5_model.specs.Tree.Paths.{dataset_at}
 use Rattle.h5_model.specs.Tree.Places.{cells}
@@ -18,7 +19,7 @@ use Rattle.h5_file.specs.declared.touched.Touched.TheVariants.{Written, Lost}
 abbrev pub IsTouching : Tree → Edit → Touched → Type 0
 IsTouching tree (Write path hyper values) (Written slab) = slab ≡ axes_of hyper
 IsTouching tree (Resize path dims) (Lost sizes kept) =
-    (kept ≡ dims) × (cells sizes ≤ 2 ^ 40) × (d : Dataset) × (dataset_at tree path ≡ Some d) × (sizes ≡ d.sizes)
+    (kept ≡ dims) × (cells sizes ≤ most_cells) × (d : Dataset) × (dataset_at tree path ≡ Some d) × (sizes ≡ d.sizes)
 IsTouching _ _ _ = ⊥
 
 -- no cell is touched, or a rule refuses the edit
@@ -55,7 +56,7 @@ HasGrid d touched grid = IsTouchOf d touched × (grid ≡ box_of d) × (length g
 -- the sizes of a box of the array's grid, and a selection of it whose indexes are below 2^64
 pub record IsGridOf (d : Dataset) (touched : Touched) (grid : List ℕ) (slab : Slab) : Type 0 where
   pub touch : IsTouchOf d touched
-  pub few : cells (sizes_before d touched) ≤ 2 ^ 40
+  pub few : cells (sizes_before d touched) ≤ most_cells
   pub grid_is : grid ≡ box_of d
   pub boxed : length grid ≡ length d.sizes
   pub ranked : length slab ≡ length d.sizes
@@ -64,6 +65,6 @@ pub record IsGridOf (d : Dataset) (touched : Touched) (grid : List ℕ) (slab : 
 -- an array whose views are to follow it
 pub record IsArrayLeft (d : Dataset) (touched : Touched) (grid : List ℕ) : Type 0 where
   pub sound : IsDataset d
-  pub few : cells (sizes_before d touched) ≤ 2 ^ 40
+  pub few : cells (sizes_before d touched) ≤ most_cells
   pub touch : IsTouchOf d touched
   pub grid_is : grid ≡ box_of d

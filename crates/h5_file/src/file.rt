@@ -22,9 +22,9 @@ ghost use Rattle.h5_file.specs.Opening.{IsReadable, Refused};
 
 use crate::open_error::OpenError;
 use h5_edit::{
-    AttrRef, Found, HyperRef, Kind, LinkNames, Opened, Runs, StoredArray, array_at, array_of,
-    attributes_at, empty_image, found_at, kind_at, links_of, names_at, names_of_attributes,
-    number_at, one_attribute, one_cell, open_written, runs_at,
+    AttrRef, Found, HyperRef, Kind, LinkNames, Opened, SelectedRuns, StoredArray, array_at,
+    array_of, attributes_at, empty_image, found_at, kind_at, links_of, names_at,
+    names_of_attributes, number_at, one_attribute, one_cell, open_written, runs_at,
 };
 use h5_model::{Cause, EditFault, Link, ObjectNo, OpenFault};
 use h5_space::{Image, end_of_file, superblock_fault};
@@ -229,8 +229,9 @@ impl File {
         one_cell(&self.opened, path, index)
     }
 
-    /// The selected cells of the array at the path, in pieces, in row-major order, as they stand in the image. The
-    /// selection has four lists, with one number for each dimension. Neither the call nor a step takes memory.
+    /// The selected cells of the array at the path, as runs: pieces of consecutive cells, in row-major order, as they stand
+    /// in the image. The selection has four lists, with one number for each dimension. Neither the call nor a step takes
+    /// memory.
     ///
     /// # Errors
     ///
@@ -241,7 +242,11 @@ impl File {
     /// - `StrideZero`: a stride is 0.
     /// - `BlocksOverlap`: a stride is below its block, and there is more than one block.
     /// - `OutOfExtent`: a selected cell is outside the sizes.
-    pub fn runs(&self, path: &[u8], hyper: &HyperRef<'_>) -> Result<Runs<'_>, EditFault>
+    pub fn runs<'a>(
+        &'a self,
+        path: &[u8],
+        hyper: &HyperRef<'a>,
+    ) -> Result<SelectedRuns<'a>, EditFault>
         ensures { MatchResult result (HasRuns self.now.tree path.now hyper.now) (λ e.
             first_holding (selection_rules self.now.tree path.now hyper.now) ≡ Some e) }
     {

@@ -50,7 +50,7 @@ mod views;
 pub use file::File;
 pub use h5_edit::{
     ArrayRef, AttrRef, Buffer, Dims, Found, HyperRef, Kind, LinkNames, MAX_DEPTH, MAX_RANK, Piece,
-    Runs, Slab, SlabFault, StoredArray, Values, store_of,
+    Runs, SelectedRuns, Slab, SlabFault, StoredArray, Values, store_of,
 };
 pub use h5_model::{
     AttrSpec, Cause, Edit, EditFault, Edited, Fixed, Hyper, Items, Link, LinkTo, ObjectNo,

@@ -12,12 +12,13 @@ use Rattle.h5_model.specs.Format.Symbols.{Target, symbols_at}
 use Rattle.h5_model.proofs.RowLaws.{at_listed}
 use Rattle.h5_laws.proofs.Lists.{In, all_in, contains_in}
 use Rattle.h5_space.specs.Space.{Space}
+use Rattle.h5_space.proofs.AddressLaws.{all_at}
 use Rattle.h5_btree.specs.Removal.{EndsInTree, IsTakenAlong}
 use Rattle.h5_btree.specs.Walk.Forms.{OfGroup}
 use Rattle.h5_btree.specs.Walk.Stands.{IsNodeAt}
 use Rattle.h5_btree.specs.declared.way.Step.{Step}
 use Rattle.h5_btree.proofs.ClimbSteps.{inside_of_apart}
-use Rattle.h5_btree.proofs.WaySteps.{all_at, first_owned}
+use Rattle.h5_btree.proofs.WaySteps.{first_owned}
 use Rattle.h5_group.specs.Edited.{HasGroupMoved, IsGroupIn, entries_below, node_below}
 use Rattle.h5_group.specs.Exact.{AreFilledBut, AreGroupKeys, HasExactKeys}
 use Rattle.h5_group.specs.Nodes.Trees.{kind_in}
@@ -62,7 +63,7 @@ module _ (s : Space) (table : SymbolTable) (links : List (List ℕ × Target)) (
   pub end_told : (node : ℕ) → ((step : Step) (above : List Step) → way ≡ step ∷ above → node ≡ node_below s table step) → Contains (symbol_nodes_told s.bytes table) node
   end_told node is =
       let at : get_or own_list k 0 ≡ node = own_end.1 ∙ sym (is own_way.step own_way.above own_way.way_is) in
-      let there : In (get_or own_list k 0) own_list = all_at (λ n. In n own_list) own_list k 0 own_end.0 (all_in (λ n. In n own_list) own_list (λ n in_it. in_it)) in
+      let there : In (get_or own_list k 0) own_list = all_at (λ n. In n own_list) own_list k 0 (all_in (λ n. In n own_list) own_list (λ n in_it. in_it)) own_end.0 in
       contains_in node (symbol_nodes_told s.bytes table)
       (subst (In node) (symbol_nodes_are_told s.bytes table links blocks group.linked) (subst (λ n. In n own_list) at there))
 

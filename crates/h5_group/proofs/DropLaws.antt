@@ -19,9 +19,9 @@ use Rattle.h5_model.specs.Format.Rows.{Node, Reading, leaves, next_row, only}
 use Rattle.h5_model.specs.Format.Symbols.{Entry, IsEntry, IsSymbolNode, Target, entries_of, link_of, symbol_block, symbol_bytes, symbols_at, symbols_of, texts_of}
 use Rattle.h5_model.proofs.Frames.{heap-same}
 use Rattle.h5_model.proofs.RowLaws.{only_here, root_level}
+use Rattle.h5_model.proofs.Members.{all_both}
 use Rattle.h5_laws.specs.NameLadders.{key_text, name_sides}
 use Rattle.h5_laws.proofs.Entries.{flat-same}
-use Rattle.h5_laws.proofs.KeyInserts.{all_both}
 use Rattle.h5_laws.proofs.Lists.{all_in, in_all}
 use Rattle.h5_laws.proofs.NameLadders.{name_order}
 use Rattle.h5_space.specs.Space.{Space}

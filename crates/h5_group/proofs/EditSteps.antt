@@ -1,14 +1,14 @@
 -- Steps of an edit of a group, one after another.
 use Rattle.std.proofs.Common.{◌≡◌, ℕ, inl, inr, Bool, true, false, List, [], ◌∷◌, option_map, Some, refl, sym, ap, ◌∙◌, subst}
 use Rattle.std.specs.Prelude.{◌==◌, ◌++◌, if◌then◌else◌, slice_get}
-use Rattle.std.specs.List.{Contains}
 use Rattle.std.proofs.lemmas.Option.{same_Some}
 use Rattle.h5_bytes.specs.declared.Block.{Block}
-use Rattle.h5_laws.proofs.Ascending.{before_trans}
-use Rattle.h5_laws.proofs.Lists.{In, contains_in}
+use Rattle.h5_laws.proofs.Ascending.{before_trans, ascend_tail}
+use Rattle.h5_laws.proofs.Lists.{In}
 use Rattle.h5_model.specs.Format.Addresses.{SymbolTable}
 use Rattle.h5_model.specs.Format.Links.{Ascend, Before}
 use Rattle.h5_model.specs.Format.Symbols.{Entry, Target}
+use Rattle.h5_model.proofs.TextOrder.{before_itself}
 use Rattle.h5_space.specs.Space.{Space}
 use Rattle.h5_space.proofs.MovesLaws.{moves_then}
 use Rattle.h5_snod.specs.Entries.{symbol_from}
@@ -17,7 +17,6 @@ use Rattle.h5_snod.specs.declared.entry.SymbolTarget.{SymbolTarget}
 use Rattle.h5_snod.specs.declared.entry.SymbolTarget.TheVariants as target
 use Rattle.h5_group.specs.Edited.{HasGroupMoved, offsets_of}
 use Rattle.h5_group.specs.Removal.{offsets_named}
-use Rattle.h5_group.proofs.Searched.{before_itself}
 
 pub moved_then : (s t u : Space) (table : SymbolTable) (before : List Block) (links links' : List (List ℕ × Target)) (spare spare' : List ℕ)
     (m : HasGroupMoved s t table before links spare) → HasGroupMoved t u table m.blocks links' spare' → HasGroupMoved s u table before links' spare'
@@ -27,10 +26,6 @@ moved_then s t u table before links links' spare spare' m n = record {
   moves = moves_then s t u before m.blocks n.blocks m.moves n.moves;
   k = n.k ∙ m.k;
 }
-
--- the first of the spare texts
-pub first_spare : (offset : ℕ) (spare : List ℕ) → Contains (offset ∷ spare) offset
-first_spare offset spare = contains_in offset (offset ∷ spare) (inl refl)
 
 -- ---- an entry that goes, and its texts
 
@@ -50,10 +45,6 @@ entry_read es k r read e is = same_Some (symbol_from e) r (sym (ap (option_map s
 
 -- ---- names that ascend name one link each
 
-ascend_rest : (a : List ℕ × Target) (xs : List (List ℕ × Target)) → Ascend (a ∷ xs) → Ascend xs
-ascend_rest a [] rises = tt
-ascend_rest a (b ∷ xs) rises = rises.1
-
 above_first : (a x : List ℕ × Target) (xs : List (List ℕ × Target)) → Ascend (a ∷ xs) → In x xs → Before a.0 x.0
 above_first a x [] rises at = absurd at
 above_first a x (b ∷ xs) rises (inl e) = subst (λ (y : List ℕ × Target). Before a.0 y.0) e rises.0
@@ -66,4 +57,4 @@ one_link (l ∷ links) name t u rises (inl e) (inr at) =
     absurd (before_itself name (subst (λ (n : List ℕ). Before n name) (ap (λ (x : List ℕ × Target). x.0) e) (above_first l (name, u) links rises at)))
 one_link (l ∷ links) name t u rises (inr at) (inl f) =
     absurd (before_itself name (subst (λ (n : List ℕ). Before n name) (ap (λ (x : List ℕ × Target). x.0) f) (above_first l (name, t) links rises at)))
-one_link (l ∷ links) name t u rises (inr at) (inr also) = one_link links name t u (ascend_rest l links rises) at also
+one_link (l ∷ links) name t u rises (inr at) (inr also) = one_link links name t u (ascend_tail l links rises) at also

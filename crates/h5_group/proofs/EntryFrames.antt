@@ -12,7 +12,7 @@ use Rattle.h5_model.specs.Format.Superblock.{leaf_k, internal_k}
 use Rattle.h5_model.specs.Format.Heap.{heap_blocks, segment_block, segment_of}
 use Rattle.h5_model.specs.Format.Nodes.{HasTree, Kind, node_block, reading_of, tree_blocks}
 use Rattle.h5_model.specs.Format.Symbols.{IsSymbolNode, Target, entries_of, symbol_block, symbol_bytes, symbols_at, symbols_of}
-use Rattle.h5_model.proofs.Frames.{heap-same, reading-same, tree-same}
+use Rattle.h5_model.proofs.Frames.{heap-same, reading-same, tree-same, read-same, each-same}
 use Rattle.h5_model.proofs.RowLaws.{only_here}
 use Rattle.h5_laws.proofs.Entries.{flat-same}
 use Rattle.h5_space.specs.Space.{Space}
@@ -20,7 +20,6 @@ use Rattle.h5_space.specs.Moves.{Moves}
 use Rattle.h5_btree.proofs.BlocksInside.{inside_held, made_long}
 use Rattle.h5_group.specs.Edited.{IsGroupIn}
 use Rattle.h5_group.specs.Nodes.Trees.{kind_in}
-use Rattle.h5_group.proofs.BlockFrames.{fact_kept, read_kept}
 use Rattle.h5_group.proofs.EditFrames.{internal_kept, leaf_kept, rest_kept}
 
 -- ---- the group's symbol node at this place among its symbol nodes
@@ -132,10 +131,10 @@ module _ (s t : Space) (table : SymbolTable) (links : List (List ℕ × Target))
 
     -- and its other symbol nodes, one by one
     pub fronts_same : AllByRecursion (λ at. symbols_at t.bytes leaf at ≡ symbols_at s.bytes leaf at) front
-    fronts_same = read_kept entries_of (8 + 80 * leaf) s.bytes t.bytes front front_kept
+    fronts_same = read-same s.bytes t.bytes entries_of (8 + 80 * leaf) front front_kept
 
     pub backs_same : AllByRecursion (λ at. symbols_at t.bytes leaf at ≡ symbols_at s.bytes leaf at) back
-    backs_same = read_kept entries_of (8 + 80 * leaf) s.bytes t.bytes back back_kept
+    backs_same = read-same s.bytes t.bytes entries_of (8 + 80 * leaf) back back_kept
 
     -- they are all symbol nodes still, if this one is
     pub formed_still : IsSymbolNode leaf (symbol_bytes t.bytes leaf node) → AllByRecursion (λ at. IsSymbolNode leaf (symbol_bytes t.bytes leaf at)) symbol_nodes
@@ -143,8 +142,8 @@ module _ (s t : Space) (table : SymbolTable) (links : List (List ℕ × Target))
         let P : ℕ → Type 0 = λ at. IsSymbolNode leaf (symbol_bytes s.bytes leaf at) in
         let Q : ℕ → Type 0 = λ at. IsSymbolNode leaf (symbol_bytes t.bytes leaf at) in
         let all = subst (AllByRecursion P) cut (group.linked).formed in
-        let before = fact_kept (IsSymbolNode leaf) (8 + 80 * leaf) s.bytes t.bytes front front_kept (all_left P front (node ∷ back) all) in
-        let behind = fact_kept (IsSymbolNode leaf) (8 + 80 * leaf) s.bytes t.bytes back back_kept (all_right P front (node ∷ back) all).1 in
+        let before = each-same s.bytes t.bytes (IsSymbolNode leaf) (8 + 80 * leaf) front front_kept (all_left P front (node ∷ back) all) in
+        let behind = each-same s.bytes t.bytes (IsSymbolNode leaf) (8 + 80 * leaf) back back_kept (all_right P front (node ∷ back) all).1 in
         subst (AllByRecursion Q) (sym cut) (all_append Q front (node ∷ back) before (here, behind))
 
 -- ---- the entries of a group, cut at one of its symbol nodes

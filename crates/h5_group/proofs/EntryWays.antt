@@ -11,7 +11,7 @@ use Rattle.h5_model.specs.Format.Addresses.{SymbolTable}
 use Rattle.h5_model.specs.Format.Nodes.{Kind, node_at, node_length, node_of, reading_of, tree_blocks}
 use Rattle.h5_model.specs.Format.Rows.{Node, Reading, IsRow, leaves, next_row}
 use Rattle.h5_model.specs.Format.Symbols.{Target}
-use Rattle.h5_model.proofs.Frames.{reading-same, tree-same}
+use Rattle.h5_model.proofs.Frames.{reading-same, tree-same, read-same}
 use Rattle.h5_model.proofs.OneTree.{one_children, one_level, one_owned}
 use Rattle.h5_model.proofs.RowLaws.{at_listed, root_level}
 use Rattle.h5_space.specs.Space.{Space}
@@ -25,7 +25,6 @@ use Rattle.h5_btree.proofs.WayRows.{leaves_here}
 use Rattle.h5_btree.proofs.WaySteps.{way_owned}
 use Rattle.h5_group.specs.Edited.{IsGroupIn}
 use Rattle.h5_group.specs.Nodes.Trees.{kind_in}
-use Rattle.h5_group.proofs.BlockFrames.{read_kept}
 
 -- ---- the child at the end of a way is one of those at the bottom, by its number
 
@@ -94,7 +93,7 @@ module _ (s : Space) (kind : Kind) (root level : ℕ) (way : List Step) (owned l
   -- and the node of level 0 on it has the children that it had
   pub below_kept : (t : Space) → Keeps s.bytes t.bytes (tree_blocks kind owned) → AllByRecursion (λ (step : Step). node_at t.bytes kind step.node ≡ node_at s.bytes kind step.node) way
   below_kept t kept =
-      let same = read_kept (node_of kind) (node_length kind) s.bytes t.bytes owned kept in
+      let same = read-same s.bytes t.bytes (node_of kind) (node_length kind) owned kept in
       go way (way_owned s kind root level way owned list k e) same
     where
       go : (steps : List Step) → AllByRecursion (λ (step : Step). Listed owned step.node) steps → AllByRecursion (λ at. node_at t.bytes kind at ≡ node_at s.bytes kind at) owned

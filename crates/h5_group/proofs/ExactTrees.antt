@@ -14,7 +14,8 @@ use Rattle.h5_model.specs.Format.Symbols.{Entry, Target, entries_of, symbol_bloc
 use Rattle.h5_model.proofs.KLaws.{same_internal, same_leaf}
 use Rattle.h5_model.proofs.OneTree.{children_are, level_is, owned_is}
 use Rattle.h5_model.proofs.RowLaws.{all_listed, at_listed}
-use Rattle.h5_laws.proofs.KeyInserts.{all_both}
+use Rattle.h5_model.proofs.Frames.{read-same}
+use Rattle.h5_model.proofs.Members.{all_both}
 use Rattle.h5_laws.proofs.Lists.{In, all_in, contains_in}
 use Rattle.h5_space.specs.Space.{Space}
 use Rattle.h5_btree.specs.Exact.{AreKeysExact}
@@ -29,7 +30,6 @@ use Rattle.h5_group.specs.KeptNodes.{AreNodesKept}
 use Rattle.h5_group.specs.Nodes.Trees.{kind_in}
 use Rattle.h5_group.specs.Retired.{entry_keys, name_keys}
 use Rattle.h5_group.specs.Told.{blocks_told, links_told, symbol_nodes_told}
-use Rattle.h5_group.proofs.BlockFrames.{read_kept}
 use Rattle.h5_group.proofs.ToldLaws.{symbol_nodes_are_told}
 
 -- ---- rows
@@ -185,14 +185,14 @@ module _ (old new : List ℕ) (leaf : leaf_k new ≡ leaf_k old) (internal : int
   both = all_left (IsKept old new) (trees ++ symbols) (heap_blocks old t.heap) laid
 
   nodes_read : AllByRecursion (λ n. node_at new (kind_in old) n ≡ node_at old (kind_in old) n) has.owned
-  nodes_read = read_kept (node_of (kind_in old)) (node_length (kind_in old)) old new has.owned (all_left (IsKept old new) trees symbols both)
+  nodes_read = read-same old new (node_of (kind_in old)) (node_length (kind_in old)) has.owned (all_left (IsKept old new) trees symbols both)
 
   pub exact-same : HasExactKeys old t → HasExactKeys new t
   exact-same = exact_kept old new t leaf (ap group_kind internal) has.level has.owned has.symbol_nodes has.tree
       (λ n owns.
       let here = at_listed (λ m. node_at new (kind_in old) m ≡ node_at old (kind_in old) m) has.owned n nodes_read owns in
       (ap (λ (o : Node). o.keys) here, ap (λ (o : Node). o.children) here, ap (λ (o : Node). o.level) here))
-      (read_kept entries_of (8 + 80 * leaf_k old) old new has.symbol_nodes (all_right (IsKept old new) trees symbols both))
+      (read-same old new entries_of (8 + 80 * leaf_k old) has.symbol_nodes (all_right (IsKept old new) trees symbols both))
 
 -- ---- a group without symbol nodes
 

@@ -16,9 +16,10 @@ use Rattle.h5_model.specs.Format.Rows.{Node}
 use Rattle.h5_model.specs.Format.Symbols.{Entry, Target, symbols_at}
 use Rattle.h5_model.specs.Tree.Paths.{is_name}
 use Rattle.h5_model.proofs.RowLaws.{at_listed}
+use Rattle.h5_model.proofs.Frames.{read-same}
+use Rattle.h5_model.proofs.Members.{all_both}
 use Rattle.h5_laws.specs.KeyEdits.{IsPut}
 use Rattle.h5_laws.specs.NameLadders.{key_text}
-use Rattle.h5_laws.proofs.KeyInserts.{all_both}
 use Rattle.h5_laws.proofs.Lists.{In, all_in, in_right}
 use Rattle.h5_space.specs.Space.{Space}
 use Rattle.h5_btree.specs.Exact.{AreKeysExact}
@@ -33,7 +34,6 @@ use Rattle.h5_group.specs.Exact.{AreSymbolsFilled, HasExactKeys, HasKeysFor}
 use Rattle.h5_group.specs.Nodes.Trees.{kind_in}
 use Rattle.h5_group.specs.Retired.{entry_keys, name_keys}
 use Rattle.h5_group.specs.SymbolEdits.{IsSymbolsRewritten}
-use Rattle.h5_group.proofs.BlockFrames.{read_kept}
 use Rattle.h5_group.proofs.EntryFrames.{backs_same, fronts_same, internal_same, leaf_same, trees_kept}
 use Rattle.h5_group.proofs.EntryWays.{end_cut, ends_own}
 use Rattle.h5_group.proofs.ExactTrees.{keys_so, root_level_kept, told_kept}
@@ -97,7 +97,7 @@ module _ (s t : Space) (table : SymbolTable) (node k : ℕ) (e : Entry) (set : I
   kind_is = ap group_kind (internal_same s t table links (offsets_of e ++ spare) blocks group node (take w.number list) (drop (suc w.number) list) cut set.moves)
 
   nodes_same : AllByRecursion (λ n. node_at t.bytes kind n ≡ node_at s.bytes kind n) own
-  nodes_same = read_kept (node_of kind) (node_length kind) s.bytes t.bytes own
+  nodes_same = read-same s.bytes t.bytes (node_of kind) (node_length kind) own
       (trees_kept s t table links (offsets_of e ++ spare) blocks group node (take w.number list) (drop (suc w.number) list) cut set.moves)
 
   keeps : (n : ℕ) → Owns own n → KeepsEntries s.bytes t.bytes kind n

@@ -1,6 +1,6 @@
 -- The first entry of a group without symbol nodes: in a new symbol node, the root's only child, between the empty name and its own (File
 -- Format Specification 3.0, sections III.A.1 and III.B).
-use Rattle.std.proofs.Common.{◌≡◌, inl, inr, ℕ, ◌^◌, ◌<◌, ◌≤◌, true, IsTrue, List, [], ◌∷◌, ◌++◌, map, length, refl, sym, ap, ◌∙◌, subst, arith}
+use Rattle.std.proofs.Common.{◌≡◌, inl, inr, ℕ, ◌^◌, ◌<◌, ◌≤◌, IsTrue, List, [], ◌∷◌, ◌++◌, map, length, refl, sym, ap, ◌∙◌, subst, arith}
 use Rattle.std.specs.Bool.{⊤}
 use Rattle.std.specs.List.{AllByRecursion, Contains, flat_map}
 use Rattle.h5_bytes.specs.Blocks.{cover, Inside, IsKept, Keeps}
@@ -45,12 +45,7 @@ use Rattle.h5_group.proofs.ExactTrees.{keys_so, told_so}
 use Rattle.h5_group.proofs.GrownGroup.{entry_grown}
 use Rattle.h5_group.proofs.Ways.{all_inside}
 use Rattle.h5_group.proofs.MovedNames.{names_of}
-
--- ---- the empty name
-
-pub empty_before : (name : List ℕ) → is_name name ≡ true → Before [] name
-empty_before [] is = cc
-empty_before (n ∷ name) is = refl
+use Rattle.h5_group.proofs.EntryOrder.{above_empty}
 
 -- ---- a group's blocks are there
 
@@ -195,7 +190,7 @@ module _ (s u t : Space) (table : SymbolTable) (links : List (List ℕ × Target
       ordered : AllByRecursion (λ at. IsOrdered new_rows S segment (new_rows at)) all
       ordered =
           let text : List ℕ → List ℕ = key_text segment in
-          let ends = name_let_in text x low high low_text high_text (empty_before x named) in
+          let ends = name_let_in text x low high low_text high_text (above_empty x named) in
           group_ordered t.bytes kind root 0 all (new ∷ []) put.tree S segment
           (first_sorted (name_sides text) (λ (b : List (List ℕ)). b) (λ (b : List (List ℕ)). ⊤) x t.bytes kind root (names_at_child S segment) low high new
           keys children tt names ends.right ends.left (name_through text low high x ends.right ends.left)).0

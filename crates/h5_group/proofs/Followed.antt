@@ -4,7 +4,7 @@ use Rattle.std.specs.Prelude.{map, false}
 use Rattle.std.specs.List.{AllByRecursion, Contains}
 use Rattle.h5_bytes.specs.Blocks.{holds, cover, Separate, Inside}
 use Rattle.h5_bytes.specs.declared.Block.{Block}
-use Rattle.h5_bytes.proofs.BlockLaws.{holds_in, cover-append, all_append, all_right}
+use Rattle.h5_bytes.proofs.BlockLaws.{holds_in, cover-append, all_append, all_right, all_so}
 use Rattle.h5_model.specs.Format.Addresses.{SymbolTable}
 use Rattle.h5_model.specs.Format.Superblock.{leaf_k}
 use Rattle.h5_model.specs.Format.Heap.{heap_blocks}
@@ -25,10 +25,6 @@ use Rattle.h5_group.specs.Walk.{IsGroupMet, IsGroupFollowed, IsHard, entry_field
 use Rattle.h5_group.proofs.HeapSteps.{heap_field, segment_field, heap_walked}
 
 -- ---- symbol nodes that hold a byte
-
-all_so : {X : Type 0} (P Q : X → Type 0) (xs : List X) → ((x : X) → P x → Q x) → AllByRecursion P xs → AllByRecursion Q xs
-all_so P Q [] so all = tt
-all_so P Q (x ∷ xs) so all = (so x all.0, all_so P Q xs so all.1)
 
 held_among : (leaf p at : ℕ) (nodes : List ℕ) → In at nodes → holds p at (8 + 80 * leaf) ≤ cover p (map (symbol_block leaf) nodes)
 held_among leaf p at [] there = absurd there

@@ -1,5 +1,5 @@
 -- Links stay where the texts that they and the keys of their tree name do.
-use Rattle.std.proofs.Common.{◌≡◌, ℕ, zero, suc, ◌+◌, ◌<◌, inl, inr, Bool, true, false, List, [], ◌∷◌, ◌++◌, map, length, refl, sym, ◌∙◌, ap₂, subst}
+use Rattle.std.proofs.Common.{◌≡◌, ℕ, zero, suc, ◌+◌, ◌<◌, inl, inr, Bool, true, false, List, [], ◌∷◌, ◌++◌, map, length, refl, sym, ◌∙◌, subst}
 use Rattle.std.specs.Prelude.{◌==◌, if◌then◌else◌, slice_index_or}
 use Rattle.std.specs.List.{AllByRecursion, flat_map, list_any}
 use Rattle.h5_bytes.specs.Bytes.{byte_at, number_at}
@@ -13,22 +13,13 @@ use Rattle.h5_model.specs.Format.Links.{AreLinks, IsOrdered, IsBetween, Symbols,
 use Rattle.h5_model.proofs.RowLaws.{at_listed}
 use Rattle.h5_heap.proofs.NameLaws.{each_of}
 use Rattle.h5_heap.proofs.RefusedLaws.{empty_text}
+use Rattle.h5_btree.proofs.OrderLaws.BetweenLaws.{each_down}
+use Rattle.h5_btree.proofs.KeyedKeys.{all_unmapped}
+use Rattle.h5_btree.proofs.RetiredNodes.{map_same}
 
 number_of_none : offset_in [] ≡ 0
 unfolding number_at
 number_of_none = refl
-
-map_same : (f g : Entry → List ℕ) (es : List Entry) → AllByRecursion (λ e. f e ≡ g e) es → map f es ≡ map g es
-map_same f g [] same = refl
-map_same f g (e ∷ es) same = ap₂ (λ (x : List ℕ) (xs : List (List ℕ)). x ∷ xs) same.0 (map_same f g es same.1)
-
-pub all_map : {X Y : Type 0} (f : X → Y) (P : Y → Type 0) (xs : List X) → AllByRecursion P (map f xs) → AllByRecursion (λ x. P (f x)) xs
-all_map f P [] all = tt
-all_map f P (x ∷ xs) all = (all.0, all_map f P xs all.1)
-
-all_flat : {X Y : Type 0} (f : X → List Y) (P : Y → Type 0) (xs : List X) → AllByRecursion P (flat_map f xs) → AllByRecursion (λ x. AllByRecursion P (f x)) xs
-all_flat f P [] all = tt
-all_flat f P (x ∷ xs) all = (all_left P (f x) (flat_map f xs) all, all_flat f P xs (all_right P (f x) (flat_map f xs) all))
 
 module _ (old new : List ℕ) where
   -- the text at an offset is as before
@@ -108,7 +99,7 @@ module _ (old new : List ℕ) where
       → (n : ℕ) → AllByRecursion (λ (e : Entry). IsTextKept e.name) (only [] f ns n)
   each_kept f ns kept n = by (list_any (λ (m : ℕ). m == n) ns) refl where
     names : AllByRecursion (λ (m : ℕ). AllByRecursion (λ (e : Entry). IsTextKept e.name) (only [] f ns m)) ns
-    names = all_flat (only [] f ns) (λ (e : Entry). IsTextKept e.name) ns (all_map (λ (e : Entry). e.name) IsTextKept (flat_map (only [] f ns) ns) kept)
+    names = each_down (λ (e : Entry). IsTextKept e.name) (only [] f ns) ns (all_unmapped IsTextKept (λ (e : Entry). e.name) (flat_map (only [] f ns) ns) kept)
 
     by : (b : Bool) → list_any (λ (m : ℕ). m == n) ns ≡ b → AllByRecursion (λ (e : Entry). IsTextKept e.name) (only [] f ns n)
     by true is = at_listed (λ (m : ℕ). AllByRecursion (λ (e : Entry). IsTextKept e.name) (only [] f ns m)) ns n names is

@@ -11,7 +11,7 @@ use Rattle.h5_model.specs.Format.Rows.{Node, Reading, blank}
 use Rattle.h5_model.specs.Format.Nodes.{Kind, group_kind, node_at, node_block, node_length, node_of, reading_of, tree_blocks}
 use Rattle.h5_model.specs.Format.Symbols.{Entry, Target, IsSymbolNode, symbol_block, symbols_at, symbols_of, entries_of, texts_of}
 use Rattle.h5_model.specs.Format.Links.{AreLinks, HasLinks, Symbols, offset_in, key_offsets}
-use Rattle.h5_model.proofs.Frames.{reading-same, tree-same}
+use Rattle.h5_model.proofs.Frames.{reading-same, tree-same, read-same, each-same}
 use Rattle.h5_model.proofs.RowLaws.{only-same, only_here}
 use Rattle.h5_laws.proofs.Entries.{flat-same}
 use Rattle.h5_laws.proofs.Lists.{In, in_all, in_contains}
@@ -21,14 +21,14 @@ use Rattle.h5_space.specs.Whole.{IsApart}
 use Rattle.h5_heap.specs.Edited.{IsStandingHeap, free_blocks}
 use Rattle.h5_heap.proofs.EditedLaws.{standing_heap}
 use Rattle.h5_btree.proofs.BlocksInside.{inside_held, made_long}
+use Rattle.h5_btree.proofs.KeyedKeys.{all_unmapped}
 use Rattle.h5_group.specs.Edited.{IsGroupIn, HasGroupMoved}
 use Rattle.h5_group.specs.KeptNodes.{AreNodesKept, keys_told}
 use Rattle.h5_group.specs.Nodes.Trees.{kind_in}
 use Rattle.h5_group.specs.Told.{nodes_told, symbol_nodes_told}
 use Rattle.h5_group.proofs.ToldLaws.{nodes_are_told, symbol_nodes_are_told}
-use Rattle.h5_group.proofs.BlockFrames.{fact_kept, read_kept}
 use Rattle.h5_group.proofs.EditFrames.{rest_kept, k_kept, leaf_kept, internal_kept, group_apart, group_moves, still_long}
-use Rattle.h5_group.proofs.HeapLinks.{IsTextKept, begin_kept, keys_kept, links_stay, all_map}
+use Rattle.h5_group.proofs.HeapLinks.{IsTextKept, begin_kept, keys_kept, links_stay}
 
 -- the offsets in the keys of a tree's nodes, as they stand
 pub keys_there : (image : List ℕ) (kind : Kind) (ns : List ℕ) → key_offsets (node_at image kind) ns ≡ key_offsets (reading_of image kind ns) ns
@@ -46,7 +46,7 @@ kept_nodes s t table (n ∷ ns) same kept =
     let Stays = IsTextKept (segment_of s.bytes table.heap) (segment_of t.bytes table.heap) in
     let own = (node_at s.bytes (kind_in s.bytes) n).keys in
     let more = key_offsets (node_at s.bytes (kind_in s.bytes)) ns in
-    ((same.0, all_map offset_in Stays own (all_left Stays (map offset_in own) more kept)), kept_nodes s t table ns same.1 (all_right Stays (map offset_in own) more kept))
+    ((same.0, all_unmapped Stays offset_in own (all_left Stays (map offset_in own) more kept)), kept_nodes s t table ns same.1 (all_right Stays (map offset_in own) more kept))
 
 -- keys name an offset where those that the image tells do
 pub unnamed_told : (s : Space) (table : SymbolTable) (links : List (List ℕ × Target)) (spare : List ℕ) (blocks : List Block) (g : IsGroupIn s table links spare blocks)
@@ -152,7 +152,7 @@ module _ (s : Space) (table : SymbolTable) (links : List (List ℕ × Target)) (
     tree_same = reading-same s.bytes t.bytes kind owned tree_kept
 
     symbols_same : symbols_of t.bytes leaf symbol_nodes ≡ symbols_of s.bytes leaf symbol_nodes
-    symbols_same = only-same [] (symbols_at s.bytes leaf) (symbols_at t.bytes leaf) symbol_nodes (read_kept entries_of (8 + 80 * leaf) s.bytes t.bytes symbol_nodes nodes_kept)
+    symbols_same = only-same [] (symbols_at s.bytes leaf) (symbols_at t.bytes leaf) symbol_nodes (read-same s.bytes t.bytes entries_of (8 + 80 * leaf) symbol_nodes nodes_kept)
 
     -- the symbol nodes have their entries still
     pub entries_stay : (node : ℕ) → Contains (symbol_nodes_told s.bytes table) node → symbols_at t.bytes (leaf_k t.bytes) node ≡ symbols_at s.bytes leaf node
@@ -160,7 +160,7 @@ module _ (s : Space) (table : SymbolTable) (links : List (List ℕ × Target)) (
         let own : In node symbol_nodes
         = subst (In node) (sym (symbol_nodes_are_told s.bytes table links blocks g.linked)) (in_contains node (symbol_nodes_told s.bytes table) there) in
         ap (λ (l : ℕ). symbols_at t.bytes l node) leaf_is
-        ∙ in_all (λ n. symbols_at t.bytes leaf n ≡ symbols_at s.bytes leaf n) node symbol_nodes (read_kept entries_of (8 + 80 * leaf) s.bytes t.bytes symbol_nodes nodes_kept) own
+        ∙ in_all (λ n. symbols_at t.bytes leaf n ≡ symbols_at s.bytes leaf n) node symbol_nodes (read-same s.bytes t.bytes entries_of (8 + 80 * leaf) symbol_nodes nodes_kept) own
 
     -- links in these blocks, with these loose texts
     abbrev Linked : ℕ → ℕ → List ℕ → Type 0
@@ -187,7 +187,7 @@ module _ (s : Space) (table : SymbolTable) (links : List (List ℕ × Target)) (
           owned = owned;
           symbol_nodes = symbol_nodes;
           tree = tree-same s.bytes t.bytes kind owned tree_kept table.tree (g.linked).level symbol_nodes (g.linked).tree;
-          formed = fact_kept (IsSymbolNode leaf) (8 + 80 * leaf) s.bytes t.bytes symbol_nodes nodes_kept (g.linked).formed;
+          formed = each-same s.bytes t.bytes (IsSymbolNode leaf) (8 + 80 * leaf) symbol_nodes nodes_kept (g.linked).formed;
           listed = listed_then.0;
           laid = refl;
         },
@@ -223,7 +223,7 @@ module _ (s : Space) (table : SymbolTable) (links : List (List ℕ × Target)) (
 
       -- the nodes stay, and their keys
       pub nodes_stay : AreNodesKept s t table owned
-      nodes_stay = kept_nodes s t table owned (read_kept (node_of kind) (node_length kind) s.bytes t.bytes owned tree_kept)
+      nodes_stay = kept_nodes s t table owned (read-same s.bytes t.bytes (node_of kind) (node_length kind) owned tree_kept)
           (subst (AllByRecursion (IsTextKept segment new_segment)) (sym (keys_there s.bytes kind owned)) keys_stay)
 
       pub told_stay : keys_told t.bytes table ≡ keys_told s.bytes table

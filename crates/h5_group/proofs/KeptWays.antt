@@ -12,6 +12,7 @@ use Rattle.h5_model.specs.Format.Nodes.{HasTree, Kind, group_kind, node_at, node
 use Rattle.h5_model.specs.Format.Rows.{Node, Reading, blank}
 use Rattle.h5_model.specs.Format.Symbols.{Target, entries_of, symbol_block, symbols_at}
 use Rattle.h5_model.proofs.RowLaws.{at_listed}
+use Rattle.h5_model.proofs.Frames.{read-same}
 use Rattle.h5_laws.proofs.Lists.{In, in_all, in_contains}
 use Rattle.h5_space.specs.Moves.{Moves}
 use Rattle.h5_space.specs.Space.{Space}
@@ -26,7 +27,6 @@ use Rattle.h5_group.specs.Edited.{IsGroupIn}
 use Rattle.h5_group.specs.Nodes.Trees.{kind_in}
 use Rattle.h5_group.specs.Told.{symbol_nodes_told}
 use Rattle.h5_group.specs.Ways.{AreWaysKept}
-use Rattle.h5_group.proofs.BlockFrames.{read_kept}
 use Rattle.h5_group.proofs.EditFrames.{internal_kept, leaf_kept, rest_kept}
 use Rattle.h5_group.proofs.EntryWays.{below_kept, ends_kept, owned_same}
 use Rattle.h5_group.proofs.ExactTrees.{told_kept}
@@ -85,7 +85,7 @@ module _ (s t : Space) (table : SymbolTable) (links : List (List ℕ × Target))
   kind_same = ap group_kind (internal_kept s t table links spare blocks g heap heap (trees ++ symbols) moves parted within)
 
   nodes_same : AllByRecursion (λ n. node_at t.bytes kind n ≡ node_at s.bytes kind n) owned
-  nodes_same = read_kept (node_of kind) (node_length kind) s.bytes t.bytes owned trees_kept
+  nodes_same = read-same s.bytes t.bytes (node_of kind) (node_length kind) owned trees_kept
 
   keeps : (n : ℕ) → Owns owned n → KeepsEntries s.bytes t.bytes kind n
   keeps n owns =
@@ -104,7 +104,7 @@ module _ (s t : Space) (table : SymbolTable) (links : List (List ℕ × Target))
     step_kept = below_kept s kind table.tree level way owned' list number e t own_kept
 
   symbols_same : AllByRecursion (λ at. symbols_at t.bytes leaf at ≡ symbols_at s.bytes leaf at) (g.linked).symbol_nodes
-  symbols_same = read_kept entries_of (8 + 80 * leaf) s.bytes t.bytes (g.linked).symbol_nodes (all_right (IsKept s.bytes t.bytes) trees symbols kept)
+  symbols_same = read-same s.bytes t.bytes entries_of (8 + 80 * leaf) (g.linked).symbol_nodes (all_right (IsKept s.bytes t.bytes) trees symbols kept)
 
   -- ALL WAYS STAY
   pub heap_ways_kept : AreWaysKept s t table

@@ -4,7 +4,7 @@ use Rattle.std.specs.List.{AllByRecursion}
 use Rattle.h5_bytes.proofs.BlockLaws.{all_append, all_left, all_right}
 use Rattle.h5_model.specs.Format.Links.{key_offsets, offset_in}
 use Rattle.h5_model.specs.Format.Rows.{Reading}
-use Rattle.h5_group.proofs.WriteLaws.NameTrees.{all_mapped, all_unmapped}
+use Rattle.h5_btree.proofs.KeyedKeys.{all_mapped, all_unmapped}
 
 module _ (V : Reading) (P : ℕ → Type 0) where
   abbrev pub HoldsOfKeys : ℕ → Type 0

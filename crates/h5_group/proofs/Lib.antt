@@ -13,7 +13,6 @@ pub mod NodeLaws
 pub mod TextProofs
 pub mod OrderProofs
 pub mod WriteLaws
-pub mod BlockFrames
 pub mod EditFrames
 pub mod EditSteps
 pub mod Ways

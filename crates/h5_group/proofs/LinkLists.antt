@@ -1,5 +1,5 @@
 -- Lists of links and of entries with one more, or with one less, and what holds of them still.
-use Rattle.std.proofs.Common.{◌≡◌, ℕ, ◌==◌, Bool, true, false, List, [], ◌∷◌, ◌++◌, map, refl, ap, if◌then◌else◌}
+use Rattle.std.proofs.Common.{◌≡◌, ℕ, zero, suc, ◌==◌, Bool, true, false, List, [], ◌∷◌, ◌++◌, map, take, inl, inr, refl, ap, if◌then◌else◌}
 use Rattle.std.proofs.lemmas.List.{map-append}
 use Rattle.std.specs.List.{AllByRecursion, flat_map, list_any}
 use Rattle.h5_bytes.specs.Texts.{text_at}
@@ -9,10 +9,19 @@ use Rattle.h5_model.specs.Format.Rows.{Node, Reading, only}
 use Rattle.h5_model.specs.Format.Symbols.{Entry, Target, link_of}
 use Rattle.h5_model.proofs.RowLaws.{at_listed}
 use Rattle.h5_laws.proofs.Ascending.{before_trans}
+use Rattle.h5_laws.proofs.Lists.{In}
 use Rattle.h5_btree.proofs.KeyedNames.{AreAscending, ascending_taken}
-use Rattle.h5_group.proofs.WriteLaws.NameTrees.{all_mapped, all_unmapped}
+use Rattle.h5_btree.proofs.KeyedKeys.{all_mapped, all_unmapped}
 
 -- ---- one more in a list, and one less
+
+-- what is in the first of a list is in the list
+pub in_take : {X : Type 0} (x : X) (xs : List X) (n : ℕ) → In x (take n xs) → In x xs
+in_take x [] zero at = at
+in_take x [] (suc n) at = at
+in_take x (y ∷ ys) zero at = absurd at
+in_take x (y ∷ ys) (suc n) (inl is) = inl is
+in_take x (y ∷ ys) (suc n) (inr at) = inr (in_take x ys n at)
 
 pub all_put : {X : Type 0} (P : X → Type 0) (xs : List X) (y : X) (ys : List X) → AllByRecursion P (xs ++ ys) → P y → AllByRecursion P (xs ++ y ∷ ys)
 all_put P xs y ys all here = all_append P xs (y ∷ ys) (all_left P xs ys all) (here, all_right P xs ys all)

@@ -26,12 +26,9 @@ use Rattle.h5_group.specs.Order.Ordered.{AreNamesOrdered}
 use Rattle.h5_group.specs.Links.{IsGroupRead}
 use Rattle.h5_group.specs.Told.{nodes_told, symbol_nodes_told, links_told, blocks_told}
 use Rattle.h5_laws.proofs.NameLadders.{own_order}
+use Rattle.h5_btree.proofs.KeyedKeys.{all_mapped}
 use Rattle.h5_group.proofs.ToldLaws.{links_are_told}
 use Rattle.h5_group.proofs.NodeLaws.GroupLaws.{nodes_formed, entries_known}
-
-all_mapped : {X Y : Type 0} (P : Y → Type 0) (f : X → Y) (xs : List X) → AllByRecursion (λ x. P (f x)) xs → AllByRecursion P (map f xs)
-all_mapped P f [] all = tt
-all_mapped P f (x ∷ xs) all = (all.0, all_mapped P f xs all.1)
 
 module _ (image : List ℕ) (table : SymbolTable) (owned symbol_nodes : List ℕ) (tree : IsTree image OfGroup table.tree owned symbol_nodes) where
   abbrev segment : List ℕ

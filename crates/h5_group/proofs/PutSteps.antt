@@ -12,18 +12,19 @@ use Rattle.h5_model.specs.Format.Heap.{segment_of}
 use Rattle.h5_model.specs.Format.Symbols.{Entry, Target, entry_of, link_of, symbol_bytes, symbols_in}
 use Rattle.h5_model.specs.Tree.Paths.{is_name}
 use Rattle.h5_space.specs.Space.{Space}
+use Rattle.h5_heap.proofs.TakenLaws.{contains_head}
 use Rattle.h5_btree.specs.Removal.{EndsInTree}
 use Rattle.h5_btree.specs.declared.way.Step.{Step}
 use Rattle.h5_group.specs.Edited.{HasEntryPut, HasGroupMoved, IsEntryFor, IsGroupIn, IsLinkPut, IsNewName, entries_below, node_below, offsets_of}
 use Rattle.h5_group.specs.Nodes.Trees.{kind_in}
 use Rattle.h5_group.proofs.DropCalls.{end_told}
-use Rattle.h5_group.proofs.EditSteps.{first_spare, moved_then}
+use Rattle.h5_group.proofs.EditSteps.{moved_then}
 use Rattle.h5_group.proofs.Standing.{node_formed}
 use Rattle.h5_group.proofs.Ways.{group_read}
 
 -- the name is the first of the texts that an entry names
 pub name_first : (e : Entry) (spare : List ℕ) → Contains (offsets_of e ++ spare) e.name
-name_first e spare = first_spare e.name ((if e.cache == 2 then e.text ∷ [] else []) ++ spare)
+name_first e spare = contains_head e.name ((if e.cache == 2 then e.text ∷ [] else []) ++ spare)
 
 -- ---- after keys gave way, for a text that no link names
 

@@ -18,7 +18,7 @@ use Rattle.h5_model.proofs.NumberLaws.{reads_back}
 use Rattle.h5_model.proofs.OneTree.{level_is, owned_is}
 use Rattle.h5_model.proofs.RowLaws.{leaves-same, nodes-same}
 use Rattle.h5_model.proofs.KLaws.{same_internal}
-use Rattle.h5_laws.proofs.KeyInserts.{all_both}
+use Rattle.h5_model.proofs.Members.{all_both}
 use Rattle.h5_space.specs.Space.{Space}
 use Rattle.h5_heap.proofs.EditedLaws.{segment_long}
 use Rattle.h5_heap.specs.declared.write.link.ObjectPlace.{ObjectPlace}

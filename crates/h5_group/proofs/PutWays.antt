@@ -19,13 +19,14 @@ use Rattle.h5_laws.specs.Ladders.{IsOrderly}
 use Rattle.h5_laws.specs.NameLadders.{key_text, name_sides}
 use Rattle.h5_laws.proofs.NameLadders.{name_order}
 use Rattle.h5_space.specs.Space.{Space}
+use Rattle.h5_space.proofs.AddressLaws.{all_at}
 use Rattle.h5_btree.specs.Descent.{IsChildFor, IsWayTo}
 use Rattle.h5_btree.specs.Insertion.{IsFullWay}
 use Rattle.h5_btree.specs.declared.way.Step.{Step}
 use Rattle.h5_btree.proofs.NameFound.{name_behind}
 use Rattle.h5_btree.proofs.NodeLaws.{length-keys, length-children}
 use Rattle.h5_btree.proofs.TreeReadings.{Listed}
-use Rattle.h5_btree.proofs.WaySteps.{all_at, all_map, way_owned}
+use Rattle.h5_btree.proofs.WaySteps.{way_owned}
 use Rattle.h5_btree.proofs.WaysDown.{FallsAt, one_way}
 use Rattle.h5_group.specs.Edited.{IsGroupIn, entries_below, heap_text, node_below}
 use Rattle.h5_group.specs.KeptNodes.{AreNodesKept}
@@ -58,7 +59,7 @@ module _ (V : Reading) (segment name : List ℕ) where
   pub name_way : (level at : ℕ) (way way' : List Step) → IsWayTo V (name_behind segment name) level at way → IsWayTo V (name_behind segment name) level at way'
       → AllByRecursion IsRisingStep way → way ≡ way'
   name_way level at way way' to to' all =
-      one_way (name_behind segment name) V level at way way' to to' (all_map IsRisingStep (FallsAt (name_behind segment name) V) falls way all)
+      one_way (name_behind segment name) V level at way way' to to' (all_so IsRisingStep (FallsAt (name_behind segment name) V) way falls all)
 
 -- ---- a way stays
 
@@ -73,8 +74,8 @@ module _ (V W : Reading) (was now : List ℕ → Bool) where
       let low = c.child in
       record {
         child = c.child;
-        low = λ some. all_at (λ key. now key ≡ was key) node.keys i [] (omega (arith, long, low)) all ∙ c.low some;
-        high = λ more. all_at (λ key. now key ≡ was key) node.keys (i + 1) [] (omega (arith, long, low)) all ∙ c.high more;
+        low = λ some. all_at (λ key. now key ≡ was key) node.keys i [] all (omega (arith, long, low)) ∙ c.low some;
+        high = λ more. all_at (λ key. now key ≡ was key) node.keys (i + 1) [] all (omega (arith, long, low)) ∙ c.high more;
       }
 
   pub way_kept : (level at : ℕ) (way : List Step) → IsWayTo V was level at way → AllByRecursion IsSameStep way → IsWayTo W now level at way
@@ -129,9 +130,7 @@ module _ (s : Space) (table : SymbolTable) (links : List (List ℕ × Target)) (
       let levels : w'.level ≡ w.level
       = one_level s.bytes kind table.tree w'.level w.level w'.owned w.owned w'.symbol_nodes w.symbol_nodes w'.ends.tree w.ends.tree in
       let steps : AllByRecursion (IsRisingStep V segment name) way
-      = all_map (λ (step : Step). Listed w.owned step.node) (IsRisingStep V segment name)
-      (λ step at. at_listed Rises w.owned step.node (subst (AllByRecursion Rises) owned_same rising) at) way
-      (way_owned s kind table.tree w.level way w.owned w.symbol_nodes w.number w.ends) in
+      = all_so (λ (step : Step). Listed w.owned step.node) (IsRisingStep V segment name) way (λ step at. at_listed Rises w.owned step.node (subst (AllByRecursion Rises) owned_same rising) at) (way_owned s kind table.tree w.level way w.owned w.symbol_nodes w.number w.ends) in
       name_way V segment name w.level table.tree way way' w.sought
       (subst (λ (l : ℕ). IsWayTo V (name_behind segment name) l table.tree way') levels w'.sought) steps
 
@@ -170,9 +169,7 @@ module _ (s : Space) (table : SymbolTable) (links : List (List ℕ × Target)) (
 
       steps_kept : AllByRecursion (λ (step : Step). IsKeptNode t step.node) way
       steps_kept =
-          all_map (λ (step : Step). Listed w.owned step.node) (λ (step : Step). IsKeptNode t step.node)
-          (λ step at. at_listed (IsKeptNode t) w.owned step.node (subst (AllByRecursion (IsKeptNode t)) owned_is_own kept) at) way
-          (way_owned s kind table.tree w.level way w.owned w.symbol_nodes w.number w.ends)
+          all_so (λ (step : Step). Listed w.owned step.node) (λ (step : Step). IsKeptNode t step.node) way (λ step at. at_listed (IsKeptNode t) w.owned step.node (subst (AllByRecursion (IsKeptNode t)) owned_is_own kept) at) (way_owned s kind table.tree w.level way w.owned w.symbol_nodes w.number w.ends)
 
       abbrev IsSame : Step → Type 0
       IsSame = IsSameStep V W (behind_of s table name) (behind_of t table name)
@@ -191,7 +188,7 @@ module _ (s : Space) (table : SymbolTable) (links : List (List ℕ × Target)) (
       -- the way is one still
       pub way_stays : IsWayOf t table name way
       way_stays =
-          let all = all_map (λ (step : Step). IsKeptNode t step.node) IsSame same_step way steps_kept in
+          let all = all_so (λ (step : Step). IsKeptNode t step.node) IsSame way same_step steps_kept in
           let to : IsWayTo W (behind_of t table name) w.level table.tree way
           = way_kept V W (behind_of s table name) (behind_of t table name) w.level table.tree way w.sought all in
           let level : w.level ≡ (W table.tree).level
@@ -202,7 +199,7 @@ module _ (s : Space) (table : SymbolTable) (links : List (List ℕ × Target)) (
       pub full_before : IsFullWay t.bytes (kind_in t.bytes) way → IsFullWay s.bytes kind way
       full_before full =
           full_kept s.bytes t.bytes kind way
-          (all_map (λ (step : Step). IsKeptNode t step.node) (λ (step : Step). node_at t.bytes kind step.node ≡ V step.node) (λ step is. is.0) way steps_kept)
+          (all_so (λ (step : Step). IsKeptNode t step.node) (λ (step : Step). node_at t.bytes kind step.node ≡ V step.node) way (λ step is. is.0) steps_kept)
           (subst (λ (k : ℕ). IsFullWay t.bytes (group_kind k) way) internal full)
 
       -- with the symbol node at its end as it was

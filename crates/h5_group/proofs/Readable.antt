@@ -1,19 +1,20 @@
 -- A group whose blocks can all be claimed is refused for want of memory alone.
-use Rattle.std.proofs.Common.{◌≡◌, ℕ, zero, suc, ◌+◌, ◌≤◌, inl, inr, List, [], ◌∷◌, ◌++◌, length, refl, ap, ◌∙◌, subst, arith}
+use Rattle.std.proofs.Common.{◌≡◌, ℕ, ◌+◌, ◌≤◌, List, [], ◌∷◌, ◌++◌, length, refl, ap, ◌∙◌, subst, arith}
 use Rattle.h5_bytes.specs.Blocks.{cover, Inside}
 use Rattle.h5_bytes.specs.declared.Block.{Block}
 use Rattle.h5_bytes.proofs.BlockLaws.{all_left, all_right, cover-append}
 use Rattle.h5_model.specs.Format.Addresses.{SymbolTable}
 use Rattle.h5_model.specs.Format.Heap.{heap_blocks}
-use Rattle.h5_model.specs.Format.Rows.{Reading, next_row, row_below, nodes}
+use Rattle.h5_model.specs.Format.Rows.{row_below, nodes}
 use Rattle.h5_model.specs.Format.Nodes.{node_at}
 use Rattle.h5_model.specs.declared.open_fault.Cause.{Cause}
 use Rattle.h5_model.specs.declared.open_fault.Cause.TheVariants.{HeapName, BadName, NameOrder, KeyOrder, NoMemory}
 use Rattle.h5_model.proofs.OneTree.{owned_is, one_owned}
 use Rattle.h5_heap.specs.Refused.{IsHeapReadable}
-use Rattle.h5_laws.proofs.Lists.{In, in_either, in_contains}
+use Rattle.h5_laws.proofs.Lists.{In, in_contains}
 use Rattle.h5_laws.proofs.GroupExcluded.{name_excluded, bad_name_excluded, heap_name_excluded}
 use Rattle.h5_laws.proofs.OrderExcluded.{key_excluded}
+use Rattle.h5_laws.proofs.Rows.{row_of}
 use Rattle.h5_btree.specs.Walk.Forms.{OfGroup}
 use Rattle.h5_btree.specs.Walk.Trees.{IsTree}
 use Rattle.h5_btree.specs.Walk.Readable.{IsTreeReadable}
@@ -22,15 +23,6 @@ use Rattle.h5_group.specs.Texts.Refused.{AreTextsRefused}
 use Rattle.h5_group.specs.Order.Ordered.{IsOrderRefused}
 use Rattle.h5_group.specs.Links.{IsGroupReadable}
 use Rattle.h5_group.proofs.NodeLaws.GroupLaws.{linked_tree}
-
--- a node of a tree stands in one of its rows
-in_some_row : (V : Reading) (level : ℕ) (row : List ℕ) (at : ℕ) → In at (nodes V level row)
-    → (d : ℕ) × (l : ℕ) × (d + l ≡ level) × In at (row_below V d row)
-in_some_row V zero row at there = (0, 0, refl, there)
-in_some_row V (suc level) row at there = elim (in_either at row (nodes V level (next_row V row)) there) [
-  | inl here ↦ (0, suc level, omega arith, here)
-  | inr below ↦ let next = in_some_row V level (next_row V row) at below in (suc next.0, next.1, omega (arith, next.2), next.3)
-]
 
 module _ (image : List ℕ) (table : SymbolTable) (held : List Block) (readable : IsGroupReadable image table held) where
   abbrev tree_part : List Block
@@ -76,7 +68,7 @@ module _ (image : List ℕ) (table : SymbolTable) (held : List Block) (readable 
     own_row at there =
         let same = one_owned image (kind_in image) table.tree tree.level (readable.has).level owned (readable.has).owned symbol_nodes (readable.has).symbol_nodes tree.tree (readable.has).tree in
         let are = owned_is image (kind_in image) table.tree (readable.has).level (readable.has).owned (readable.has).symbol_nodes (readable.has).tree in
-        in_some_row (node_at image (kind_in image)) (readable.has).level (table.tree ∷ []) at (subst (In at) (same ∙ are) there)
+        row_of (node_at image (kind_in image)) (readable.has).level at (table.tree ∷ []) (subst (In at) (same ∙ are) there)
 
     pub order_memory : (cause : Cause) (address : ℕ) → IsOrderRefused image table owned symbol_nodes cause address → cause ≡ NoMemory
     order_memory NoMemory address refused = refl

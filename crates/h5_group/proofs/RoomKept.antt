@@ -7,8 +7,8 @@ use Rattle.std.specs.Ordering.{is_lt, nat_cmp}
 use Rattle.h5_bytes.specs.Blocks.{IsKept, Keeps}
 use Rattle.h5_bytes.specs.declared.Block.{Block}
 use Rattle.h5_bytes.specs.Texts.{text_at}
-use Rattle.h5_bytes.proofs.BlockLaws.{all_append, all_left, all_right}
-use Rattle.h5_laws.proofs.Lists.{In, all_in, in_all, in_flat, in_left}
+use Rattle.h5_bytes.proofs.BlockLaws.{all_append, all_left, all_right, all_so}
+use Rattle.h5_laws.proofs.Lists.{In, all_in, in_all, in_flat}
 use Rattle.h5_laws.proofs.Subtrees.{index_in}
 use Rattle.h5_model.specs.Format.Addresses.{SymbolTable}
 use Rattle.h5_model.specs.Format.Heap.{heap_blocks, segment_of}
@@ -17,20 +17,19 @@ use Rattle.h5_model.specs.Format.Nodes.{Kind, group_kind, node_at, node_bytes, n
 use Rattle.h5_model.specs.Format.Rows.{Node, Reading, leaves, next_row, nodes}
 use Rattle.h5_model.specs.Format.Superblock.{internal_k, leaf_k}
 use Rattle.h5_model.specs.Format.Symbols.{Target, entries_of, symbol_block, symbols_at}
-use Rattle.h5_model.proofs.Frames.{heap-same}
+use Rattle.h5_model.proofs.Frames.{heap-same, read-same}
+use Rattle.h5_laws.proofs.Rows.{row_in_nodes}
 use Rattle.h5_btree.specs.Descent.{IsWayTo}
 use Rattle.h5_btree.specs.Insertion.{IsFullWay}
 use Rattle.h5_btree.specs.declared.way.Step.{Step}
 use Rattle.h5_btree.proofs.NodeLaws.{length-children, length-keys}
 use Rattle.h5_btree.proofs.PlaceFound.{way_ends}
-use Rattle.h5_btree.proofs.WaySteps.{all_map}
 use Rattle.h5_btree.proofs.WaysDown.{first_ends}
 use Rattle.h5_group.specs.LinkEdits.{IsFullFor}
 use Rattle.h5_group.specs.Links.{HasNone, IsGroupRead}
 use Rattle.h5_group.specs.Nodes.Trees.{kind_in}
 use Rattle.h5_group.specs.Told.{blocks_told, nodes_told, symbol_nodes_told}
 use Rattle.h5_group.specs.Ways.{behind_in}
-use Rattle.h5_group.proofs.BlockFrames.{read_kept}
 use Rattle.h5_group.proofs.PutWays.{IsSameStep, full_kept, way_kept}
 use Rattle.h5_group.proofs.ToldLaws.{links_told-same}
 
@@ -53,11 +52,6 @@ module _ (V W : Reading) (behind : List ℕ → Bool) where
       let below = steps_same level (next_row V row) child to.1 there (all_right IsSameNode row (nodes V level (next_row V row)) same) to.3 in
       subst (AllByRecursion (λ (step : Step). IsSameNode step.node)) (sym to.4)
       (all_append (λ (step : Step). IsSameNode step.node) to.1 (record { node = at; place = to.0 } ∷ []) below (first, tt))
-
--- the root is one of the nodes
-in_nodes : (V : Reading) (level at : ℕ) (row : List ℕ) → In at row → In at (nodes V level row)
-in_nodes V zero at row here = here
-in_nodes V (suc level) at row here = in_left at row (nodes V level (next_row V row)) here
 
 -- ---- a group whose blocks keep their bytes
 
@@ -87,11 +81,11 @@ module _ (old new : List ℕ) (leaf : leaf_k new ≡ leaf_k old) (internal : int
   nodes_kept = all_left (IsKept old new) (trees ++ symbols) (heap_blocks old t.heap) kept
 
   nodes_same : AllByRecursion (λ n. W n ≡ V n) (nodes_told old t)
-  nodes_same = read_kept (node_of kind) (node_length kind) old new (nodes_told old t) (all_left (IsKept old new) trees symbols nodes_kept)
+  nodes_same = read-same old new (node_of kind) (node_length kind) (nodes_told old t) (all_left (IsKept old new) trees symbols nodes_kept)
 
   symbols_same : AllByRecursion (λ n. symbols_at new (leaf_k old) n ≡ symbols_at old (leaf_k old) n) (symbol_nodes_told old t)
   symbols_same =
-      read_kept entries_of (8 + 80 * leaf_k old) old new (symbol_nodes_told old t) (all_right (IsKept old new) trees symbols nodes_kept)
+      read-same old new entries_of (8 + 80 * leaf_k old) (symbol_nodes_told old t) (all_right (IsKept old new) trees symbols nodes_kept)
 
   segment_same : segment_of new t.heap ≡ segment_of old t.heap
   segment_same = (heap-same old new t.heap (all_right (IsKept old new) (trees ++ symbols) (heap_blocks old t.heap) kept)).1
@@ -113,7 +107,7 @@ module _ (old new : List ℕ) (leaf : leaf_k new ≡ leaf_k old) (internal : int
 
     root_high : (V t.tree).level ≡ 15
     root_high =
-        let same : W t.tree ≡ V t.tree = in_all (IsSameNode V W was) t.tree (nodes_told old t) nodes_same (in_nodes V (V t.tree).level t.tree (t.tree ∷ []) (inl refl)) in
+        let same : W t.tree ≡ V t.tree = in_all (IsSameNode V W was) t.tree (nodes_told old t) nodes_same (row_in_nodes V (V t.tree).level t.tree (t.tree ∷ []) (inl refl)) in
         ap (λ (n : Node). n.level) (sym same) ∙ subst (λ (k : ℕ). (node_at new (group_kind k) t.tree).level ≡ 15) internal f.high
 
     steps_kept : AllByRecursion (λ (step : Step). W step.node ≡ V step.node) way
@@ -135,7 +129,7 @@ module _ (old new : List ℕ) (leaf : leaf_k new ≡ leaf_k old) (internal : int
     way_there : IsWayTo V now 15 t.tree way
     way_there =
         way_kept W V was now 15 t.tree way sought
-        (all_map (λ (step : Step). W step.node ≡ V step.node) (IsSameStep W V was now) step_kept way steps_kept)
+        (all_so (λ (step : Step). W step.node ≡ V step.node) (IsSameStep W V was now) way step_kept steps_kept)
 
     abbrev bottom : ℕ
     bottom = slice_index (V f.step.node).children f.step.place

@@ -1,11 +1,8 @@
 -- What a search in a symbol node finds.
-use Rattle.std.proofs.Common.{◌≡◌, ℕ, zero, suc, ◌<◌, inl, inr, List, [], ◌∷◌, map, length, take, drop, slice_get, Some, None, option_map, false, true, sym, ap, subst, ◌∙◌, arith, append-nil}
-use Rattle.std.specs.Prelude.{unwrap_or}
+use Rattle.std.proofs.Common.{◌≡◌, ℕ, zero, suc, ◌<◌, inl, inr, List, [], ◌∷◌, map, length, take, drop, slice_get, Some, None, option_map, sym, ap, subst, ◌∙◌, arith, append-nil}
 use Rattle.std.specs.List.{Contains}
-use Rattle.std.specs.Cmp.Lexicographic.{nat_list_cmp_total}
-use Rattle.std.proofs.lemmas.Cmp.{tied_itself}
 use Rattle.std.proofs.lemmas.List.{take-append-drop, length-map}
-use Rattle.std.proofs.lemmas.Option.{slice_get_within}
+use Rattle.std.proofs.lemmas.Option.{slice_get_within, same_Some}
 use Rattle.h5_bytes.specs.Texts.{text_at}
 use Rattle.h5_model.specs.Format.Addresses.{SymbolTable}
 use Rattle.h5_model.specs.Format.Superblock.{leaf_k}
@@ -17,20 +14,18 @@ use Rattle.h5_snod.specs.Names.{IsPlace, entry_names}
 use Rattle.h5_laws.proofs.Lists.{In, in_all, in_either, in_map, in_flat, from_map, in_contains, contains_in}
 use Rattle.h5_group.specs.Told.{symbol_nodes_told, links_told}
 use Rattle.h5_model.specs.declared.link.Link.{Link}
+use Rattle.h5_model.proofs.TextOrder.{before_itself}
 use Rattle.h5_group.specs.Links.{lent_link, IsLinkNamed, HasNone}
 
 -- ---- an entry of this name
-
-same_some : {X : Type 0} (x y : X) → Some x ≡ Some y → x ≡ y
-same_some x y is = ap (λ o. unwrap_or o x) is
 
 -- the entry whose name was found is the link's
 entry_found : (segment : List ℕ) (es : List Entry) (k : ℕ) (name : List ℕ) (l : List ℕ × Target) → slice_get (entry_names segment es) k ≡ Some name
     → option_map (link_of segment) (slice_get es k) ≡ Some l → In l (map (link_of segment) es) × (l.0 ≡ name)
 entry_found segment [] k name l found read = let none : None ≡ Some l = read in cc
 entry_found segment (e ∷ es) zero name l found read =
-    let link : link_of segment e ≡ l = same_some (link_of segment e) l read in
-    let same : text_at segment e.name ≡ name = same_some (text_at segment e.name) name found in
+    let link : link_of segment e ≡ l = same_Some (link_of segment e) l read in
+    let same : text_at segment e.name ≡ name = same_Some (text_at segment e.name) name found in
     (inl link, sym (ap (λ (x : List ℕ × Target). x.0) link) ∙ same)
 entry_found segment (e ∷ es) (suc k) name l found read =
     let rest = entry_found segment es k name l found read in (inr rest.0, rest.1)
@@ -42,9 +37,6 @@ entry_there segment es k name found =
     omega (arith, low, long)
 
 -- ---- a name that no entry has
-
-pub before_itself : (a : List ℕ) → Before a a → ⊥
-before_itself a less = let never : false ≡ true = rw (tied_itself nat_list_cmp_total a) at less in cc
 
 pub no_place : (names : List (List ℕ)) (name : List ℕ) (k : ℕ) → IsPlace names name k → In name names → ⊥
 no_place names name k place there =

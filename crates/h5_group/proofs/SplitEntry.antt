@@ -39,18 +39,12 @@ use Rattle.h5_group.proofs.SplitExact.{put_or_old, split_exact, split_filled}
 use Rattle.h5_group.proofs.SplitFrames.{ahead, all_formed, all_moves, behind, new_flat, old_flat}
 use Rattle.h5_group.proofs.SplitNames.{with_last}
 use Rattle.h5_group.proofs.SplitOrder.{cut, ends_then, split_keys, split_names, split_ordered}
+use Rattle.h5_group.proofs.LinkLists.{in_take}
 
 pub insert_cut : {X : Type 0} (xs : List X) (j : ℕ) (x : X) → j ≤ length xs → insert xs j x ≡ take j xs ++ x ∷ drop j xs
 insert_cut xs zero x low = refl
 insert_cut [] (suc j) x low = absurd (omega (arith, low))
 insert_cut {X} (y ∷ ys) (suc j) x low = ap (λ (zs : List X). y ∷ zs) (insert_cut ys j x (omega (arith, low)))
-
-in_part : {X : Type 0} (x : X) (xs : List X) (n : ℕ) → In x (take n xs) → In x xs
-in_part x [] zero at = at
-in_part x [] (suc n) at = at
-in_part x (y ∷ ys) zero at = absurd at
-in_part x (y ∷ ys) (suc n) (inl is) = inl is
-in_part x (y ∷ ys) (suc n) (inr at) = inr (in_part x ys n at)
 
 module _ (s u t : Space) (table : SymbolTable) (e : Entry) (j new : ℕ) (way : List Step) (w : IsWayFor s table (text_at (segment_of s.bytes table.heap) e.name) way)
     (keys : List ℕ)
@@ -140,7 +134,7 @@ module _ (s u t : Space) (table : SymbolTable) (e : Entry) (j new : ℕ) (way : 
     -- the last entry on the left is the new one, or one of before
     last_old : (last.1 ≡ e) ⊎ In last.1 (take j E ++ drop j E)
     last_old = put_or_old last.1 e (take j E) (drop j E) (subst (In last.1) (insert_cut E j e low)
-        (in_part last.1 (insert E j e) (left_count l j) (subst (In last.1) (sym last.2) (in_right last.1 last.0 (last.1 ∷ []) (inl refl)))))
+        (in_take last.1 (insert E j e) (left_count l j) (subst (In last.1) (sym last.2) (in_right last.1 last.0 (last.1 ∷ []) (inl refl)))))
 
     key_is : offset_in (take 8 keys) ≡ (last.1).name
     key_is = ap offset_in key_word ∙ offset_is (last.1).name (elim last_old [

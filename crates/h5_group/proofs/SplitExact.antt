@@ -19,12 +19,13 @@ use Rattle.h5_model.specs.Format.Rows.{Node}
 use Rattle.h5_model.specs.Format.Symbols.{Entry, Target, symbols_at}
 use Rattle.h5_model.specs.Tree.Paths.{is_name}
 use Rattle.h5_model.proofs.RowLaws.{at_listed}
+use Rattle.h5_model.proofs.Frames.{read-same}
+use Rattle.h5_model.proofs.Members.{all_both}
 use Rattle.h5_laws.specs.ExactWays.{IsExactFor}
 use Rattle.h5_laws.specs.KeyEdits.{IsPut, Two}
 use Rattle.h5_laws.specs.KeyTrees.{IsSorted}
 use Rattle.h5_laws.specs.NameLadders.{key_sides, key_text}
 use Rattle.h5_laws.proofs.ExactKeysNames.{key_let_in}
-use Rattle.h5_laws.proofs.KeyInserts.{all_both}
 use Rattle.h5_laws.proofs.Lists.{In, in_left, in_right}
 use Rattle.h5_space.specs.Space.{Space}
 use Rattle.h5_btree.specs.Exact.{AreKeysExact}
@@ -42,7 +43,6 @@ use Rattle.h5_group.specs.Exact.{AreSymbolsFilled, HasKeysFor}
 use Rattle.h5_group.specs.Nodes.Trees.{kind_in}
 use Rattle.h5_group.specs.Retired.{entry_keys, name_keys}
 use Rattle.h5_group.specs.Split.{AreHalves}
-use Rattle.h5_group.proofs.BlockFrames.{read_kept}
 use Rattle.h5_group.proofs.NameKeys.{keys_in_order, lowest_empty, name_low}
 use Rattle.h5_group.proofs.NameTests.{name_test}
 use Rattle.h5_group.proofs.NewKeys.{each_keyed, exact_for, key_put, new_above, new_low, new_text, of_names}
@@ -95,7 +95,7 @@ module _ (s u t : Space) (table : SymbolTable) (links : List (List ℕ × Target
 
   -- no node has changed yet
   nodes_same : AllByRecursion (λ n. node_at u.bytes kind n ≡ node_at s.bytes kind n) own
-  nodes_same = read_kept (node_of kind) (node_length kind) s.bytes u.bytes own (nodes_kept s u table links spare blocks group here new front back list_cut left right halves)
+  nodes_same = read-same s.bytes u.bytes (node_of kind) (node_length kind) own (nodes_kept s u table links spare blocks group here new front back list_cut left right halves)
 
   keeps : (n : ℕ) → Owns own n → KeepsEntries s.bytes u.bytes kind n
   keeps n owns =

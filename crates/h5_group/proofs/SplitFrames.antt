@@ -14,7 +14,7 @@ use Rattle.h5_model.specs.Format.Heap.{heap_blocks, segment_of, segment_place, s
 use Rattle.h5_model.specs.Format.Nodes.{Kind, reading_of, tree_blocks}
 use Rattle.h5_model.specs.Format.Rows.{Reading, IsRow, next_row}
 use Rattle.h5_model.specs.Format.Symbols.{Entry, IsSymbolNode, Target, entries_of, symbol_block, symbol_bytes, symbols_at, symbols_of}
-use Rattle.h5_model.proofs.Frames.{heap-same, reading-same, tree-same}
+use Rattle.h5_model.proofs.Frames.{heap-same, reading-same, tree-same, read-same, each-same}
 use Rattle.h5_model.proofs.RowLaws.{only_here}
 use Rattle.h5_laws.proofs.Entries.{flat-same}
 use Rattle.h5_space.specs.Moves.{Moves}
@@ -30,7 +30,6 @@ use Rattle.h5_group.specs.Edited.{IsGroupIn, superblock_block}
 use Rattle.h5_group.specs.Nodes.Trees.{group_nodes_blocks, kind_in}
 use Rattle.h5_group.specs.Split.{AreHalves}
 use Rattle.h5_group.proofs.EditFrames.{group_apart, rest_kept}
-use Rattle.h5_group.proofs.BlockFrames.{fact_kept, read_kept}
 use Rattle.h5_group.proofs.EntryFrames.{entries_cut, parted, within}
 
 -- a way ends where it did, where the nodes of its tree keep their bytes
@@ -181,10 +180,10 @@ module _ (s u : Space) (table : SymbolTable) (links : List (List ℕ × Target))
     back_stays = both_kept back back_kept rest_then.1.1
 
     fronts_same : AllByRecursion (λ at. symbols_at t.bytes l at ≡ symbols_at s.bytes l at) front
-    fronts_same = read_kept entries_of (8 + 80 * l) s.bytes t.bytes front front_stays
+    fronts_same = read-same s.bytes t.bytes entries_of (8 + 80 * l) front front_stays
 
     backs_same : AllByRecursion (λ at. symbols_at t.bytes l at ≡ symbols_at s.bytes l at) back
-    backs_same = read_kept entries_of (8 + 80 * l) s.bytes t.bytes back back_stays
+    backs_same = read-same s.bytes t.bytes entries_of (8 + 80 * l) back back_stays
 
     -- the other symbol nodes read as before, and these two as the halves
     pub others_same : AllByRecursion (λ at. symbols_at t.bytes l at ≡ symbols_at s.bytes l at) (front ++ back)
@@ -202,11 +201,11 @@ module _ (s u : Space) (table : SymbolTable) (links : List (List ℕ × Target))
         let Q : ℕ → Type 0 = λ at. IsSymbolNode l (symbol_bytes t.bytes l at) in
         let old = subst (AllByRecursion P) cut (group.linked).formed in
         all_append Q front (node ∷ new ∷ back)
-        (fact_kept (IsSymbolNode l) (8 + 80 * l) s.bytes t.bytes front front_stays (all_left P front (node ∷ back) old)) (
+        (each-same s.bytes t.bytes (IsSymbolNode l) (8 + 80 * l) front front_stays (all_left P front (node ∷ back) old)) (
           subst (IsSymbolNode l) (sym rest_then.0) halves.left_form,
           (
             subst (IsSymbolNode l) (sym rest_then.1.0) halves.right_form,
-            fact_kept (IsSymbolNode l) (8 + 80 * l) s.bytes t.bytes back back_stays (all_right P front (node ∷ back) old).1,
+            each-same s.bytes t.bytes (IsSymbolNode l) (8 + 80 * l) back back_stays (all_right P front (node ∷ back) old).1,
           ),
         )
 

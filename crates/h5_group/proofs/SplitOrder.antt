@@ -24,6 +24,7 @@ use Rattle.h5_laws.specs.NameLadders.{key_text, name_lists, name_sides}
 use Rattle.h5_laws.proofs.KeyInstances.{name_parts, name_through}
 use Rattle.h5_laws.proofs.NameLadders.{name_order, names_under}
 use Rattle.h5_space.specs.Space.{Space}
+use Rattle.h5_space.proofs.AddressLaws.{all_at}
 use Rattle.h5_btree.specs.Held.{AreHeldKeys}
 use Rattle.h5_btree.specs.Insertion.{IsChildPut, IsPutAlong, KeepsEntries, Owns}
 use Rattle.h5_btree.specs.Keyed.{AtChild, IsInOrder, items_of_tree}
@@ -38,7 +39,6 @@ use Rattle.h5_btree.proofs.KeyedOwn.{keys_count}
 use Rattle.h5_btree.proofs.KeyedPuts.{ComesIn, IsCutIn, put_sorted}
 use Rattle.h5_btree.proofs.RowEdits.{level_here}
 use Rattle.h5_btree.proofs.TreeReadings.{Listed, owned_at, owned_of_level}
-use Rattle.h5_btree.proofs.WaySteps.{all_at}
 use Rattle.h5_group.specs.Edited.{IsGroupIn}
 use Rattle.h5_group.specs.Nodes.Trees.{kind_in}
 use Rattle.h5_group.specs.Split.{AreHalves}
@@ -364,7 +364,7 @@ module _ (s u t : Space) (table : SymbolTable) (links : List (List ℕ × Target
           (put_known (name_sides text) Id Top x follows (name_test segment) Knows u t kind root level way own listed k ends_then group.some keys new along others held at_was at_now same
           admits.0.0 admits.0.1 key (subst (λ (o : Node). IsHeld (name_sides text) (get_or o.keys i []) (get_or o.keys (suc i) []) key key) (sym way_same.0) (inr (inr (refl, key_lies.0, key_lies.1))))
           (subst P (sym key_is) known) admits.1
-          (all_at Knows (node_at u.bytes kind p).keys i [] (let h = p_long in omega (arith, h)) p_known) (all_at Knows (node_at u.bytes kind p).keys (suc i) [] p_long p_known)
+          (all_at Knows (node_at u.bytes kind p).keys i [] p_known (let h = p_long in omega (arith, h))) (all_at Knows (node_at u.bytes kind p).keys (suc i) [] p_known p_long)
           height all split_nodes put.tree ordered_then
           (subst (λ (v : Reading). AllByRecursion (λ n. AllByRecursion Knows (v n).keys) own)
           (sym (reading-same s.bytes u.bytes kind own (nodes_kept s u table links spare blocks group end_node new end_front end_back cut left right halves))) old_each))

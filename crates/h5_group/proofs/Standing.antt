@@ -15,16 +15,13 @@ use Rattle.h5_model.specs.Faults.TreeFaults.{all_entries}
 use Rattle.h5_laws.proofs.Lists.{In, in_all, in_map, in_contains}
 use Rattle.h5_laws.proofs.Entries.{own_entries}
 use Rattle.h5_laws.proofs.NameLadders.{order_there}
+use Rattle.h5_laws.proofs.Ascending.{ascend_tail}
 use Rattle.h5_group.specs.Nodes.Trees.{kind_in}
 use Rattle.h5_group.proofs.ToldLaws.{symbol_nodes_are_told}
 use Rattle.h5_group.specs.Told.{symbol_nodes_told, links_told, blocks_told}
 use Rattle.h5_group.specs.Links.{IsGroupRead}
 
 -- ---- a part of what ascends
-
-ascend_tail : (a : List ℕ × Target) (xs : List (List ℕ × Target)) → Ascend (a ∷ xs) → Ascend xs
-ascend_tail a [] rises = tt
-ascend_tail a (b ∷ xs) rises = rises.1
 
 ascend_right : (xs ys : List (List ℕ × Target)) → Ascend (xs ++ ys) → Ascend ys
 ascend_right [] ys rises = rises

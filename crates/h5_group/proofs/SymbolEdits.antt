@@ -3,17 +3,12 @@ use Rattle.std.proofs.Common.{◌≡◌, ℕ, ◌+◌, ◌*◌, ◌≤◌, List,
 use Rattle.std.proofs.lemmas.List.{places}
 use Rattle.h5_bytes.specs.Bytes.{byte_at, part, with_part}
 use Rattle.h5_bytes.proofs.PartLaws.{length-with_part, part-part, part-with_part_same}
-use Rattle.h5_bytes.proofs.TableLaws.{length-table}
-use Rattle.h5_model.specs.Format.Symbols.{Entry, IsSymbolNode, entries_of, entry_of, symbol_bytes, symbols_at, symbols_in}
+use Rattle.h5_model.specs.Format.Symbols.{Entry, IsSymbolNode, entries_of, symbol_bytes, symbols_at, symbols_in}
 use Rattle.h5_space.specs.Lending.{with_bytes_at}
 use Rattle.h5_space.specs.Space.{Space}
 use Rattle.h5_space.proofs.MovesLaws.{moves_write}
+use Rattle.h5_snod.proofs.EntryLaws.{length-entries}
 use Rattle.h5_group.specs.SymbolEdits.{IsSymbolsRewritten}
-
--- how many entries there are
-entries_count : (bytes : List ℕ) → length (entries_of bytes) ≡ symbols_in bytes
-entries_count bytes =
-    let read : ℕ → Entry = λ i. entry_of (part (8 + 40 * i) 40 bytes) in length-table read read (symbols_in bytes) 0
 
 byte_in_front : (bytes : List ℕ) → byte_at (part 0 6 bytes) 4 ≡ byte_at bytes 4
 unfolding part
@@ -24,7 +19,7 @@ form_kept : (leaf : ℕ) (old new : List ℕ) → part 0 6 new ≡ part 0 6 old 
 form_kept leaf old new front few is = record {
   signed = sym (part-part 0 4 0 6 new (omega arith)) ∙ ap (part 0 4) front ∙ part-part 0 4 0 6 old (omega arith) ∙ is.signed;
   version = sym (byte_in_front new) ∙ ap (λ (b : List ℕ). byte_at b 4) front ∙ byte_in_front old ∙ is.version;
-  roomy = let n = entries_count new in omega (arith, n, few);
+  roomy = let n = length-entries new in omega (arith, n, few);
 }
 
 -- one is written
@@ -67,7 +62,7 @@ is_lent s leaf at n same inside form lent value size =
       form = form;
       is = is;
       long = size ∙ ap (λ (l : ℕ). 8 + 80 * l) same;
-      count = count ∙ sym (entries_count (symbol_bytes s.bytes leaf at));
+      count = count ∙ sym (length-entries (symbol_bytes s.bytes leaf at));
       roomy = omega (arith, roomy, count);
     }
 

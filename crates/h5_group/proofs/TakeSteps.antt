@@ -1,11 +1,11 @@
 -- Where the entry of a name stands in a group, and what its going leaves.
-use Rattle.std.proofs.Common.{◌≡◌, ℕ, zero, suc, ◌<◌, ◌≤◌, inl, inr, List, [], ◌∷◌, ◌++◌, length, map, option_map, None, Some, refl, sym, ap, ◌∙◌, subst, arith}
+use Rattle.std.proofs.Common.{◌≡◌, ℕ, zero, suc, ◌<◌, ◌≤◌, List, [], ◌∷◌, ◌++◌, length, map, option_map, None, Some, refl, sym, ap, ◌∙◌, subst, arith}
 use Rattle.std.specs.Prelude.{Result, Ok, Err, IfErr, slice_get}
 use Rattle.std.specs.Result.{result_ok}
 use Rattle.std.specs.List.{Contains, remove}
 use Rattle.h5_bytes.specs.Texts.{text_at}
 use Rattle.h5_bytes.specs.declared.Block.{Block}
-use Rattle.h5_laws.proofs.Lists.{In, contains_in, in_map, in_flat, in_contains}
+use Rattle.h5_laws.proofs.Lists.{In, contains_in, in_map, in_flat, in_contains, in_at}
 use Rattle.h5_model.specs.Faults.TreeFaults.{all_entries}
 use Rattle.h5_model.specs.Format.Addresses.{SymbolTable}
 use Rattle.h5_model.specs.Format.Heap.{segment_of}
@@ -21,6 +21,7 @@ use Rattle.h5_btree.proofs.WaySteps.{way_low}
 use Rattle.h5_snod.specs.Entries.{symbol_from}
 use Rattle.h5_snod.specs.Names.{IsPlace, entry_names}
 use Rattle.h5_snod.specs.declared.entry.SymbolEntry.{SymbolEntry}
+use Rattle.h5_btree.proofs.DropLaws.{remove_alone}
 use Rattle.h5_group.specs.Edited.{HasGroupMoved, HasGroupStayed, IsGroupIn, IsLinkPut, HasEntryTaken, IsSomeGroup, entries_below, node_below, offsets_of}
 use Rattle.h5_group.specs.Links.{HasNone, IsGroupRead}
 use Rattle.h5_group.specs.Nodes.Trees.{kind_in}
@@ -84,13 +85,6 @@ read_there (e ∷ es) (suc k) r read = read_there es k r read
 pub read_offsets : (e : Entry) (r : SymbolEntry) (spare : List ℕ) → symbol_from e ≡ r → offsets_of e ++ spare ≡ offsets_named r ++ spare
 read_offsets e r spare is = ap (λ (offsets : List ℕ). offsets ++ spare) (sym (offsets_are e) ∙ ap offsets_named is)
 
--- the only one goes
-pub only_goes : {X : Type 0} (xs : List X) (k : ℕ) → length xs ≡ 1 → k < length xs → remove xs k ≡ []
-only_goes [] k one low = absurd (omega (arith, low))
-only_goes (x ∷ []) zero one low = refl
-only_goes (x ∷ []) (suc k) one low = absurd (omega (arith, low))
-only_goes (x ∷ y ∷ xs) k one low = absurd (omega (arith, one))
-
 -- so nothing is left in the symbol node to which a way leads
 pub none_left : (s t : Space) (table : SymbolTable) (way : List Step) (level : ℕ) (owned list : List ℕ) (number node k : ℕ)
     → EndsInTree s (kind_in s.bytes) table.tree level way owned list number
@@ -103,7 +97,7 @@ pub none_left : (s t : Space) (table : SymbolTable) (way : List Step) (level : �
 none_left s t table way level owned list number node k e there stays gone one low step above is =
     let same = stays step above level owned list number (subst (λ (w : List Step). EndsInTree s (kind_in s.bytes) table.tree level w owned list number) is e) in
     let at : node_below t table step ≡ node = same ∙ sym (there step above is) in
-    ap (symbols_at t.bytes (leaf_k t.bytes)) at ∙ gone ∙ only_goes (symbols_at s.bytes (leaf_k s.bytes) node) k one low
+    ap (symbols_at t.bytes (leaf_k t.bytes)) at ∙ gone ∙ remove_alone (symbols_at s.bytes (leaf_k s.bytes) node) k one low
 
 -- ---- a way has 16 steps at most
 
@@ -148,11 +142,6 @@ spent_in_turn s t u v n m low first second third = record {
 
 -- ---- the link of an entry
 
-got_in : (es : List Entry) (k : ℕ) (e : Entry) → slice_get es k ≡ Some e → In e es
-got_in [] k e is = absurd (let never = is in cc)
-got_in (x ∷ es) zero e is = inl (let same = is in cc)
-got_in (x ∷ es) (suc k) e is = inr (got_in es k e is)
-
 name_got : (segment : List ℕ) (es : List Entry) (k : ℕ) (e : Entry) (name : List ℕ) → slice_get es k ≡ Some e → slice_get (entry_names segment es) k ≡ Some name → text_at segment e.name ≡ name
 name_got segment [] k e name is named = absurd (let never = is in cc)
 name_got segment (x ∷ es) zero e name is named =
@@ -183,12 +172,12 @@ module _ (s : Space) (table : SymbolTable) (links : List (List ℕ × Target)) (
   own : In (link_of segment e) links
   own = subst (In (link_of segment e)) (sym told_are)
       (in_map (link_of segment) e (all_entries s.bytes (symbol_nodes_told s.bytes table))
-      (in_flat S node e (symbol_nodes_told s.bytes table) (in_contains node (symbol_nodes_told s.bytes table) told) (got_in (S node) k e is)))
+      (in_flat S node e (symbol_nodes_told s.bytes table) (in_contains node (symbol_nodes_told s.bytes table) told) (in_at (S node) k e is)))
 
   -- it is one of the group's entries
   pub entry_told : Contains (all_entries s.bytes (symbol_nodes_told s.bytes table)) e
   entry_told = contains_in e (all_entries s.bytes (symbol_nodes_told s.bytes table))
-      (in_flat S node e (symbol_nodes_told s.bytes table) (in_contains node (symbol_nodes_told s.bytes table) told) (got_in (S node) k e is))
+      (in_flat S node e (symbol_nodes_told s.bytes table) (in_contains node (symbol_nodes_told s.bytes table) told) (in_at (S node) k e is))
 
   rises : Ascend links
   rises = subst Ascend (sym told_are) (ascending s.bytes table (group_read s table links spare blocks group))

@@ -17,11 +17,13 @@ use Rattle.h5_model.specs.Format.Rows.{Node}
 use Rattle.h5_model.specs.Format.Symbols.{Entry, Target, symbols_at}
 use Rattle.h5_model.proofs.OneTree.{level_is}
 use Rattle.h5_model.proofs.RowLaws.{at_listed}
+use Rattle.h5_model.proofs.Frames.{read-same}
+use Rattle.h5_model.proofs.Members.{all_both}
 use Rattle.h5_laws.specs.KeyEdits.{IsTaken}
-use Rattle.h5_laws.proofs.KeyInserts.{all_both}
 use Rattle.h5_laws.proofs.Lists.{In, all_in, in_contains}
 use Rattle.h5_laws.proofs.Pigeonhole.{split_in}
 use Rattle.h5_space.specs.Space.{Space}
+use Rattle.h5_heap.proofs.TakenLaws.{contains_head}
 use Rattle.h5_btree.specs.Exact.{AreKeysExact}
 use Rattle.h5_btree.specs.Insertion.{KeepsEntries, Owns}
 use Rattle.h5_btree.specs.Looked.{AreHitsLooked}
@@ -36,8 +38,6 @@ use Rattle.h5_group.specs.Nodes.Trees.{kind_in}
 use Rattle.h5_group.specs.Retired.{entry_keys, is_of, name_keys}
 use Rattle.h5_group.specs.SymbolEdits.{IsSymbolsRewritten}
 use Rattle.h5_group.specs.Told.{symbol_nodes_told}
-use Rattle.h5_group.proofs.BlockFrames.{read_kept}
-use Rattle.h5_group.proofs.EditSteps.{first_spare}
 use Rattle.h5_group.proofs.EntryFrames.{backs_same, fronts_same, internal_same, leaf_same, trees_kept}
 use Rattle.h5_group.proofs.EntrySets.{got_cut, loose_low, taken_all}
 use Rattle.h5_group.proofs.EntryWays.{end_cut, ends_kept, ends_own}
@@ -90,7 +90,7 @@ module _ (s t : Space) (table : SymbolTable) (node k : ℕ) (set : IsSymbolsRewr
   kind_is = ap group_kind (internal_same s t table links spare blocks group node front back cut set.moves)
 
   nodes_same : AllByRecursion (λ n. node_at t.bytes kind n ≡ node_at s.bytes kind n) owned
-  nodes_same = read_kept (node_of kind) (node_length kind) s.bytes t.bytes owned (trees_kept s t table links spare blocks group node front back cut set.moves)
+  nodes_same = read-same s.bytes t.bytes (node_of kind) (node_length kind) owned (trees_kept s t table links spare blocks group node front back cut set.moves)
 
   keeps : (n : ℕ) → Owns owned n → KeepsEntries s.bytes t.bytes kind n
   keeps n owns =
@@ -184,7 +184,7 @@ module _ (s t : Space) (table : SymbolTable) (node k : ℕ) (set : IsSymbolsRewr
         let g = m.group in
         let hit = is_of e.name in
         let keys = entry_keys leaf s.bytes in
-        let r = retirable t table _ (offsets_of e ++ spare) m.blocks g e.name (first_spare e.name _) in
+        let r = retirable t table _ (offsets_of e ++ spare) m.blocks g e.name (contains_head e.name _) in
         let lists : (g.linked).symbol_nodes ≡ list
         = symbol_nodes_are_told t.bytes table _ m.blocks g.linked
         ∙ told_kept s.bytes t.bytes table leaf_is kind_is (group.linked).level owned list (group.linked).tree keeps ∙ sym (symbol_nodes_are_told s.bytes table links blocks group.linked) in

@@ -11,14 +11,13 @@ use Rattle.h5_model.specs.Format.Links.{AreLinks, HasLinks, IsOrdered, Symbols, 
 use Rattle.h5_model.specs.Format.Nodes.{HasTree, Kind, group_kind, reading_of, tree_blocks}
 use Rattle.h5_model.specs.Format.Rows.{Reading}
 use Rattle.h5_model.specs.Format.Symbols.{Entry, IsSymbolNode, Target, entries_of, symbol_block, symbols_at, symbols_of, texts_of}
-use Rattle.h5_model.proofs.Frames.{heap-same}
+use Rattle.h5_model.proofs.Frames.{heap-same, read-same, each-same}
 use Rattle.h5_model.proofs.RowLaws.{only-same}
 use Rattle.h5_space.specs.Moves.{Moves}
 use Rattle.h5_space.specs.Space.{Space}
 use Rattle.h5_group.specs.Edited.{HasGroupMoved, IsGroupIn}
 use Rattle.h5_group.specs.Nodes.Trees.{kind_in}
 use Rattle.h5_group.proofs.EditFrames.{group_apart, group_moves, internal_kept, k_kept, leaf_kept, rest_kept, still_long}
-use Rattle.h5_group.proofs.BlockFrames.{fact_kept, read_kept}
 use Rattle.h5_group.proofs.Ways.{cover_parts, heap_inside, symbols_inside}
 
 abbrev AreLoose : Reading → Symbols → List ℕ → List ℕ → List ℕ → List ℕ → List (List ℕ × Target) → List ℕ → Type 0
@@ -87,7 +86,7 @@ module _ (s t : Space) (table : SymbolTable) (links : List (List ℕ × Target))
 
   -- and the symbol nodes their entries
   pub entries_kept : AllByRecursion (λ at. symbols_at t.bytes (leaf_k s.bytes) at ≡ symbols_at s.bytes (leaf_k s.bytes) at) symbol_nodes
-  entries_kept = read_kept entries_of (8 + 80 * leaf_k s.bytes) s.bytes t.bytes symbol_nodes symbols_kept
+  entries_kept = read-same s.bytes t.bytes entries_of (8 + 80 * leaf_k s.bytes) symbol_nodes symbols_kept
 
   symbols_now : symbols_of t.bytes (leaf_k s.bytes) symbol_nodes ≡ S
   symbols_now = only-same [] (symbols_at s.bytes (leaf_k s.bytes)) (symbols_at t.bytes (leaf_k s.bytes)) symbol_nodes entries_kept
@@ -134,7 +133,7 @@ module _ (s t : Space) (table : SymbolTable) (links : List (List ℕ × Target))
         owned = owned;
         symbol_nodes = symbol_nodes;
         tree = tree;
-        formed = fact_kept (IsSymbolNode (leaf_k s.bytes)) (8 + 80 * leaf_k s.bytes) s.bytes t.bytes symbol_nodes symbols_kept (group.linked).formed;
+        formed = each-same s.bytes t.bytes (IsSymbolNode (leaf_k s.bytes)) (8 + 80 * leaf_k s.bytes) symbol_nodes symbols_kept (group.linked).formed;
         listed = listed_there.0;
         laid = (group.linked).laid ∙ ap (λ (h : List ℕ). (trees ++ symbols) ++ (block table.heap 32 ∷ block (segment_place h) (segment_size h) ∷ [])) (sym heap_kept.0);
       },

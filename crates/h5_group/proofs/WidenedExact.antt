@@ -18,6 +18,7 @@ use Rattle.h5_laws.specs.ExactWays.{IsExactFor}
 use Rattle.h5_laws.specs.KeyTrees.{KeyTree}
 use Rattle.h5_laws.specs.NameLadders.{key_sides, key_text}
 use Rattle.h5_laws.proofs.Lists.{In, in_all, in_right}
+use Rattle.h5_laws.proofs.KeyInserts.{all_from_both}
 use Rattle.h5_space.specs.Space.{Space}
 use Rattle.h5_btree.specs.Exact.{AreKeysExact}
 use Rattle.h5_btree.specs.Insertion.{Owns}
@@ -42,8 +43,9 @@ use Rattle.h5_group.proofs.NewKeys.{each_keyed}
 use Rattle.h5_group.proofs.ToldLaws.{symbol_nodes_are_told}
 use Rattle.h5_group.proofs.TreeMoves.{entries_kept}
 use Rattle.h5_group.proofs.Ways.{level_there}
-use Rattle.h5_group.proofs.WidenedGroup.{IsWide, all_both, chosen, e, each, ends_now, keeps, kind_same, leaf_same, moved, own, segment_same}
-use Rattle.h5_group.proofs.WidenedKeys.{empty_before, high_now, keys_now, lets_now, low_now}
+use Rattle.h5_group.proofs.WidenedGroup.{IsWide, chosen, e, each, ends_now, keeps, kind_same, leaf_same, moved, own, segment_same}
+use Rattle.h5_group.proofs.WidenedKeys.{high_now, keys_now, lets_now, low_now}
+use Rattle.h5_group.proofs.EntryOrder.{above_empty}
 
 module _ (s t : Space) (table : SymbolTable) (name : List ℕ) (way : List Step) (w : IsWayOf s table name way) (low high : List ℕ) (named : IsTrue (is_name name))
     (wide : IsWidened s t (kind_in s.bytes) way (ends_along (node_at s.bytes (kind_in s.bytes)) (behind_of s table name) 0 way) low high)
@@ -93,7 +95,7 @@ module _ (s t : Space) (table : SymbolTable) (name : List ℕ) (way : List Step)
   high_text = own s t table name way w low high named wide tree others links spare blocks group offset spared low_is high_is text
 
   above : Before [] (texts high)
-  above = subst (Before []) (sym high_text) (empty_before name named)
+  above = subst (Before []) (sym high_text) (above_empty name named)
 
   -- ---- the keys around each child on the way
 
@@ -113,7 +115,7 @@ module _ (s t : Space) (table : SymbolTable) (name : List ℕ) (way : List Step)
 
   eased : AllByRecursion Eased (ends.step ∷ ends.above)
   eased = subst (AllByRecursion Eased) ends.way_is
-      (all_both (IsWide V t.bytes kind (behind_of s table name) low high) (IsChosen V (behind_of s table name)) Eased way eases (each s t table name way w low high named wide tree others links spare blocks group offset spared low_is high_is text) (chosen s t table name way w low high named wide tree others links spare blocks group offset spared low_is high_is text))
+      (all_from_both (IsWide V t.bytes kind (behind_of s table name) low high) (IsChosen V (behind_of s table name)) Eased way eases (each s t table name way w low high named wide tree others links spare blocks group offset spared low_is high_is text) (chosen s t table name way w low high named wide tree others links spare blocks group offset spared low_is high_is text))
 
   -- the symbol node at its end has an entry
   end_filled : HasExactKeys s.bytes table → entry_keys leaf s.bytes (get_or (V (ends.step).node).children (ends.step).place 0) ≡ [] → ⊥

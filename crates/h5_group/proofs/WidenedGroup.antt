@@ -19,6 +19,7 @@ use Rattle.h5_model.proofs.RowLaws.{all_listed, at_listed}
 use Rattle.h5_laws.specs.NameLadders.{key_text, name_sides}
 use Rattle.h5_laws.proofs.Lists.{In, contains_in, in_all, in_contains, in_left}
 use Rattle.h5_laws.proofs.NameLadders.{name_order}
+use Rattle.h5_laws.proofs.KeyInserts.{all_from_both}
 use Rattle.h5_space.specs.Moves.{Moves}
 use Rattle.h5_space.specs.Space.{Space}
 use Rattle.h5_btree.specs.Descent.{IsWayTo}
@@ -49,10 +50,6 @@ use Rattle.h5_group.proofs.WidenedKeys.{between_now, gives_way, high_now, keys_n
 use Rattle.h5_heap.proofs.RefusedLaws.{empty_text}
 
 -- ---- lists
-
-pub all_both : {X : Type 0} (P Q R : X → Type 0) (xs : List X) → ((x : X) → P x → Q x → R x) → AllByRecursion P xs → AllByRecursion Q xs → AllByRecursion R xs
-all_both P Q R [] both ps qs = tt
-all_both P Q R (x ∷ xs) both ps qs = (both x ps.0 qs.0, all_both P Q R xs both ps.1 qs.1)
 
 all_set : {X : Type 0} (P : X → Type 0) (xs : List X) (i : ℕ) (v : X) → AllByRecursion P xs → P v → AllByRecursion P (slice_set xs i v)
 all_set P [] i v all new = tt
@@ -202,7 +199,7 @@ module _ (s t : Space) (table : SymbolTable) (name : List ℕ) (way : List Step)
       )
 
   eased : AllByRecursion Eased (e.step ∷ e.above)
-  eased = subst (AllByRecursion Eased) e.way_is (all_both (IsWide V t.bytes kind behind low high) (IsChosen V behind) Eased way eases each chosen)
+  eased = subst (AllByRecursion Eased) e.way_is (all_from_both (IsWide V t.bytes kind behind low high) (IsChosen V behind) Eased way eases each chosen)
 
   ordered_now : AllByRecursion (λ at. IsOrdered Z S segment (Z at)) owned
   ordered_now =
@@ -287,7 +284,7 @@ module _ (s t : Space) (table : SymbolTable) (name : List ℕ) (way : List Step)
     ends = subst (λ (k : Kind). EndsInTree t k table.tree level way owned symbol_nodes w.number) (sym kind_same) ends_now;
     between = subst (λ (k : Kind). AllByRecursion (λ (step : Step). IsBetween (segment_of t.bytes table.heap) (node_at t.bytes k step.node) step.place name) way) (sym kind_same)
         (subst (λ (g : List ℕ). AllByRecursion (λ (step : Step). IsBetween g (W step.node) step.place name) way) (sym segment_same)
-        (all_both (IsWide V t.bytes kind behind low high) (IsChosen V behind) (λ (step : Step). IsBetween segment (W step.node) step.place name) way between each chosen));
+        (all_from_both (IsWide V t.bytes kind behind low high) (IsChosen V behind) (λ (step : Step). IsBetween segment (W step.node) step.place name) way between each chosen));
   }
 
   -- it leads to the same symbol node
@@ -314,9 +311,9 @@ module _ (s t : Space) (table : SymbolTable) (name : List ℕ) (way : List Step)
   -- and is as full as it was
   full_now : IsFullWay t.bytes (kind_in t.bytes) way ↔ IsFullWay s.bytes kind way
   full_now = subst (λ (k : Kind). IsFullWay t.bytes k way ↔ IsFullWay s.bytes kind way) (sym kind_same) (
-    all_both (IsWide V t.bytes kind behind low high) (λ (step : Step). length (W step.node).children ≡ 2 * kind.k) (λ (step : Step). length (V step.node).children ≡ 2 * kind.k) way
+    all_from_both (IsWide V t.bytes kind behind low high) (λ (step : Step). length (W step.node).children ≡ 2 * kind.k) (λ (step : Step). length (V step.node).children ≡ 2 * kind.k) way
         (λ step is full. sym (ap (λ (o : Node). length o.children) is) ∙ full) each,
-    all_both (IsWide V t.bytes kind behind low high) (λ (step : Step). length (V step.node).children ≡ 2 * kind.k) (λ (step : Step). length (W step.node).children ≡ 2 * kind.k) way
+    all_from_both (IsWide V t.bytes kind behind low high) (λ (step : Step). length (V step.node).children ≡ 2 * kind.k) (λ (step : Step). length (W step.node).children ≡ 2 * kind.k) way
         (λ step is full. ap (λ (o : Node). length o.children) is ∙ full) each,
   )
 

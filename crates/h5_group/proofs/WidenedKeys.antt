@@ -10,12 +10,14 @@ use Rattle.h5_model.specs.Tree.Paths.{is_name}
 use Rattle.h5_model.proofs.TextOrder.{not_after_itself, before_le}
 use Rattle.h5_laws.specs.NameLadders.{key_text, name_sides}
 use Rattle.h5_laws.proofs.NameLadders.{name_order}
+use Rattle.h5_laws.proofs.KeyInstances.{none_before}
 use Rattle.h5_btree.specs.Descent.{IsChildFor}
 use Rattle.h5_btree.specs.Widened.{widened_node}
 use Rattle.h5_btree.proofs.KeyedEases.{GivesWay}
 use Rattle.h5_btree.proofs.EndKeys.{end_keys, first_gives, first_off, first_place, high_kept, high_key, high_stands, last_gives, last_on, last_place, low_kept, low_key, low_stands}
 use Rattle.h5_btree.proofs.KeyedEnds.{ends_give}
 use Rattle.h5_btree.proofs.NameFound.{name_behind}
+use Rattle.h5_group.proofs.EntryOrder.{above_empty}
 
 -- ---- the order of names
 
@@ -28,14 +30,6 @@ not_before a b off = by_order (slice_cmp nat_cmp b a) refl where
       let less : is_lt (slice_cmp nat_cmp a b) ≡ true = ap is_lt (nat_list_cmp_total.antisymm a b ∙ ap ordering_reverse is) in
       let never : false ≡ true = sym off ∙ less in
       cc
-
-pub empty_before : (name : List ℕ) → IsTrue (is_name name) → Before [] name
-empty_before [] named = cc
-empty_before (n ∷ name) named = refl
-
-empty_not_after : (name : List ℕ) → NotAfter [] name
-empty_not_after [] = refl
-empty_not_after (n ∷ name) = refl
 
 -- ---- one node
 
@@ -70,7 +64,7 @@ module _ (segment name : List ℕ) (node : Node) (i : ℕ) (chosen : IsChildFor 
       → GivesWay (name_sides (key_text segment)) (name_order (key_text segment)) items Base node.keys node.children i low_now high_now
   gives_way items Base =
       ends_give node.keys node.children i long chosen.child low high (name_sides (key_text segment)) (name_order (key_text segment)) items Base first last
-      (λ is. (first_place behind node i true low high is, subst (λ (t : List ℕ). NotAfter t (key_text segment kk)) (sym empty) (empty_not_after (key_text segment kk))))
+      (λ is. (first_place behind node i true low high is, subst (λ (t : List ℕ). NotAfter t (key_text segment kk)) (sym empty) (none_before (key_text segment kk))))
       (λ is. (last_place behind node i true low high is, rises is))
     where
       rises : last ≡ true → NotAfter (key_text segment jj) (key_text segment high)
@@ -81,7 +75,7 @@ module _ (segment name : List ℕ) (node : Node) (i : ℕ) (chosen : IsChildFor 
   right : Before (key_text segment low_now) name
   right = by_test first refl where
     by_test : (b : Bool) → first ≡ b → Before (key_text segment (if b then low else kk)) name
-    by_test true is = subst (λ (t : List ℕ). Before t name) (sym empty) (empty_before name named)
+    by_test true is = subst (λ (t : List ℕ). Before t name) (sym empty) (above_empty name named)
     by_test false is = low_kept behind node i true low high chosen long refl is
 
   left : NotAfter name (key_text segment high_now)

@@ -19,7 +19,7 @@ use Rattle.h5_model.specs.Format.MessageTypes.{datatype_kind, continuation_kind,
 use Rattle.h5_model.specs.Format.Messages.{Message, Fills, IsContinued, HasMessages, continuation, continuations, first_block, first_size, prefix_at, reference_count, total_in}
 use Rattle.h5_model.specs.Format.Addresses.{continuation_of}
 use Rattle.h5_model.specs.Format.Plain.{messages_bytes}
-use Rattle.h5_model.proofs.Frames.{front-same}
+use Rattle.h5_model.proofs.Frames.{front-same, keeps_then}
 use Rattle.h5_model.proofs.PlainMessages.{IsPlain, messages_from, fills-plain, length-messages_from}
 use Rattle.h5_header.specs.Listed.{Listed, message_in, messages_in, IsWithin}
 use Rattle.h5_header.specs.Added.{IsPutInBlock}
@@ -32,9 +32,9 @@ use Rattle.h5_header.proofs.CutLaws.{IsCut, cut_by_place}
 use Rattle.h5_header.proofs.StretchLaws.{all_of, stretch, Follow, IsHeaded, follow_headed, follow_kept, follow_of, stretches_inside}
 use Rattle.h5_header.proofs.BesideLaws.{kept_beside, moves_covered}
 use Rattle.h5_header.proofs.BodyWrites.{behind_head, body_covered, body_inside, said_now, still_standing, prefix_stays as body_prefix}
-use Rattle.h5_header.proofs.RewriteLaws.{first_inside, named_inside, same_messages, headed, laid_inside, beside, prefix_stays, front_stays, back_stays, stretch_covered}
+use Rattle.h5_header.proofs.RewriteLaws.{first_inside, named_inside, same_messages, headed, laid_inside, beside, prefix_stays, front_stays, back_stays, stretch_covered, prefix_covered}
 use Rattle.h5_header.proofs.BlankLaws.{kind_stands}
-use Rattle.h5_header.proofs.PlacedLaws.{placed, placed_back, placed_within, no_names, no_continuation, keeps_then}
+use Rattle.h5_header.proofs.PlacedLaws.{placed, placed_back, placed_within, no_names, no_continuation}
 use Rattle.h5_header.proofs.FillInserts.{bytes_filled_all, bytes_in, bytes_of, bytes_of-append}
 use Rattle.h5_header.proofs.NamedSplices.{IsNaming}
 use Rattle.h5_header.proofs.NamedLaws.{naming, has_named}
@@ -292,9 +292,7 @@ module _ (old : List ℕ) (m : Listed) (is : IsStanding old m) (k : ℕ) (low : 
   kind_covered p = omega (arith, x_covered p, holds-inner p at (length kind_bytes) at (8 + length (message_in two x).body) (omega arith) high)
 
   pub total_covered : (p : ℕ) → holds p (m.header + 2) (length coded) ≤ cover p m.blocks
-  total_covered p =
-      let laid : cover p m.blocks ≡ holds p m.header (16 + first_size (prefix_at old m.header)) + cover p (continuations (messages_in old m.list)) = ap (cover p) (is.has).laid in
-      omega (arith, laid, holds-inner p (m.header + 2) (length coded) m.header (16 + first_size (prefix_at old m.header)) (omega arith) (omega (arith, coded_long)))
+  total_covered = prefix_covered old m is (m.header + 2) (length coded) (omega arith) (omega (arith, coded_long))
 
   -- a write in the header's blocks leaves the new one
   beside_block : (image v : List ℕ) (from : ℕ) → length image ≡ length old → from + length v ≤ length old → ((p : ℕ) → holds p from (length v) ≤ cover p m.blocks)

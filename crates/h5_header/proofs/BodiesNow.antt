@@ -12,9 +12,9 @@ use Rattle.h5_bytes.proofs.PartLaws.{length-part}
 use Rattle.h5_model.specs.Format.MessageTypes.{continuation_kind}
 use Rattle.h5_model.specs.Format.Messages.{Message, IsMessage, Fills, FillBlocks, IsContinued, continuation, continuations, HasMessages, first_block, first_size, prefix_at}
 use Rattle.h5_model.proofs.Frames.{front-same, rest-same}
+use Rattle.h5_model.proofs.BodyLaws.{byte_at-part}
 use Rattle.h5_header.specs.Listed.{messages_in, IsWithin}
 use Rattle.h5_header.specs.declared.message.Message.{Message as Placed}
-use Rattle.h5_header.proofs.MessageLaws.{byte_at-part}
 use Rattle.h5_header.proofs.StretchLaws.{stretch, Follow, IsHeaded, all_of, message_long, follow_of, fills_of}
 
 module _ (old new : List ℕ) (grown : length old ≤ length new) where

@@ -2,14 +2,13 @@
 -- read, and what is kept of it still says where they stand.
 use Rattle.std.proofs.Common.{◌≡◌, ℕ, ◌+◌, ◌≤◌, List, [], ◌∷◌, ◌++◌, length, refl, sym, ◌∙◌, ap, ap₂, subst, arith}
 use Rattle.std.specs.List.{AllByRecursion, flat_map}
-use Rattle.std.proofs.lemmas.List.Concat.{flat_map-append}
 use Rattle.h5_bytes.specs.Bytes.{number_at, part}
 use Rattle.h5_bytes.specs.Blocks.{block, Keeps, IsKept}
 use Rattle.h5_bytes.specs.declared.Block.{Block}
 use Rattle.h5_bytes.proofs.PartLaws.{part-part, length-part}
 use Rattle.h5_bytes.proofs.BlockLaws.{all_append, all_left, all_right}
 use Rattle.h5_model.specs.Format.Messages.{Message, Fills, FillBlocks, continuations, HasMessages, first_block, first_size, prefix_at}
-use Rattle.h5_model.proofs.Frames.{rest-same, messages-same}
+use Rattle.h5_model.proofs.Frames.{rest-same, messages-same, continuations_of_all}
 use Rattle.h5_header.specs.Listed.{Listed, messages_in, IsWithin}
 use Rattle.h5_header.specs.declared.message.Message.{Message as Placed}
 use Rattle.h5_header.proofs.MetLaws.{length-part-le}
@@ -39,11 +38,6 @@ module _ (old new : List ℕ) where
       let there = all_right (IsKept old new) (continuations ms) (flat_map continuations parts) more in
       all_append Stays ms (flat_map (λ ms. ms) parts) (fills_stay b 0 ms kept.0 fills.0)
       (parts_stay (waiting ++ continuations ms) parts (all_append (IsKept old new) waiting (continuations ms) kept.1 here) there fills.1)
-
-  continuations_of_all : (parts : List (List Message)) → continuations (flat_map (λ ms. ms) parts) ≡ flat_map continuations parts
-  continuations_of_all [] = refl
-  continuations_of_all (ms ∷ parts) =
-      flat_map-append _ ms (flat_map (λ ms. ms) parts) ∙ ap (λ bs. continuations ms ++ bs) (continuations_of_all parts)
 
   all_stay : (header : ℕ) (messages : List Message) (blocks : List Block) → HasMessages old header messages blocks → Keeps old new blocks → AllByRecursion Stays messages
   all_stay header messages blocks has kept =

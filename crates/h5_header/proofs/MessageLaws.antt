@@ -1,7 +1,6 @@
 -- A message that was read from its place in the image is the one that the definition gives.
-use Rattle.std.proofs.Common.{◌≡◌, ℕ, ◌+◌, ◌<◌, ◌≤◌, drop, List, [], ◌∷◌, length, Some, refl, sym, ◌∙◌, ap, arith, get_or}
+use Rattle.std.proofs.Common.{◌≡◌, ℕ, ◌+◌, ◌<◌, ◌≤◌, List, [], ◌∷◌, length, Some, refl, sym, ◌∙◌, ap, arith, get_or}
 use Rattle.std.specs.Prelude.{true, nat_le, option_map, slice_get}
-use Rattle.std.proofs.lemmas.List.{get_or-take, get_or-drop}
 use Rattle.std.proofs.lemmas.Option.{slice_get-map, slice_get_read}
 use Rattle.std.proofs.lemmas.Bool.Decides.{nat_tests}
 use Rattle.h5_bytes.specs.Bytes.{number_at, byte_at, part}
@@ -12,14 +11,11 @@ use Rattle.h5_bytes.proofs.FieldLaws.{number_at-part}
 use Rattle.h5_model.specs.Format.Addresses.{continuation_of}
 use Rattle.h5_model.specs.Format.MessageTypes.{continuation_kind}
 use Rattle.h5_model.specs.Format.Messages.{Message, IsMessage, continuation}
+use Rattle.h5_model.proofs.BodyLaws.{byte_at-part}
 use Rattle.h5_header.specs.Heads.{IsHead}
 use Rattle.h5_header.specs.Listed.{message_in, messages_in}
 use Rattle.h5_header.specs.Progress.{IsTaken}
 use Rattle.h5_header.specs.declared.message.Message.{Message as Placed}
-
-pub byte_at-part : (k at len : ℕ) (bytes : List ℕ) → k < len → byte_at (part at len bytes) k ≡ byte_at bytes (at + k)
-unfolding part
-byte_at-part k at len bytes low = get_or-take len (drop at bytes) k 0 low ∙ get_or-drop at bytes k 0
 
 continuation_of-long : (body : List ℕ) → 16 ≤ length body → continuation_of body ≡ Some (block (number_at body 0 8) (number_at body 8 8))
 unfolding continuation_of

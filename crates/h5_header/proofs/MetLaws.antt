@@ -1,6 +1,6 @@
 -- Where messages of a header are met: in its own first block, and in blocks that its Continuations name.
 use Rattle.std.proofs.Common.{◌≡◌, ℕ, ◌+◌, ◌≤◌, ◌⊎◌, inl, inr, List, [], ◌∷◌, ◌++◌, length, refl, sym, ◌∙◌, ap, ap₂, subst, arith, Option, Some, None, drop, length-drop}
-use Rattle.std.specs.Prelude.{◌==◌, Bool, true, false, nat_le, if◌then◌else◌}
+use Rattle.std.specs.Prelude.{◌==◌, Bool, true, false}
 use Rattle.std.proofs.lemmas.List.{length-take}
 use Rattle.std.proofs.lemmas.Bool.Decides.{nat_tests}
 use Rattle.std.specs.List.{AllByRecursion, flat_map}
@@ -14,6 +14,7 @@ use Rattle.h5_model.specs.Format.Addresses.{continuation_of}
 use Rattle.h5_model.specs.Format.MessageTypes.{continuation_kind}
 use Rattle.h5_model.specs.Format.Messages.{Message, IsMessage, Fills, FillBlocks, HasMessages, continuation, continuations, first_block}
 use Rattle.h5_model.specs.Format.Reached.{Met, at_start, behind, in_continuation, kind_at, size_at}
+use Rattle.h5_model.proofs.BodyLaws.{long_body}
 use Rattle.h5_header.specs.Refused.{NamesBlock}
 use Rattle.h5_header.specs.Progress.{FillsTo, FilledTo}
 
@@ -25,14 +26,6 @@ length-part-le at len bytes = omega (arith, length-take len (drop at bytes))
 pub part-there : (at len : ℕ) (bytes : List ℕ) → 1 ≤ length (part at len bytes) → at + length (part at len bytes) ≤ length bytes
 unfolding part
 part-there at len bytes some = omega (arith, some, length-take len (drop at bytes), length-drop at bytes)
-
-pub long_body : (body : List ℕ) (b : Block) → continuation_of body ≡ Some b → (16 ≤ length body) × (b ≡ block (number_at body 0 8) (number_at body 8 8))
-unfolding continuation_of
-long_body body b is = go (nat_le 16 (length body)) refl is where
-  go : (t : Bool) → nat_le 16 (length body) ≡ t → (if t then Some (block (number_at body 0 8) (number_at body 8 8)) else None) ≡ Some b
-      → (16 ≤ length body) × (b ≡ block (number_at body 0 8) (number_at body 8 8))
-  go true holds named = (grind (arith, nat_tests, holds), cc)
-  go false holds named = cc
 
 -- a message names no block, or it is a Continuation whose body names one
 pub continuation_cases : (m : Message) → (continuation m ≡ []) ⊎ ((b : Block) × (m.kind ≡ continuation_kind) × (continuation_of m.body ≡ Some b) × (continuation m ≡ b ∷ []))

@@ -6,7 +6,7 @@ use Rattle.h5_bytes.proofs.FieldLaws.{number_at-part}
 use Rattle.h5_bytes.proofs.PartLaws.{length-part}
 use Rattle.h5_model.specs.Format.Addresses.{symbol_table_of}
 use Rattle.h5_model.specs.Format.Datatype.{fixed_of}
-use Rattle.h5_header.proofs.MessageLaws.{byte_at-part}
+use Rattle.h5_model.proofs.BodyLaws.{byte_at-part}
 
 module _ (body : List ℕ) (wide : 16 ≤ length body) where
   long : length (part 0 16 body) ≡ 16

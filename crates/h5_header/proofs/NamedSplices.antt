@@ -7,13 +7,10 @@ use Rattle.h5_bytes.specs.Blocks.{Inside, Keeps}
 use Rattle.h5_bytes.specs.declared.Block.{Block}
 use Rattle.h5_bytes.proofs.BlockLaws.{all_append, all_left, all_right}
 use Rattle.h5_model.specs.Format.Messages.{Message, Fills, FillBlocks, continuation, continuations}
+use Rattle.h5_model.proofs.Frames.{inside_longer}
 use Rattle.h5_header.proofs.StretchLaws.{stretch, Follow, all_of}
 use Rattle.h5_header.proofs.SpliceLaws.{IsSpliced, blocks_stay, cut_of, fills_splice, fills_stay, keeps_left, keeps_right}
 use Rattle.h5_header.proofs.FillInserts.{bytes_in, bytes_filling, bytes_of, bytes_of-append, fill-here}
-
-inside_grown : (m n : ℕ) → m ≤ n → (bs : List Block) → Inside m bs → Inside n bs
-inside_grown m n low [] inside = tt
-inside_grown m n low (b ∷ bs) inside = (omega (arith, low, inside.0), inside_grown m n low bs inside.1)
 
 module _ (old new : List ℕ) (grown : length old ≤ length new) (m c : Message) (b : Block) (ms : List Message) (none : continuation m ≡ []) (names : continuation c ≡ b ∷ [])
     (last : continuations ms ≡ []) (fill : Fills b.at (part b.at b.len new) 0 ms) (made : Follow new (m.at - 8) (c ∷ []) (m.at + length m.body)) where
@@ -53,7 +50,7 @@ module _ (old new : List ℕ) (grown : length old ≤ length new) (m c : Message
             let before : Inside (length old) (continuations front)
             = all_left IsIn (continuations front) (continuations (m ∷ ys)) (subst (Inside (length old)) split here) in
             let first : Inside (length new) (waiting ++ continuations front)
-            = inside_grown (length old) (length new) grown (waiting ++ continuations front) (all_append IsIn waiting (continuations front) low.1 before) in
+            = inside_longer (length old) (length new) grown (waiting ++ continuations front) (all_append IsIn waiting (continuations front) low.1 before) in
             let put = fill-here new b ms last fill m c none names front ys waiting parts first
             (subst (λ (xs : List Message). FillBlocks new (waiting ++ continuations xs) parts) is others) in
             let sum : bytes_of (front ++ m ∷ (ys ++ put.front)) ≡ bytes_of p + bytes_of put.front

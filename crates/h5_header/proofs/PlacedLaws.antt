@@ -2,8 +2,6 @@
 use Rattle.std.proofs.Common.{◌≡◌, ℕ, ◌+◌, List, [], ◌∷◌, map, length, refl, sym, ◌∙◌, ap₂, arith}
 use Rattle.std.specs.List.{AllByRecursion}
 use Rattle.h5_bytes.specs.Bytes.{part}
-use Rattle.h5_bytes.specs.Blocks.{Keeps}
-use Rattle.h5_bytes.specs.declared.Block.{Block}
 use Rattle.h5_model.specs.Format.Messages.{Message, IsMessage}
 pub use Rattle.h5_model.proofs.PlainMessages.{no_continuations as no_names, none_continued as no_continuation}
 use Rattle.h5_header.specs.Listed.{messages_in, IsWithin}
@@ -29,8 +27,3 @@ placed_within image [] all = tt
 placed_within image (y ∷ ms) all =
     let is = (all.0).1 in
     (omega (arith, is.whole, is.place, message_long image (all.0).0 y is), placed_within image ms all.1)
-
--- what stays and then stays again stays
-pub keeps_then : (old mid new : List ℕ) (bs : List Block) → Keeps old mid bs → Keeps mid new bs → Keeps old new bs
-keeps_then old mid new [] first second = tt
-keeps_then old mid new (b ∷ bs) first second = (second.0 ∙ first.0, keeps_then old mid new bs first.1 second.1)

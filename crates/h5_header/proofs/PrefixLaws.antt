@@ -6,10 +6,10 @@ use Rattle.h5_bytes.proofs.FieldLaws.{number_at-part}
 use Rattle.h5_model.specs.Format.Messages.{prefix_at, first_size, total_in, reference_count}
 use Rattle.h5_model.specs.declared.open_fault.Cause.{Cause}
 use Rattle.h5_model.specs.declared.open_fault.Cause.TheVariants.{Truncated, Overlap, NoMemory}
+use Rattle.h5_model.proofs.BodyLaws.{byte_at-part}
 use Rattle.h5_space.specs.Claimed.{ClaimBreach}
 use Rattle.h5_header.specs.Refused.{header_block}
 use Rattle.h5_header.specs.Progress.{PrefixBreach}
-use Rattle.h5_header.proofs.MessageLaws.{byte_at-part}
 
 pub first_size-is : (image : List ℕ) (header : ℕ) → first_size (prefix_at image header) ≡ number_at image (header + 8) 4
 first_size-is image header = number_at-part 8 4 header 16 image (lit≤ tt)

@@ -12,6 +12,7 @@ use Rattle.h5_model.specs.Format.MessageTypes.{continuation_kind}
 use Rattle.h5_model.specs.Format.Messages.{Message, Fills, HasMessages, continuation, continuations, first_size, prefix_at, reference_count, total_in}
 use Rattle.h5_model.specs.Format.Plain.{messages_bytes}
 use Rattle.h5_model.proofs.PlainMessages.{IsPlain, messages_from, fills-plain, length-messages_from}
+use Rattle.h5_model.proofs.Frames.{keeps_then}
 use Rattle.h5_header.specs.Listed.{Listed, message_in, messages_in, IsWithin}
 use Rattle.h5_header.specs.Standing.{IsStanding, kept_at, nowhere}
 use Rattle.h5_header.specs.declared.message.Message.{Message as Placed}
@@ -21,8 +22,8 @@ use Rattle.h5_header.proofs.CutLaws.{IsCut, back_is, front_is}
 use Rattle.h5_header.proofs.StretchLaws.{stretch, Follow, IsHeaded, follow_of, follow_cover, follow_headed, follow_kept, headed_kept, stretches_inside}
 use Rattle.h5_header.proofs.BesideLaws.{kept_beside}
 use Rattle.h5_header.proofs.SpliceLaws.{keeps_left, keeps_right}
-use Rattle.h5_header.proofs.RewriteLaws.{same_messages, laid_inside, beside, prefix_stays, front_stays, back_stays, stretch_covered, messages_rewritten}
-use Rattle.h5_header.proofs.PlacedLaws.{placed, placed_back, placed_within, no_names, no_continuation, keeps_then}
+use Rattle.h5_header.proofs.RewriteLaws.{same_messages, laid_inside, beside, prefix_stays, front_stays, back_stays, stretch_covered, prefix_covered, messages_rewritten}
+use Rattle.h5_header.proofs.PlacedLaws.{placed, placed_back, placed_within, no_names, no_continuation}
 use Rattle.h5_header.proofs.BlankLaws.{all_headed, behind_head, body_inside, cut as kept_cut, cut_messages, within_back, within_front}
 
 module _ (old : List ℕ) (m : Listed) (is : IsStanding old m) (k : ℕ) (low : k < length m.list) (own : (kept_at m.list k).kind ≢ continuation_kind)
@@ -225,9 +226,7 @@ module _ (old : List ℕ) (m : Listed) (is : IsStanding old m) (k : ℕ) (low : 
   )
 
   pub total_covered : (p : ℕ) → holds p (m.header + 2) (length coded) ≤ cover p m.blocks
-  total_covered p =
-      let laid : cover p m.blocks ≡ holds p m.header (16 + first_size (prefix_at old m.header)) + cover p (continuations (messages_in old m.list)) = ap (cover p) (is.has).laid in
-      omega (arith, laid, holds-inner p (m.header + 2) (length coded) m.header (16 + first_size (prefix_at old m.header)) (omega arith) (omega (arith, two)))
+  total_covered = prefix_covered old m is (m.header + 2) (length coded) (omega arith) (omega (arith, two))
 
   pub put_list_is : put_list ≡ take k m.list ++ (map placed ws ++ drop (suc k) m.list)
   unfolding kept_cut

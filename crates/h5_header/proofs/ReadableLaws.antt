@@ -16,12 +16,12 @@ use Rattle.h5_model.specs.Format.Addresses.{continuation_of}
 use Rattle.h5_model.specs.Faults.HeaderFaults.{is_known, is_new_style}
 use Rattle.h5_model.specs.declared.open_fault.Cause.{Cause}
 use Rattle.h5_model.specs.declared.open_fault.Cause.TheVariants.{Truncated, HeaderVersion, MessageSize, SharedMessage, UnknownMessage, Filtered, ExternalFiles, NewStyleGroup, Overlap, NoMemory}
+use Rattle.h5_model.proofs.BodyLaws.{byte_at-part, long_body}
 use Rattle.h5_header.specs.Heads.{HeadBreach, is_read}
 use Rattle.h5_header.specs.Refused.{header_block, IsHeaderReadable}
 use Rattle.h5_header.specs.Progress.{FilledTo, IsTaken, PrefixBreach, StopsAtMessage, StopsAtBlock, Stops, without_memory, at_prefix, at_message, at_block}
 use Rattle.h5_header.proofs.SameLaws.{parts_go_on, message_goes_on}
-use Rattle.h5_header.proofs.MetLaws.{long_body, length-part-le, kind, size, fits, body, inside, stop_met}
-use Rattle.h5_header.proofs.MessageLaws.{byte_at-part}
+use Rattle.h5_header.proofs.MetLaws.{length-part-le, kind, size, fits, body, inside, stop_met}
 
 -- a type that is read is refused by no name
 read_known : (kind : ℕ) → IsTrue (is_read kind) → IsTrue (not (is_known kind)) → ⊥

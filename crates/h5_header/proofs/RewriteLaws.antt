@@ -6,7 +6,7 @@ use Rattle.std.proofs.lemmas.List.Concat.{flat_map-append}
 use Rattle.h5_bytes.specs.Bytes.{with_part, byte_at}
 use Rattle.h5_bytes.specs.Blocks.{block, holds, cover, Separate, Inside, IsKept, Keeps}
 use Rattle.h5_bytes.specs.declared.Block.{Block}
-use Rattle.h5_bytes.proofs.BlockLaws.{holds_join, cover-append, all_append, all_left, all_right}
+use Rattle.h5_bytes.proofs.BlockLaws.{holds-inner, holds_join, cover-append, all_append, all_left, all_right}
 use Rattle.h5_bytes.proofs.PartLaws.{length-with_part}
 use Rattle.h5_model.specs.Format.Messages.{Message, FillBlocks, IsContinued, continuation, continuations, HasMessages, first_block, first_size, prefix_at, total_in}
 use Rattle.h5_header.specs.Listed.{Listed, messages_in, IsWithin}
@@ -128,6 +128,12 @@ stretch_covered old m is front x back cut p =
     = ap (λ (ms : List Message). cover p (map stretch ms)) cut ∙ ap (cover p) (map-append stretch front (x ∷ back)) ∙ cover-append p (map stretch front) (map stretch (x ∷ back)) in
     let laid : cover p m.blocks ≡ holds p m.header (16 + first_size (prefix_at old m.header)) + cover p (continuations (messages_in old m.list)) = ap (cover p) (is.has).laid in
     omega (arith, stretches_cover old m is p, same, laid, holds_join p m.header 16 (first_size (prefix_at old m.header)))
+
+-- a part of a header's first block is among its blocks
+pub prefix_covered : (old : List ℕ) (m : Listed) → IsStanding old m → (from n : ℕ) → m.header ≤ from → from + n ≤ m.header + 16 → (p : ℕ) → holds p from n ≤ cover p m.blocks
+prefix_covered old m is from n low high p =
+    let laid : cover p m.blocks ≡ holds p m.header (16 + first_size (prefix_at old m.header)) + cover p (continuations (messages_in old m.list)) = ap (cover p) (is.has).laid in
+    omega (arith, laid, holds-inner p from n m.header (16 + first_size (prefix_at old m.header)) low (omega (arith, high)))
 
 -- Some messages in the place of one, with the total of the prefix as it then is: whatever was written, the other messages keep their bytes.
 pub messages_rewritten : (old new : List ℕ) (m : Listed) (is : IsStanding old m) → length old ≤ length new

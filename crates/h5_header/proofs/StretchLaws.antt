@@ -10,7 +10,7 @@ use Rattle.h5_bytes.proofs.BlockLaws.{holds_join, holds_none, cover-append, all_
 use Rattle.h5_bytes.proofs.FieldLaws.{number_at-part}
 use Rattle.h5_bytes.proofs.PartLaws.{part-part, length-part}
 use Rattle.h5_model.specs.Format.Messages.{Message, IsMessage, Fills, FillBlocks, continuations}
-use Rattle.h5_header.proofs.MessageLaws.{byte_at-part}
+use Rattle.h5_model.proofs.BodyLaws.{byte_at-part}
 
 -- the bytes of a message with its head
 abbrev pub stretch : Message → Block

@@ -1,6 +1,5 @@
 -- A heap whose segment and head are written.
 use Rattle.std.proofs.Common.{◌≡◌, ◌≢◌, ℕ, ◌+◌, ◌^◌, ◌%◌, ◌<◌, ◌≤◌, ◌⊎◌, ◌==◌, Bool, true, false, cond, zero, suc, inl, inr, List, [], ◌∷◌, length, take, drop, refl, sym, ◌∙◌, ap, ap₂, subst, arith}
-use Rattle.std.proofs.lemmas.List.{get_or-take, get_or-drop}
 use Rattle.std.proofs.lemmas.Bool.Decides.{nat_tests}
 use Rattle.h5_bytes.specs.Bytes.{number_at, byte_at, part, with_part, with_field, little_bytes, undefined_address}
 use Rattle.h5_bytes.specs.Blocks.{block, holds, cover, Separate, Inside}
@@ -17,6 +16,7 @@ use Rattle.h5_heap.specs.Chain.{free_from, IsChain, HasChain}
 use Rattle.h5_heap.specs.FreeList.{IsFreeList}
 use Rattle.h5_bytes.specs.Texts.{until_zero, text_at}
 use Rattle.h5_model.specs.Format.Heap.{span_of}
+use Rattle.h5_model.proofs.BodyLaws.{byte_at-part}
 use Rattle.h5_heap.specs.Spans.{IsSpan}
 use Rattle.h5_heap.specs.Released.{Releases}
 use Rattle.h5_heap.specs.Inserted.{InsertsText, HasInserted}
@@ -66,10 +66,6 @@ list_start_is segment n free chain = go free chain where
   go (b ∷ bs) c = no (λ e. absurd (
       let even : n % 8 ≡ 0 = ap (λ (m : ℕ). m % 8) (sym c.listed.0) ∙ c.each.0.aligned in
       omega (arith, even, e)))
-
-pub byte_at-part : (k at len : ℕ) (bytes : List ℕ) → k < len → byte_at (part at len bytes) k ≡ byte_at bytes (at + k)
-unfolding part
-byte_at-part k at len bytes low = get_or-take len (drop at bytes) k 0 low ∙ get_or-drop at bytes k 0
 
 -- other bytes stand in the segment, and another offset in the header
 module _ (image : List ℕ) (heap : ℕ) (s : IsStandingHeap image heap) (w : List ℕ) (n : ℕ) (low : n < 2 ^ 64)

@@ -8,6 +8,7 @@ use Rattle.std.proofs.lemmas.List.{length-append}
 use Rattle.h5_bytes.proofs.FieldLaws.{number_at-with_part_other, number_at-with_field}
 use Rattle.h5_bytes.proofs.PartLaws.{length-part, length-with_part, part-with_part_same, part-with_part_other, part-part, part-append}
 use Rattle.h5_model.specs.Format.Heap.{IsHeap, FreeFrom, heap_signature, heap_header, free_head, segment_size, segment_place, segment_block, segment_of, heap_blocks}
+use Rattle.h5_model.proofs.BodyLaws.{byte_at-part}
 use Rattle.h5_space.specs.Space.{Space, growth}
 use Rattle.h5_space.specs.Whole.{IsApart}
 use Rattle.h5_space.specs.Lending.{with_bytes_at}
@@ -16,7 +17,7 @@ use Rattle.h5_space.proofs.MovesLaws.{moves_take, moves_give, moves_write, moves
 use Rattle.h5_heap.specs.Chain.{free_from, HasChain}
 use Rattle.h5_heap.specs.Edited.{list_start, first_free, IsStandingHeap}
 use Rattle.h5_heap.specs.Inserted.{InsertsText, HasInserted}
-use Rattle.h5_heap.proofs.EditedLaws.{byte_at-part, list_start_is, standing_heap}
+use Rattle.h5_heap.proofs.EditedLaws.{list_start_is, standing_heap}
 
 -- ---- the header's three numbers
 

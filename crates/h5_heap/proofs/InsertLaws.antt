@@ -1,5 +1,5 @@
 -- A text is written into a segment: over the first bytes of a free block, or behind the old bytes.
-use Rattle.std.proofs.Common.{◌≡◌, ℕ, ◌+◌, ◌-◌, ◌<◌, ◌≤◌, ◌%◌, inl, inr, Option, Some, None, List, [], ◌∷◌, length, refl, sym, ◌∙◌, ap, ap₂, subst, arith}
+use Rattle.std.proofs.Common.{◌≡◌, ℕ, ◌+◌, ◌-◌, ◌<◌, ◌≤◌, ◌%◌, inl, inr, Some, None, List, [], ◌∷◌, length, refl, sym, ◌∙◌, ap, ap₂, subst, arith}
 use Rattle.std.specs.List.{AllByRecursion, find}
 use Rattle.std.proofs.lemmas.Bool.{cases_lt}
 use Rattle.std.proofs.lemmas.Bool.Decides.{nat_tests}
@@ -13,18 +13,16 @@ use Rattle.h5_bytes.proofs.PartLaws.{length-part, length-with_part, part-with_pa
 use Rattle.h5_model.specs.Format.Heap.{FreeFrom, IsFree}
 use Rattle.h5_model.specs.Format.Plain.{padded_text}
 use Rattle.h5_model.specs.Format.Sizes.{text_span}
+use Rattle.h5_model.proofs.OneReading.{some_same}
+use Rattle.h5_model.proofs.BodyLaws.{byte_at-part}
 use Rattle.h5_space.proofs.MovesLaws.{byte-with_part}
 use Rattle.h5_heap.specs.Chain.{free_from, IsChain, HasChain, Relists, Ascends, IsPutIn}
 use Rattle.h5_heap.specs.Inserted.{InsertsText, IsFront, rest_of, grown_length}
 use Rattle.h5_heap.specs.Sought.{is_enough}
 use Rattle.h5_heap.proofs.ChainLaws.{IsFound, found_free, free_from_is, has_chain}
-use Rattle.h5_heap.proofs.EditedLaws.{byte_at-part}
 use Rattle.h5_heap.proofs.FrontLaws.{rest_none, rest_one}
 use Rattle.h5_heap.proofs.RelistLaws.{chain_kept}
 use Rattle.h5_heap.proofs.WriteLaws.Lengths.{length-padded_text}
-
-same_some : (o : Option Block) (x y : Block) → o ≡ Some x → o ≡ Some y → x ≡ y
-same_some o x y one two = cc
 
 some_span : (text : List ℕ) → 0 < text_span text
 some_span text = omega arith
@@ -120,7 +118,7 @@ module _ (s t : List ℕ) (first g : ℕ) (text : List ℕ) (b : Block) (c : Has
         arith,
         ap (cover p) front.before,
         cover-append p front.front (front.whole ∷ front.back),
-        ap (λ (x : Block). holds p x.at x.len) (same_some (find (is_enough (text_span text)) (free_from s first)) front.whole b front.first found),
+        ap (λ (x : Block). holds p x.at x.len) (some_same (find (is_enough (text_span text)) (free_from s first)) front.whole b front.first found),
       )
 
 -- behind the old bytes

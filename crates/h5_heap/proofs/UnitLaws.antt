@@ -1,5 +1,5 @@
 -- What the units of a segment say of its bytes, and what they say when a text is taken.
-use Rattle.std.proofs.Common.{◌≡◌, ◌≢◌, ℕ, zero, suc, ◌+◌, ◌*◌, ◌/◌, ◌%◌, ◌<◌, ◌≤◌, ◌⊎◌, ◌↔◌, inl, inr, List, [], ◌∷◌, ◌++◌, length, get_or, refl, sym, ◌∙◌, ap, subst, min, arith}
+use Rattle.std.proofs.Common.{◌≡◌, ◌≢◌, ℕ, zero, suc, ◌+◌, ◌*◌, ◌/◌, ◌%◌, ◌<◌, ◌≤◌, ◌⊎◌, ◌↔◌, inl, inr, List, [], ◌∷◌, ◌++◌, length, refl, sym, ◌∙◌, ap, subst, min, arith}
 use Rattle.std.specs.Prelude.{◌==◌, if◌then◌else◌, Bool, true, false}
 use Rattle.std.specs.List.{AllByRecursion, Contains}
 use Rattle.std.proofs.lemmas.Bool.{cases_lt}
@@ -140,11 +140,6 @@ first_covered p (b ∷ bs) all = omega (arith, first_held p b all.0, first_cover
 
 fresh_free : (free : List Block) (k : ℕ) → 1 ≤ cover (8 * k) free → fresh_unit free k ≡ Free
 fresh_free free k some = let is : (cover (8 * k) free == 0) ≡ false = grind (arith, nat_tests, some) in rw is refl
-
-pub each_at : (P : Block → Type 0) (free : List Block) (i : ℕ) (d : Block) → AllByRecursion P free → i < length free → P (get_or free i d)
-each_at P [] i d all low = absurd (omega (arith, low))
-each_at P (b ∷ bs) zero d all low = all.0
-each_at P (b ∷ bs) (suc i) d all low = each_at P bs i d all.1 (omega (arith, low))
 
 -- one free block more
 pub fresh_more : (us vs : List UnitState) (free : List Block) (b : Block) → IsFree b → ((k : ℕ) → unit_at us k ≡ fresh_unit free k)

@@ -1,23 +1,18 @@
 -- Names that ascend: each is before all that stand behind it.
-use Rattle.std.proofs.Common.{◌≡◌, inl, inr, ℕ, zero, suc, ◌<◌, List, [], ◌∷◌, ◌++◌, length, take, drop, refl, ap, subst, arith, true, false}
-use Rattle.std.specs.Prelude.{slice_index_or, IsTrue}
+use Rattle.std.proofs.Common.{◌≡◌, inl, inr, ℕ, zero, suc, ◌<◌, List, [], ◌∷◌, ◌++◌, length, take, drop, ap, subst, arith}
+use Rattle.std.specs.Prelude.{slice_index_or}
 use Rattle.std.specs.Ordering.{nat_cmp, is_lt}
-use Rattle.std.specs.declared.cmp.Ordering.{Ordering}
-use Rattle.std.specs.declared.cmp.Ordering.TheVariants.{Less, Equal, Greater}
 use Rattle.std.specs.Cmp.Lexicographic.{slice_cmp, nat_list_cmp_total}
 use Rattle.h5_model.specs.Format.Symbols.{Target}
 use Rattle.h5_model.specs.Format.Links.{Before, Ascend}
+use Rattle.h5_model.proofs.TextOrder.{is_less}
 use Rattle.h5_laws.proofs.Lists.{In}
 
-pub less_of : (r : Ordering) → IsTrue (is_lt r) → r ≡ Less
-less_of Less h = refl
-less_of Equal h = absurd (let no_way : false ≡ true = h in cc)
-less_of Greater h = absurd (let no_way : false ≡ true = h in cc)
-
 pub before_trans : (a b c : List ℕ) → Before a b → Before b c → Before a c
-before_trans a b c h k = ap is_lt (nat_list_cmp_total.trans a b c (less_of (slice_cmp nat_cmp a b) h) (less_of (slice_cmp nat_cmp b c) k))
+before_trans a b c h k = ap is_lt (nat_list_cmp_total.trans a b c (is_less (slice_cmp nat_cmp a b) h) (is_less (slice_cmp nat_cmp b c) k))
 
-ascend_tail : (a : List ℕ × Target) (xs : List (List ℕ × Target)) → Ascend (a ∷ xs) → Ascend xs
+-- what stands behind the first link ascends too
+pub ascend_tail : (a : List ℕ × Target) (xs : List (List ℕ × Target)) → Ascend (a ∷ xs) → Ascend xs
 ascend_tail a [] h = tt
 ascend_tail a (x ∷ xs) h = h.1
 

@@ -1,16 +1,17 @@
 -- The body of a message is a part of the image, and what a contiguous layout says stands in it.
 use Rattle.std.proofs.Common.{◌≡◌, ◌⊎◌, inl, inr, ℕ, ◌+◌, ◌*◌, ◌≤◌, List, [], ◌∷◌, ◌++◌, length, refl, sym, ap, ◌∙◌, subst, arith, Option, Some, None, true, false, Bool}
 use Rattle.std.proofs.lemmas.Bool.Decides.{nat_tests}
-use Rattle.std.specs.Prelude.{◌==◌, ◌&&◌, not, nat_le, if◌then◌else◌, slice_range}
+use Rattle.std.specs.Prelude.{◌==◌, ◌&&◌, not, nat_le, if◌then◌else◌}
 use Rattle.std.specs.List.{flat_map, list_any}
 use Rattle.h5_bytes.specs.Bytes.{number_at, byte_at, part, undefined_address}
 use Rattle.h5_bytes.specs.Blocks.{block, Inside}
 use Rattle.h5_bytes.specs.declared.Block.{Block}
 use Rattle.h5_bytes.proofs.BlockLaws.{all_append, all_left, all_right}
 use Rattle.h5_model.specs.Format.Messages.{Message, Fills, FillBlocks, HasMessages, continuation, continuations, first_block, prefix_at, first_size}
-use Rattle.h5_model.specs.Format.Layout.{InMessage, InBlock, InChunks, layout_of, compact_layout, contiguous_layout, chunked_layout, short_numbers_at, address_from}
+use Rattle.h5_model.specs.Format.Layout.{InBlock, InChunks, layout_of, compact_layout, contiguous_layout, chunked_layout, short_numbers_at, address_from}
 use Rattle.h5_model.specs.Tree.Places.{cells}
 use Rattle.h5_model.specs.Format.Reached.{size_at}
+use Rattle.h5_model.proofs.BodyLaws.{no_compact}
 use Rattle.h5_laws.proofs.Lists.{In, in_all, all_in, in_either, in_flat, from_flat}
 use Rattle.h5_laws.proofs.Heads.{fit, size, body}
 
@@ -72,14 +73,6 @@ pick : {X : Type 0} (t : Bool) (x y : Option X) (v : X) → (if t then x else y)
 pick true x y v h = inl (refl, h)
 pick false x y v h = inr (refl, h)
 
-compact_not : (need : ℕ) (body : List ℕ) (b : Block) → compact_layout need body ≡ Some (InBlock (Some b)) → ⊥
-compact_not need body b h =
-    elim (pick (nat_le 4 (length body) && nat_le (4 + number_at body 2 2) (length body) && nat_le need (number_at body 2 2))
-    (Some (InMessage (slice_range body 4 (4 + need)))) None (InBlock (Some b)) h) [
-      | inl yields ↦ absurd (let e : Some (InMessage (slice_range body 4 (4 + need))) ≡ Some (InBlock (Some b)) = yields.1 in cc)
-      | inr none ↦ absurd (let e : None ≡ Some (InBlock (Some b)) = none.1 in cc)
-    ]
-
 chunked_not : (rank size : ℕ) (body : List ℕ) (b : Block) → chunked_layout rank size body ≡ Some (InBlock (Some b)) → ⊥
 chunked_not rank size body b h =
     elim (pick (nat_le (11 + 4 * (rank + 1)) (length body) && byte_at body 2 == rank + 1 && nat_le 1 rank
@@ -120,7 +113,7 @@ block_says sizes size body b h =
     elim (pick (nat_le 2 (length body) && byte_at body 0 == 3) first None (InBlock (Some b)) h) [
       | inr none ↦ absurd (let e : None ≡ Some (InBlock (Some b)) = none.1 in cc)
       | inl here ↦ elim (pick (byte_at body 1 == 0) (compact_layout need body) second (InBlock (Some b)) here.1) [
-        | inl compact ↦ absurd (compact_not need body b compact.1)
+        | inl compact ↦ absurd (no_compact need body b compact.1)
         | inr past ↦ elim (pick (byte_at body 1 == 1) (contiguous_layout need body) third (InBlock (Some b)) past.1) [
           | inl contiguous ↦ contiguous_says need body b contiguous.1
           | inr last ↦ elim (pick (byte_at body 1 == 2) (chunked_layout (length sizes) size body) None (InBlock (Some b)) last.1) [

@@ -12,10 +12,9 @@ use Rattle.h5_model.specs.Format.Rows.{Node, Reading, row_below}
 use Rattle.h5_model.specs.Format.Nodes.{Kind, HasTree, node_at, reading_of}
 use Rattle.h5_model.specs.Format.Chunks.{IsChunkBetween, IsChunkOrdered, all_offsets_in, chunks_at, chunks_below, chunks_in, offsets_in}
 use Rattle.h5_model.specs.Format.Links.{Before, NotAfter}
-use Rattle.h5_model.proofs.TextOrder.{not_after_itself, not_after_trans, before_back, before_le}
+use Rattle.h5_model.proofs.TextOrder.{not_after_itself, not_after_trans, before_back, before_le, is_less}
 use Rattle.h5_laws.specs.Ladders.{IsLadder, IsOrderedBy, all_of, items_under, lists_below, IsOrderly}
 use Rattle.h5_laws.specs.ChunkLadders.{chunk_sides, chunk_lists, rising_chunk_sides}
-use Rattle.h5_laws.proofs.Ascending.{less_of}
 use Rattle.h5_laws.proofs.Ladders.{risen}
 use Rattle.h5_laws.proofs.LadderTrees.{items_below, ordered_ladder, ladder_ordered, ordered_there}
 use Rattle.h5_laws.proofs.Lists.{all_in, in_all}
@@ -40,7 +39,7 @@ zip_long (x ∷ xs) (y ∷ ys) long = ap suc (zip_long xs ys (omega (arith, long
 pub before_after : (a b c : List ℕ) → Before a b → NotAfter b c → Before a c
 before_after a b c before not_after = by_order (slice_cmp nat_cmp b c) refl where
   by_order : (r : Ordering) → slice_cmp nat_cmp b c ≡ r → Before a c
-  by_order Less is = ap is_lt (nat_list_cmp_total.trans a b c (less_of (slice_cmp nat_cmp a b) before) is)
+  by_order Less is = ap is_lt (nat_list_cmp_total.trans a b c (is_less (slice_cmp nat_cmp a b) before) is)
   by_order Equal is = subst (λ (r : Ordering). IsTrue (is_lt r)) (alike_right nat_list_cmp_total b c a is) before
   by_order Greater is = absurd (let never : false ≡ true = rw is at not_after in cc)
 

@@ -1,8 +1,7 @@
 -- Where a message of a header is met, a message of the header's list stands.
-use Rattle.std.proofs.Common.{◌≡◌, ◌≢◌, ℕ, ◌+◌, ◌<◌, ◌≤◌, ◌%◌, ◌⊎◌, inl, inr, List, [], ◌∷◌, ◌++◌, length, drop, refl, sym, ap, ap₂, ◌∙◌, subst, arith, Some}
+use Rattle.std.proofs.Common.{◌≡◌, ◌≢◌, ℕ, ◌+◌, ◌≤◌, ◌%◌, ◌⊎◌, inl, inr, List, [], ◌∷◌, ◌++◌, length, refl, sym, ap, ap₂, ◌∙◌, subst, arith, Some}
 use Rattle.std.specs.Prelude.{bit_and, nat_le, true, ◌==◌}
 use Rattle.std.specs.List.{flat_map}
-use Rattle.std.proofs.lemmas.List.{get_or-take, get_or-drop}
 use Rattle.std.proofs.lemmas.Bool.Decides.{nat_tests}
 use Rattle.h5_bytes.specs.Bytes.{number_at, byte_at, part}
 use Rattle.h5_bytes.specs.Blocks.{block, Inside}
@@ -13,11 +12,8 @@ use Rattle.h5_model.specs.Format.Addresses.{continuation_of}
 use Rattle.h5_model.specs.Format.MessageTypes.{continuation_kind}
 use Rattle.h5_model.specs.Format.Messages.{Message, IsMessage, Fills, FillBlocks, HasMessages, continuation, continuations, first_block, prefix_at, first_size}
 use Rattle.h5_model.specs.Format.Reached.{Met, at_start, behind, in_continuation, kind_at, size_at}
+use Rattle.h5_model.proofs.BodyLaws.{byte_at-part}
 use Rattle.h5_laws.proofs.Lists.{In, in_all, in_left, in_right, in_flat, from_flat, in_either}
-
-byte_at-part : (k at len : ℕ) (bytes : List ℕ) → k < len → byte_at (part at len bytes) k ≡ byte_at bytes (at + k)
-unfolding part
-byte_at-part k at len bytes low = get_or-take len (drop at bytes) k 0 low ∙ get_or-drop at bytes k 0
 
 -- a block that waits, or that a message names, is filled by one of the parts
 filled_by : (image : List ℕ) (waiting : List Block) (parts : List (List Message)) (b : Block) → FillBlocks image waiting parts

@@ -104,11 +104,3 @@ module _ (K : Type 0) {B X : Type 0} (items : B → List X) (k : ℕ) (some : 1 
       let all = many level (most low level) (IsBushy low level) (bushy_items low level) node.1 is.1 in
       let up = mul-le-mul_right (most low level) is.0 in
       omega (arith, all, up)
-
-  -- a full root, each child of which is so: 2K times what a child has
-  pub full_items : (low level : ℕ) (node : KeyTree K B (suc level)) → 2 * k ≤ length node.1 → AllByRecursion (IsBushy low level) node.1
-      → 2 * k * most low level ≤ length (items_in K items (suc level) node)
-  full_items low level node full each =
-      let all = many level (most low level) (IsBushy low level) (bushy_items low level) node.1 each in
-      let up = mul-le-mul_right (most low level) full in
-      omega (arith, all, up)

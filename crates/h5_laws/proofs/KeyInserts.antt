@@ -4,14 +4,16 @@ use Rattle.std.specs.List.{flat_map, AllByRecursion}
 use Rattle.std.proofs.lemmas.List.{append_assoc, append-nil}
 use Rattle.std.proofs.lemmas.Grind.{flat_map-append}
 use Rattle.h5_bytes.proofs.BlockLaws.{all_append, all_left, all_right, all_so}
+use Rattle.h5_model.proofs.Members.{all_both}
 use Rattle.h5_laws.specs.Ladders.{Sides, LieBetween, IsOrderly}
 use Rattle.h5_laws.specs.KeyTrees.{KeyTree, items_in, IsSorted}
 use Rattle.h5_laws.specs.KeyEdits.{Grown, One, Two, IsPut, LetIn, Descends, IsHeld, Widens, IsHalved, Fits, Inserts, IsRaised}
 use Rattle.h5_laws.proofs.KeyLadders.{Ladder, halves, around, from_around, from_around_two, above_first, below_last, first_last, lower_left, raise_right}
 
-pub all_both : {X : Type 0} (P Q : X → Type 0) (xs : List X) → AllByRecursion P xs → AllByRecursion Q xs → AllByRecursion (λ x. P x × Q x) xs
-all_both P Q [] p q = tt
-all_both P Q (x ∷ xs) p q = ((p.0, q.0), all_both P Q xs p.1 q.1)
+-- what follows of two facts of each
+pub all_from_both : {X : Type 0} (P Q R : X → Type 0) (xs : List X) → ((x : X) → P x → Q x → R x) → AllByRecursion P xs → AllByRecursion Q xs → AllByRecursion R xs
+all_from_both P Q R [] both ps qs = tt
+all_from_both P Q R (x ∷ xs) both ps qs = (both x ps.0 qs.0, all_from_both P Q R xs both ps.1 qs.1)
 
 module _ {X : Type 0} (Below : X → X → Type 0) (x : X) where
   all_put : (Q : X → Type 0) (front back : List X) → AllByRecursion Q (front ++ back) → Q x → AllByRecursion Q (front ++ x ∷ back)

@@ -26,7 +26,7 @@ not_before a b never = elim (not_after_or a b) [ inl is ↦ is | inr before ↦ 
 before_not : (a b : List ℕ) → (NotAfter b a → ⊥) → NotAfter a b
 before_not a b never = elim (not_after_or b a) [ inl is ↦ absurd (never is) | inr before ↦ before_le a b before ]
 
-none_before : (t : List ℕ) → NotAfter [] t
+pub none_before : (t : List ℕ) → NotAfter [] t
 none_before [] = refl
 none_before (n ∷ t) = refl
 

@@ -1,5 +1,5 @@
 -- A rule on all messages of a header that is broken excludes that the header is read.
-use Rattle.std.proofs.Common.{◌≡◌, ◌⊎◌, inl, inr, ℕ, ◌*◌, ◌^◌, ◌<◌, ◌≤◌, List, [], ◌∷◌, map, refl, sym, ap, ◌∙◌, subst, arith, None, Some, true, false, Bool, Option, cond, ℤ}
+use Rattle.std.proofs.Common.{◌≡◌, ◌⊎◌, inl, inr, ℕ, ◌*◌, ◌^◌, ◌<◌, ◌≤◌, List, [], ◌∷◌, map, refl, sym, ap, ◌∙◌, subst, arith, None, Some, true, false, Bool, Option, ℤ}
 use Rattle.std.proofs.lemmas.Bool.Decides.{nat_tests}
 use Rattle.std.specs.Prelude.{◌==◌, IsTrue, option_map, is_some}
 use Rattle.std.specs.Option.{option_and_then}
@@ -23,6 +23,7 @@ use Rattle.h5_model.specs.Format.Reads.{HasGroup, HasDataset, HasAttributes, is_
 use Rattle.h5_model.specs.Format.Described.{IsFill, IsChunkSmall}
 use Rattle.h5_model.specs.Format.Reached.{extent_among, type_among, layout_among}
 use Rattle.h5_model.specs.Faults.HeaderFaults.{SomeBody, HasNameTwice, IsBadFill, IsLarge, stands_twice, stands}
+use Rattle.h5_model.proofs.Members.{in_filter}
 use Rattle.h5_laws.proofs.Lists.{In, in_all, in_contains}
 use Rattle.h5_laws.proofs.Maps.{tied_right}
 use Rattle.h5_laws.proofs.Counts.{only_body, none_counted, counted}
@@ -68,14 +69,6 @@ never b is h = let no_way : false ≡ true = sym is ∙ h in absurd (cc)
 
 -- ---- attributes
 
-kept_filter : (p : Message → Bool) (m : Message) (ms : List Message) → p m ≡ true → In m ms → In m (filter p ms)
-kept_filter p m [] passes at = absurd at
-kept_filter p m (x ∷ ms) passes (inl e) = let same : p x ≡ true = subst (λ (y : Message). p y ≡ true) (sym e) passes in rw same (inl e)
-kept_filter p m (x ∷ ms) passes (inr at) = go (p x) (kept_filter p m ms passes at) where
-  go : (b : Bool) → In m (filter p ms) → In m (cond b (x ∷ filter p ms) (filter p ms))
-  go true rest = inr rest
-  go false rest = rest
-
 mapped : {X Y : Type 0} (f : X → Option Y) (xs : List X) (ys : List Y) → AllZip (λ x y. f x ≡ Some y) xs ys → filter_map f xs ≡ ys
 mapped f [] [] zip = refl
 mapped f [] (y ∷ ys) zip = absurd zip
@@ -92,7 +85,7 @@ module _ (ms : List Message) (attributes : Attributes) (has : HasAttributes ms a
   attribute_there m at is =
       let passes : (m.kind == attribute_kind) ≡ true = grind (arith, nat_tests) in
       tied_right (λ (x : Message) (a : List ℕ × Attribute). attribute_of x.body ≡ Some a) (filter is_attribute_message ms) has.listed m has.each
-      (kept_filter is_attribute_message m ms passes at)
+      (in_filter is_attribute_message m ms at passes)
 
   pub attributes_excluded : SomeBody attribute_kind ms (λ body. attribute_of body ≡ None) → ⊥
   attributes_excluded (m, at, is, fails) =

@@ -1,11 +1,11 @@
 -- Each message that a header is read with is met, at its place.
 use Rattle.std.proofs.Common.{◌≡◌, inl, inr, ℕ, ◌+◌, ◌≤◌, List, [], ◌∷◌, ◌++◌, length, refl, sym, ap, ◌∙◌, subst, arith, Option, Some, None, true, false, Bool}
 use Rattle.std.proofs.lemmas.Bool.Decides.{nat_tests}
-use Rattle.std.specs.Prelude.{◌==◌, nat_le, if◌then◌else◌}
+use Rattle.std.specs.Prelude.{◌==◌, if◌then◌else◌}
 use Rattle.std.specs.Option.{option_map_or}
 use Rattle.std.specs.List.{AllByRecursion, flat_map}
 use Rattle.h5_bytes.specs.Bytes.{number_at, part}
-use Rattle.h5_bytes.specs.Blocks.{block, Inside}
+use Rattle.h5_bytes.specs.Blocks.{Inside}
 use Rattle.h5_bytes.specs.declared.Block.{Block}
 use Rattle.h5_bytes.proofs.PartLaws.{length-part}
 use Rattle.h5_bytes.proofs.FieldLaws.{number_at-part}
@@ -14,6 +14,7 @@ use Rattle.h5_model.specs.Format.Addresses.{continuation_of}
 use Rattle.h5_model.specs.Format.MessageTypes.{continuation_kind}
 use Rattle.h5_model.specs.Format.Messages.{Message, Fills, FillBlocks, HasMessages, continuation, continuations, first_block, prefix_at, first_size}
 use Rattle.h5_model.specs.Format.Reached.{Met, at_start, behind, in_continuation, FittingAt, kind_at, size_at}
+use Rattle.h5_model.proofs.BodyLaws.{long_body}
 use Rattle.h5_laws.proofs.Lists.{In, in_all, all_in, in_either, from_flat}
 use Rattle.h5_laws.proofs.Heads.{fit, size, body}
 use Rattle.h5_laws.proofs.Bodies.{parts_named}
@@ -26,14 +27,6 @@ pub record MetMessage (image : List ℕ) (header : ℕ) (m : Message) : Type 0 w
   pub kind : kind_at image at ≡ m.kind
   pub body : m.body ≡ part (at + 8) (size_at image at) image
   pub inside : at + 8 + size_at image at ≤ length image
-
-long_body : (b : Block) (bytes : List ℕ) → continuation_of bytes ≡ Some b → (16 ≤ length bytes) × (b ≡ block (number_at bytes 0 8) (number_at bytes 8 8))
-unfolding continuation_of
-long_body b bytes says = go (nat_le 16 (length bytes)) refl says where
-  go : (t : Bool) → nat_le 16 (length bytes) ≡ t → (if t then Some (block (number_at bytes 0 8) (number_at bytes 8 8)) else None) ≡ Some b
-      → (16 ≤ length bytes) × (b ≡ block (number_at bytes 0 8) (number_at bytes 8 8))
-  go true holds named = (let long : 16 ≤ length bytes = grind (arith, nat_tests, holds) in long, let same : b ≡ block (number_at bytes 0 8) (number_at bytes 8 8) = cc in same)
-  go false holds named = absurd (let never : None ≡ Some b = named in cc)
 
 -- what a message names
 named_by : (m : Message) (b : Block) → In b (continuation m) → (m.kind ≡ continuation_kind) × (continuation_of m.body ≡ Some b)
@@ -76,7 +69,7 @@ module _ (image : List ℕ) (header : ℕ) where
   -- a block that a message names is met
   named_met : (m : Message) (b : Block) → MetMessage image header m → m.kind ≡ continuation_kind → continuation_of m.body ≡ Some b → IsMet b
   named_met m b is kind says =
-      let long = long_body b m.body says in
+      let long = long_body m.body b says in
       let n = size_at image is.at in
       let len : length m.body ≡ n = ap length is.body ∙ length-part (is.at + 8) n image is.inside in
       let none : is.at + 8 + 0 ≡ is.at + 8 = omega arith in

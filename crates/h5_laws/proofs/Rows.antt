@@ -19,7 +19,7 @@ rows_below V zero l level row e are = let same : level ≡ l = omega arith in su
 rows_below V (suc d) l zero row e are = absurd (omega (arith, e))
 rows_below V (suc d) l (suc level) row e are = rows_below V d l level (next_row V row) (omega (arith, e)) are.1
 
-row_in_nodes : (V : Reading) (level n : ℕ) (row : List ℕ) → In n row → In n (nodes V level row)
+pub row_in_nodes : (V : Reading) (level n : ℕ) (row : List ℕ) → In n row → In n (nodes V level row)
 row_in_nodes V zero n row at = at
 row_in_nodes V (suc level) n row at = in_left n row (nodes V level (next_row V row)) at
 

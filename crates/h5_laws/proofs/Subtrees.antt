@@ -37,11 +37,6 @@ module _ (V : Reading) where
   pub leaves_within : (level : ℕ) (r s : List ℕ) → Within r s → Within (leaves V level r) (leaves V level s)
   leaves_within level r s sub = next_within (row_below V level r) (row_below V level s) (rows_within level r s sub)
 
-  pub row_join : (d l level : ℕ) (row : List ℕ) → d + l ≡ level → row_below V l (row_below V d row) ≡ row_below V level row
-  row_join zero l level row e = let same : l ≡ level = omega arith in ap (λ (n : ℕ). row_below V n row) same
-  row_join (suc d) l zero row e = absurd (omega (arith, e))
-  row_join (suc d) l (suc level) row e = row_join d l level (next_row V row) (omega (arith, e))
-
   -- all nodes from a row below on are among the nodes
   pub nodes_below : (d l level : ℕ) (row : List ℕ) → d + l ≡ level → Within (nodes V l (row_below V d row)) (nodes V level row)
   nodes_below zero l level row e x at = let same : l ≡ level = omega arith in subst (λ (n : ℕ). In x (nodes V n row)) same at

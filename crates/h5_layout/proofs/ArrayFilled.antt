@@ -1,5 +1,5 @@
 -- The cells of an array stay where chunks of the fill are stored, or a block of it: where none was stored each read the fill.
-use Rattle.std.proofs.Common.{◌≡◌, ℕ, zero, suc, ◌<◌, ◌⊎◌, inl, inr, ℤ, List, length, replicate, Bool, true, false, not, Option, Some, None, refl, sym, ap, ap₂, ◌∙◌, arith}
+use Rattle.std.proofs.Common.{◌≡◌, ℕ, ◌<◌, ◌⊎◌, inl, inr, ℤ, List, length, replicate, Bool, true, false, not, Option, Some, None, refl, sym, ap, ap₂, ◌∙◌, arith}
 use Rattle.std.specs.Prelude.{is_some}
 use Rattle.std.specs.FinMap.{get}
 use Rattle.std.specs.List.{Contains, list_any}
@@ -16,14 +16,15 @@ use Rattle.h5_model.specs.Format.Reached.{Shape}
 use Rattle.h5_model.specs.Format.Described.{Described}
 use Rattle.h5_model.specs.Tree.Grid.{corner_of, inner_of}
 use Rattle.h5_model.specs.Tree.Places.{cells, index_of, place_of}
-use Rattle.h5_model.specs.Tree.Sound.{AreOf}
 use Rattle.h5_model.specs.Views.Selection.{Slab, selection_of}
 use Rattle.h5_model.proofs.PlaceLaws.{place_below}
 use Rattle.h5_model.proofs.PlainValues.{cells_of-cells_bytes, size-low, value_at-cells_bytes}
+use Rattle.h5_model.proofs.EditLaws.{AreOf-replicate}
 use Rattle.h5_space.specs.Space.{Space}
 use Rattle.h5_laws.proofs.Lists.{In, contains_in, in_contains}
 use Rattle.h5_laws.proofs.SoundLaws.Inserted.{same_name_or_other}
 use Rattle.h5_laws.proofs.SoundLaws.Lost.{in_or_out}
+use Rattle.h5_shape.proofs.GridBoxes.{length-index_of}
 use Rattle.h5_chunks.specs.Told.{chunks_told}
 use Rattle.h5_layout.specs.Data.{chunk_shape, stored_chunks}
 use Rattle.h5_layout.specs.Filled.{HasFilledChunks, cells_of_fill}
@@ -33,17 +34,13 @@ use Rattle.h5_chunks.specs.Lists.{ChunkOffsets}
 use Rattle.h5_layout.specs.Standing.{is_stored_in}
 use Rattle.h5_layout.proofs.ChosenPlaces.{index_selected}
 use Rattle.h5_layout.proofs.LackingLaws.{all_fail}
-use Rattle.h5_layout.proofs.LocateLaws.{inner_inside, length-index}
+use Rattle.h5_layout.proofs.LocateLaws.{inner_inside}
 
 -- ---- cells of the fill
 
-fills_of : (t : Fixed) (fill : ℤ) (n : ℕ) → fits t fill ≡ true → AreOf t (replicate n fill)
-fills_of t fill zero fit = tt
-fills_of t fill (suc n) fit = (fit, fills_of t fill n fit)
-
 fill_there : (t : Fixed) (fill : ℤ) (n k : ℕ) → IsFixed t → fits t fill ≡ true → k < n → value_in t (cells_of_fill t fill n) k ≡ fill
 fill_there t fill n k sound fit low =
-    value_at-cells_bytes t (replicate n fill) k fill (size-low t sound) (fills_of t fill n fit) (omega (arith, low, length-replicate n fill)) ∙ get_or-replicate n k fill fill low
+    value_at-cells_bytes t (replicate n fill) k fill (size-low t sound) (AreOf-replicate t n fill fit) (omega (arith, low, length-replicate n fill)) ∙ get_or-replicate n k fill fill low
 
 -- an array without a block reads as one with a block of the fill
 pub block_reads : (old new : List ℕ) (t : Fixed) (fill : ℤ) (sizes : List ℕ) (at len : ℕ) (chunks others : Chunks) → IsFixed t → fits t fill ≡ true
@@ -51,7 +48,7 @@ pub block_reads : (old new : List ℕ) (t : Fixed) (fill : ℤ) (sizes : List �
     → cells_of new t fill sizes (InBlock (Some (block at len))) others ≡ cells_of old t fill sizes (InBlock None) chunks
 block_reads old new t fill sizes at len chunks others sound fit there =
     let n = cells sizes in
-    sym (cells_of-cells_bytes new t fill sizes (block at len) others (replicate n fill) (size-low t sound) (fills_of t fill n fit) (length-replicate n fill) there)
+    sym (cells_of-cells_bytes new t fill sizes (block at len) others (replicate n fill) (size-low t sound) (AreOf-replicate t n fill fit) (length-replicate n fill) there)
     ∙ fill_by_all (λ place. fill) (replicate n fill) n fill (length-replicate n fill) (λ k low. get_or-replicate n k fill fill low)
 
 module _ (s t : Space) (fixed : Fixed) (fill : ℤ) (chunk : List ℕ) (root : ℕ) (more : List (List ℕ)) (sound : IsFixed fixed) (fit : fits fixed fill ≡ true)
@@ -96,7 +93,7 @@ module _ (s t : Space) (fixed : Fixed) (fill : ℤ) (chunk : List ℕ) (root : �
       → cells_of t.bytes fixed fill sizes (InChunks chunk (Some root)) new ≡ cells_of s.bytes fixed fill sizes (InChunks chunk (Some root)) old
   filled_reads sizes rank some =
       let here : List ℕ → Chunks → ℕ → ℤ = λ image chunks place. cell_of image fixed fill sizes (InChunks chunk (Some root)) chunks (index_of sizes place) in
-      table_same (here s.bytes old) (here t.bytes new) (cells sizes) 0 (λ j low. grid_reads sizes (index_of sizes j) (length-index sizes j ∙ sym rank) some)
+      table_same (here s.bytes old) (here t.bytes new) (cells sizes) 0 (λ j low. grid_reads sizes (index_of sizes j) (length-index_of sizes j ∙ sym rank) some)
 
   -- Where a chunk is stored now, it is one of these, or was stored.
   pub stored_before : (o : List ℕ) (at : ℕ) → get new o ≡ Some at → (In o more) ⊎ ((was : ℕ) × (get old o ≡ Some was))

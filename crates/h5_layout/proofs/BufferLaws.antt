@@ -37,7 +37,7 @@ all_fit t [] are = refl
 all_fit t (v ∷ vs) are = rw (are.0, all_fit t vs are.1) refl
 
 -- bytes of so many cells
-so_many_cells : (t : Fixed) → 1 ≤ t.size → (bytes : List ℕ) (n : ℕ) → length bytes ≡ n * t.size → are_whole_cells t bytes ≡ true
+pub so_many_cells : (t : Fixed) → 1 ≤ t.size → (bytes : List ℕ) (n : ℕ) → length bytes ≡ n * t.size → are_whole_cells t bytes ≡ true
 so_many_cells t some bytes n long =
     let whole : length bytes ≡ n * t.size + 0 = omega (arith, long) in
     ap (λ k. k == 0) (ap (λ k. k % t.size) whole ∙ mod-mul-add n t.size 0 some)

@@ -20,7 +20,7 @@ use Rattle.h5_model.proofs.KLaws.{same_chunk, same_length}
 use Rattle.h5_space.specs.Lending.{with_bytes_at}
 use Rattle.h5_space.specs.Moves.{Moves}
 use Rattle.h5_space.specs.Space.{Space}
-use Rattle.h5_space.proofs.MovesLaws.{moves_kept, moves_same, moves_then, moves_write, part-same}
+use Rattle.h5_space.proofs.MovesLaws.{moves_kept, moves_same, moves_then, moves_write, part-same, byte-with_part}
 use Rattle.h5_header.proofs.BesideLaws.{moves_covered}
 use Rattle.h5_laws.proofs.Lists.{In, contains_in, in_all, in_contains, in_map}
 use Rattle.h5_laws.proofs.Maps.{found_entry}
@@ -35,7 +35,6 @@ use Rattle.h5_chunks.proofs.SuperblockStays.{k_stays}
 use Rattle.h5_layout.proofs.GridLaws.{chunk_inside}
 use Rattle.h5_layout.proofs.NodesStay.{blocks_stay, chunks_stay, read_stays}
 use Rattle.h5_layout.proofs.StandingLaws.{among, one_around}
-use Rattle.h5_layout.proofs.StandingWritten.{byte_beside}
 
 -- ---- a chunk more
 
@@ -151,7 +150,7 @@ module _ (s new : Space) (shape : Shape) (root : ℕ) (was : AreChunksApart s sh
   pub written_others : (o : List ℕ) (a : ℕ) → get chunks o ≡ Some a → (o ≡ offsets → ⊥) → part a shape.bytes new.bytes ≡ part a shape.bytes s.bytes
   written_others o a there differ =
       part-same a shape.bytes s.bytes new.bytes (chunk_inside s.bytes shape root was.read o a there) (omega (arith, same_long)) (λ p low high.
-      ap (λ (bs : List ℕ). byte_at bs p) bytes_are ∙ byte_beside at w s.bytes p room (elim (cases_lt p at) [
+      ap (λ (bs : List ℕ). byte_at bs p) bytes_are ∙ byte-with_part at w s.bytes p room (elim (cases_lt p at) [
         | inl below ↦ inl below
         | inr above ↦ inr (elim (cases_lt p (at + length w)) [
           | inl within ↦ absurd (

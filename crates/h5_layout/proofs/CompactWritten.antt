@@ -25,11 +25,11 @@ use Rattle.h5_model.specs.Tree.Places.{cells, place_of, index_of}
 use Rattle.h5_model.proofs.FixedLaws.{length-bytes_of}
 use Rattle.h5_model.proofs.PlaceLaws.{place-index}
 use Rattle.h5_model.proofs.PlainValues.{length-cells_bytes}
+use Rattle.h5_model.proofs.BodyLaws.{byte_at-part}
 use Rattle.h5_header.specs.Listed.{messages_in, IsWithin}
 use Rattle.h5_header.specs.declared.message.Message.{Message as Placed}
 use Rattle.h5_header.proofs.FirstWritten.{HasNewBody}
 use Rattle.h5_header.proofs.FoundLaws.{first_body-in, within_at}
-use Rattle.h5_header.proofs.MessageLaws.{byte_at-part}
 use Rattle.h5_laws.proofs.InPlace.CellWrites.{cells_in, cell_written}
 use Rattle.h5_layout.specs.Compact.{compact_at}
 use Rattle.h5_layout.specs.Data.{dataset_told}

@@ -1,5 +1,5 @@
 -- The first index of a chunk that holds a cell of an extent: it is inside, and an offset of a whole chunk.
-use Rattle.std.proofs.Common.{◌≡◌, ℕ, suc, ◌+◌, ◌*◌, ◌/◌, ◌%◌, ◌^◌, ◌<◌, ◌≤◌, List, [], ◌∷◌, length, get_or, replicate, refl, sym, ap, ◌∙◌, subst, arith, false, cond}
+use Rattle.std.proofs.Common.{◌≡◌, ℕ, suc, ◌+◌, ◌*◌, ◌/◌, ◌%◌, ◌^◌, ◌<◌, ◌≤◌, List, [], ◌∷◌, length, get_or, replicate, sym, ap, ◌∙◌, subst, arith, false, cond}
 use Rattle.std.specs.Prelude.{◌==◌}
 use Rattle.std.proofs.lemmas.Bool.Decides.{nat_tests}
 use Rattle.std.proofs.lemmas.Nat.{div-add-mod', mod-mul-add}
@@ -20,11 +20,6 @@ corner_inside (d ∷ ds) (c ∷ cs) (i ∷ is) same h =
     let whole : i / c * c + i % c ≡ i = div-add-mod' i c in
     let low : i < d = h.0 in
     (omega (arith, whole, low), corner_inside ds cs is (omega (arith, same)) h.1)
-
-pub length-corner : (chunk index : List ℕ) → length index ≡ length chunk → length (corner_of chunk index) ≡ length chunk
-length-corner [] index same = refl
-length-corner (c ∷ cs) [] same = absurd (omega (arith, same))
-length-corner (c ∷ cs) (i ∷ is) same = ap suc (length-corner cs is (omega (arith, same)))
 
 -- ---- no size of an array with cells is large
 

@@ -41,9 +41,6 @@ module _ (image : List ℕ) (t : Fixed) (fill : ℤ) (sizes : List ℕ) where
       subst (λ (l : Layout). value_in t bytes place ≡ cell_at_place l place) is
       (ap (λ (bs : List ℕ). value_in t bs place) (sym (same_Some (part b.at b.len image) bytes same)) ∙ ap (value_in t (part b.at b.len image)) (sym (place-index sizes place low)))
 
-  pub cell_nowhere : (layout : Layout) (o : Option Block) → InBlock o ≡ layout → o ≡ None → (place : ℕ) → fill ≡ cell_at_place layout place
-  cell_nowhere layout o is none place = subst (λ (l : Layout). fill ≡ cell_at_place l place) (ap InBlock (sym none) ∙ is) refl
-
   pub cell_in_no_chunk : (layout : Layout) (chunk : List ℕ) (o : Option ℕ) → InChunks chunk o ≡ layout → o ≡ None → (place : ℕ) → fill ≡ cell_at_place layout place
   cell_in_no_chunk layout chunk o is none place =
       subst (λ (l : Layout). fill ≡ cell_at_place l place) (ap (InChunks chunk) (sym none) ∙ is)

@@ -3,7 +3,7 @@
 use Rattle.std.proofs.Common.{◌≡◌, ℕ, ◌+◌, Bool, true, false, ◌==◌, eq-eqb, if◌then◌else◌, inl, inr, List, [], ◌∷◌, ◌++◌, length, Some, append_assoc, refl, sym, ap, ap₂, ◌∙◌, arith}
 use Rattle.std.specs.Prelude.{option_and_then}
 use Rattle.std.specs.List.{AllByRecursion, filter}
-use Rattle.std.proofs.lemmas.List.{length-append}
+use Rattle.std.proofs.lemmas.List.{length-append, nil_from_length}
 use Rattle.std.proofs.lemmas.List.Elements.{filter-append}
 use Rattle.h5_bytes.specs.Bytes.{part}
 use Rattle.h5_model.specs.Format.MessageTypes.{dataspace_kind, datatype_kind, symbol_table_kind, nil_kind}
@@ -19,12 +19,8 @@ use Rattle.h5_layout.proofs.ExtentSaid.{count_filtered, first_filtered, first_of
 
 -- ---- messages of one type
 
-no_items : (ms : List Message) → length ms ≡ 0 → ms ≡ []
-no_items [] none = refl
-no_items (m ∷ ms) some = absurd (omega (arith, some))
-
 none_of : (k : ℕ) (ms : List Message) → count_of k ms ≡ 0 → of_type k ms ≡ []
-none_of k ms none = no_items (of_type k ms) (sym (count_filtered k ms) ∙ none)
+none_of k ms none = nil_from_length (of_type k ms) (sym (count_filtered k ms) ∙ none)
 
 -- a message of this type among others
 seen : (k : ℕ) (front : List Message) (m : Message) (back : List Message) → m.kind ≡ k → of_type k (front ++ m ∷ back) ≡ of_type k front ++ m ∷ of_type k back
@@ -41,7 +37,7 @@ alone k front m back is once =
     = ap (λ (ys : List Message). length ys) (sym (seen k front m back is)) ∙ sym (count_filtered k (front ++ m ∷ back)) ∙ once in
     let split : length (of_type k front ++ m ∷ of_type k back) ≡ length (of_type k front) + (1 + length (of_type k back))
     = omega (arith, length-append (of_type k front) (m ∷ of_type k back)) in
-    (no_items (of_type k front) (omega (arith, long, split)), no_items (of_type k back) (omega (arith, long, split)))
+    (nil_from_length (of_type k front) (omega (arith, long, split)), nil_from_length (of_type k back) (omega (arith, long, split)))
 
 only_body : (k : ℕ) (front : List Message) (m : Message) (back : List Message) → m.kind ≡ k → count_of k (front ++ m ∷ back) ≡ 1
     → first_body k (front ++ m ∷ back) ≡ Some m.body

@@ -95,11 +95,6 @@ pub never_refused : {P Q : Type 0} (R : Type 0) (r : Result ℕ InsertFault) →
 never_refused R (Ok at) turn low never = tt
 never_refused R (Err fault) turn low never = absurd (never turn low)
 
--- what follows where it has ended well
-pub then_ok : {P Q : Type 0} (r : Result ℕ InsertFault) → OnOk r P → (P → Q) → OnOk r Q
-then_ok (Ok at) p next = next p
-then_ok (Err fault) p next = tt
-
 -- and of the address that is given then
 pub then_at : {P : Type 0} {Q R : ℕ → Type 0} (r : Result ℕ InsertFault) → OnOk r P → IfOk r Q → (P → (at : ℕ) → Q at → R at) → IfOk r R
 then_at (Ok at) p q next = next p at q

@@ -15,9 +15,10 @@ use Rattle.h5_model.specs.Tree.Grid.{inner_of}
 use Rattle.h5_model.specs.Tree.Places.{cells, index_of}
 use Rattle.h5_model.proofs.PlaceLaws.{place_below}
 use Rattle.h5_layout.specs.ChunkCells.{AreBeside, Grid, IsGrid, place_in_chunk}
-use Rattle.h5_layout.proofs.LocateLaws.{inner_inside, length-index, some_cells}
+use Rattle.h5_layout.proofs.LocateLaws.{inner_inside, some_cells}
 use Rattle.h5_laws.proofs.Lists.{In, in_all, in_map}
 use Rattle.h5_laws.proofs.Maps.{found_entry}
+use Rattle.h5_shape.proofs.GridBoxes.{length-index_of}
 use Rattle.h5_chunks.specs.Read.{AreChunksRead}
 use Rattle.h5_chunks.specs.Shapes.{AreChunkSizes}
 use Rattle.h5_chunks.specs.Told.{chunks_told}
@@ -76,5 +77,5 @@ row_room g place n at grid beside some here =
     let last : ℕ = place + (n - 1) in
     let low : place_in_chunk g last < cells g.shape.sizes
     = place_below g.shape.sizes (inner_of g.shape.sizes (index_of g.sizes last))
-    (inner_inside g.shape.sizes (index_of g.sizes last) (length-index g.sizes last ∙ sym grid.rank) more) in
+    (inner_inside g.shape.sizes (index_of g.sizes last) (length-index_of g.sizes last ∙ sym grid.rank) more) in
     omega (arith, beside.inner (n - 1) (omega arith), low, here)

@@ -1,12 +1,10 @@
 -- Chunks of which some cells are kept: how many bytes they have, and their offsets.
-use Rattle.std.proofs.Common.{◌≡◌, ℕ, zero, suc, ◌+◌, ◌-◌, ◌*◌, ◌<◌, ◌≤◌, ℤ, List, [], ◌∷◌, length, get_or, slice_get, Some, refl, sym, ap, ◌∙◌, subst, arith}
-use Rattle.std.proofs.lemmas.List.FromFn.{length-map-range_with_len}
+use Rattle.std.proofs.Common.{◌≡◌, ℕ, zero, suc, ◌-◌, ◌*◌, ◌<◌, ◌≤◌, ℤ, List, [], ◌∷◌, length, get_or, slice_get, Some, refl, sym, ap, ◌∙◌, subst, arith}
 use Rattle.std.proofs.Math.Nat.{mul-le-mul_right}
 use Rattle.std.proofs.lemmas.Option.{same_Some, slice_get-get_or, slice_get-map}
 use Rattle.std.proofs.lemmas.List.{length-map}
 use Rattle.std.specs.Prelude.{min, option_map}
 use Rattle.std.specs.List.{AllByRecursion}
-use Rattle.h5_bytes.specs.Bytes.{number_at}
 use Rattle.h5_model.specs.Format.Chunks.{offsets_in}
 use Rattle.h5_model.specs.Format.Fixed.{Fixed, IsFixed}
 use Rattle.h5_model.specs.Tree.Places.{cells}
@@ -15,6 +13,7 @@ use Rattle.h5_laws.proofs.Lists.{in_all, in_at}
 use Rattle.h5_chunks.specs.Held.{IsChunkPlace}
 use Rattle.h5_chunks.specs.Shapes.{AreChunkSizes}
 use Rattle.h5_chunks.specs.declared.held.ChunkPlace.{ChunkPlace}
+use Rattle.h5_chunks.proofs.ReachLaws.{offsets_long}
 use Rattle.h5_layout.specs.Data.{chunk_shape}
 use Rattle.h5_layout.specs.HeldChunks.{HeldCells}
 use Rattle.h5_layout.specs.Kept.{AreKept, KeptChunks, kept_cells, kept_values, slices_kept, smaller_sizes}
@@ -27,13 +26,10 @@ some_bytes t chunk sound sizes =
     let one : 1 * t.size ≤ cells chunk * t.size = mul-le-mul_right t.size some in
     omega (arith, one, size)
 
-pub length-offsets_in : (rank : ℕ) (key : List ℕ) → length (offsets_in rank key) ≡ rank
-length-offsets_in rank key = length-map-range_with_len (λ i. number_at key (8 + 8 * i) 8) 0 rank
-
 -- an offset for each size
 pub ranked : (k : KeptChunks) (places : List ChunkPlace) → AllByRecursion (λ (part : List ℕ × List ℤ). length part.0 ≡ length k.chunk) (kept_cells k places).parts
 ranked k [] = tt
-ranked k (place ∷ places) = (length-offsets_in (length k.chunk) place.key.now, ranked k places)
+ranked k (place ∷ places) = (offsets_long (length k.chunk) place.key.now, ranked k places)
 
 -- ---- sizes and slices, dimension by dimension
 

@@ -1,6 +1,6 @@
 -- What is missing of the storage of selected cells, by the layout of their array.
 use Rattle.std.proofs.Common.{◌≡◌, inl, inr, ℕ, zero, suc, ◌<◌, ◌||◌, List, [], ◌∷◌, Bool, true, false, not, Option, Some, None, length, refl, sym, ap, ◌∙◌, subst, arith}
-use Rattle.std.proofs.lemmas.Bool.{or_parts, or_right}
+use Rattle.std.proofs.lemmas.Bool.{or_right}
 use Rattle.std.proofs.lemmas.Bool.Decides.{nat_tests}
 use Rattle.std.specs.Prelude.{◌==◌, if◌then◌else◌, is_some}
 use Rattle.std.specs.FinMap.{get}
@@ -34,11 +34,6 @@ one_passes : (test : ℕ → Bool) (x : ℕ) (xs : List ℕ) → In x xs → tes
 one_passes test x [] at passes = absurd at
 one_passes test x (y ∷ ys) (inl same) passes = rw (ap test same ∙ passes) refl
 one_passes test x (y ∷ ys) (inr at) passes = or_right (test y) (list_any test ys) (one_passes test x ys at passes)
-
-pub none_passes : (test : ℕ → Bool) (x : ℕ) (xs : List ℕ) → list_any test xs ≡ false → In x xs → test x ≡ false
-none_passes test x [] none at = absurd at
-none_passes test x (y ∷ ys) none (inl same) = ap test (sym same) ∙ (or_parts (test y) (list_any test ys) none).0
-none_passes test x (y ∷ ys) none (inr at) = none_passes test x ys (or_parts (test y) (list_any test ys) none).1 at
 
 -- ---- by the layout
 

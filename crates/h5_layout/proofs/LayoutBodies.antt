@@ -11,7 +11,7 @@ use Rattle.h5_bytes.proofs.FieldLaws.{number_at-with_field, number_at-with_part_
 use Rattle.h5_bytes.proofs.PartLaws.{length-with_part}
 use Rattle.h5_model.specs.Format.Layout.{Layout, InMessage, InBlock, InChunks, address_from, layout_of, compact_layout, contiguous_layout, chunked_layout, short_numbers_at}
 use Rattle.h5_model.specs.Tree.Places.{cells}
-use Rattle.h5_layout.proofs.StandingWritten.{byte_beside}
+use Rattle.h5_space.proofs.MovesLaws.{byte-with_part}
 use Rattle.h5_layout.proofs.WriteLaws.{with_part-append}
 
 -- ---- the class
@@ -98,7 +98,7 @@ module _ (sizes : List ℕ) (size : ℕ) (body : List ℕ) (l : Option Block) (w
     length_there = ap (λ (bs : List ℕ). number_at bs 10 8) in_turn ∙ number_at-with_field first 10 8 len (omega (arith, long_first, block_room)) (omega (arith, short))
 
     front : (k : ℕ) → k < 2 → byte_at body' k ≡ byte_at body k
-    front k few = byte_beside 2 (little_bytes 8 at ++ little_bytes 8 len) body k (omega (arith, block_room, (let sixteen : length (little_bytes 8 at ++ little_bytes 8 len) ≡ 16 = refl in sixteen))) (inl few)
+    front k few = byte-with_part 2 (little_bytes 8 at ++ little_bytes 8 len) body k (omega (arith, block_room, (let sixteen : length (little_bytes 8 at ++ little_bytes 8 len) ≡ 16 = refl in sixteen))) (inl few)
 
     pub block_named : layout_of sizes size body' ≡ Some (InBlock (Some (block at len)))
     unfolding layout_of
@@ -163,7 +163,7 @@ module _ (sizes : List ℕ) (size : ℕ) (body chunk : List ℕ) (l : Option ℕ
     named_long = length-with_part 3 (little_bytes 8 root) body named_room
 
     named_front : (k : ℕ) → k < 3 → byte_at named k ≡ byte_at body k
-    named_front k few = byte_beside 3 (little_bytes 8 root) body k named_room (inl few)
+    named_front k few = byte-with_part 3 (little_bytes 8 root) body k named_room (inl few)
 
     behind : (at : ℕ) → 11 ≤ at → number_at named at 4 ≡ number_at body at 4
     behind at past = number_at-with_part_other 3 (little_bytes 8 root) body at 4 named_room (inr (omega (arith, eight_root, past)))

@@ -6,6 +6,7 @@ use Rattle.std.proofs.Math.Nat.{mod-eq_of_lt, mul-le-mul_right, div-div-eq-div-m
 use Rattle.h5_model.specs.Tree.Grid.{corner_of, inner_of}
 use Rattle.h5_model.specs.Tree.Places.{cells, extent_cells, place_of, index_of, IsInside}
 use Rattle.h5_model.proofs.PlaceLaws.{positive, place_below}
+use Rattle.h5_shape.proofs.GridBoxes.{length-index_of}
 
 -- ---- products
 
@@ -74,10 +75,6 @@ index_first s ds p some more =
     let others : p % (s * m) % m ≡ p % m = ap (λ n. n % m) rest ∙ mod-mul-add (a % s) m (p % m) column in
     rw (first, others) refl
 
-pub length-index : (ds : List ℕ) (p : ℕ) → length (index_of ds p) ≡ length ds
-length-index [] p = refl
-length-index (d ∷ ds) p = ap suc (length-index ds (p % cells ds))
-
 -- an index in a box is inside the box
 pub inner_inside : (chunk index : List ℕ) → length index ≡ length chunk → 0 < cells chunk → IsInside chunk (inner_of chunk index)
 inner_inside [] index same some = tt
@@ -133,7 +130,7 @@ module _ (sizes chunk : List ℕ) (place : ℕ) (same : length chunk ≡ length 
 
   pub inner_low : (k : ℕ) → inner_from sizes chunk place k < cells (drop k chunk)
   inner_low k =
-      let long : length (index_from sizes chunk place k) ≡ length (drop k chunk) = length-index (drop k sizes) (place % cells (drop k sizes)) ∙ omega (arith, length-drop k sizes, length-drop k chunk) in
+      let long : length (index_from sizes chunk place k) ≡ length (drop k chunk) = length-index_of (drop k sizes) (place % cells (drop k sizes)) ∙ omega (arith, length-drop k sizes, length-drop k chunk) in
       place_below (drop k chunk) (inner_of (drop k chunk) (index_from sizes chunk place k)) (inner_inside (drop k chunk) (index_from sizes chunk place k) long (some_drop k chunk more))
 
   pub all_from : place < cells sizes → index_from sizes chunk place 0 ≡ index_of sizes place

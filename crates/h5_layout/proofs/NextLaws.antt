@@ -5,11 +5,11 @@ use Rattle.std.proofs.Math.Nat.{mod-eq_of_lt}
 use Rattle.h5_model.specs.Tree.Grid.{corner_of, inner_of}
 use Rattle.h5_model.specs.Tree.Places.{cells, place_of, index_of}
 use Rattle.h5_model.proofs.PlaceLaws.{positive}
+use Rattle.h5_shape.proofs.GridBoxes.{length-index_of}
+use Rattle.h5_shape.proofs.MetTests.{length-corner}
 use Rattle.h5_layout.specs.ChunkCells.{left_in_row}
 use Rattle.h5_layout.specs.FoundChunks.{corner_beside}
 use Rattle.h5_layout.proofs.BesideLaws.{by_one, last-is, last_of, last_rows, row_ends, row_on, same_column, some_last}
-use Rattle.h5_layout.proofs.CornerInside.{length-corner}
-use Rattle.h5_layout.proofs.LocateLaws.{length-index}
 
 -- ---- the next chunk
 
@@ -89,7 +89,7 @@ corner_last (d ∷ e ∷ ds) (c ∷ k ∷ cs) p same some below =
 
 -- the first index of a chunk has a number for each dimension
 pub length-first : (sizes chunk : List ℕ) (p : ℕ) → length chunk ≡ length sizes → length (corner_of chunk (index_of sizes p)) ≡ length sizes
-length-first sizes chunk p same = length-corner chunk (index_of sizes p) (length-index sizes p ∙ sym same) ∙ same
+length-first sizes chunk p same = length-corner chunk (index_of sizes p) (length-index_of sizes p ∙ sym same) ∙ same
 
 module _ (sizes chunk : List ℕ) (p n : ℕ) (same : length chunk ≡ length sizes) (some : 0 < length sizes) (wide : 0 < get_or chunk (length sizes - 1) 0)
     (below : p < cells sizes) (all : n ≡ left_in_row sizes chunk p)

@@ -13,9 +13,9 @@ use Rattle.h5_model.proofs.StoredValues.{index-stored}
 use Rattle.h5_model.specs.Tree.Places.{cells}
 use Rattle.h5_model.specs.Views.Selection.{Slab, selection_of}
 use Rattle.h5_shape.specs.declared.runs.CellRun.{CellRun}
-use Rattle.h5_shape.specs.Loops.{ArePlacesBelow}
+use Rattle.h5_shape.specs.SpacedPlaces.{ArePlacesBelow}
 use Rattle.h5_shape.specs.Runs.{AreMaximal, places_in}
-use Rattle.h5_shape.proofs.LoopLaws.{below-left, below-right}
+use Rattle.h5_shape.proofs.SpacedLaws.{below-left, below-right}
 use Rattle.h5_shape.proofs.SlabRuns.{below_selection}
 use Rattle.h5_layout.specs.declared.cells.CellData.{CellData}
 use Rattle.h5_layout.specs.declared.cells.CellData.TheVariants.{Filled}

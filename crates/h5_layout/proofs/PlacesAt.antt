@@ -22,7 +22,7 @@ use Rattle.h5_layout.specs.ChunkCells.{AreBeside, chunk_of, place_in_chunk}
 use Rattle.h5_layout.specs.Compact.{IsRunAt}
 use Rattle.h5_layout.specs.Data.{AreDataRead, stored_chunks}
 use Rattle.h5_layout.specs.GridKept.{GridKept, grid_in}
-use Rattle.h5_layout.specs.Standing.{IsStandingAt, address_at, address_of, is_stored_cell, is_stored_in}
+use Rattle.h5_layout.specs.Standing.{IsStandingAt, address_at, address_of, is_stored_in}
 use Rattle.h5_layout.specs.Judged.{is_chunk_large}
 use Rattle.h5_layout.specs.Stored.{IsArray, has_room}
 use Rattle.h5_layout.proofs.FoundRows.{kept_new}
@@ -113,9 +113,3 @@ module _ (image : List ℕ) (a : Described) (g : GridKept) (of : IsIndexOf image
       by_index (place + k)
       ∙ ap₂ (λ (p : ℕ) (o : Option ℕ). option_map (λ at. at + p * a.fixed.size) o) cell chunk
       ∙ ap (λ (x : ℕ). Some x) on
-
-  -- a cell that is stored has a chunk
-  pub index_stored : (place : ℕ) → is_stored_cell image a place ≡ true → is_some (chunk_of (grid_in image g) place) ≡ true
-  index_stored place stored =
-      (λ i. is_some (get (chunks_told image (of.shape i) g.root) (corner_of g.shape.sizes (index_of (of.sizes i) place))))
-      ∙ sym (ap (λ (l : Layout). is_stored_in l (stored_chunks image a.fixed l) (index_of a.sizes place)) of.layout) ∙ stored

@@ -11,6 +11,7 @@ use Rattle.h5_model.specs.Format.Layout.{Layout, InChunks}
 use Rattle.h5_model.specs.Format.Described.{storage_of, Described}
 use Rattle.h5_model.specs.Tree.Places.{cells, index_of, is_inside, place_of}
 use Rattle.h5_model.proofs.PlaceLaws.{inside-index, inside_of, is_inside_from}
+use Rattle.h5_shape.proofs.GridBoxes.{length-index_of}
 use Rattle.h5_space.specs.Space.{Space}
 use Rattle.h5_header.specs.Listed.{Listed}
 use Rattle.h5_layout.specs.ArrayEdits.{described_in}
@@ -21,7 +22,6 @@ use Rattle.h5_layout.proofs.CellLaws.{map_ranges}
 use Rattle.h5_layout.proofs.ExtentMoved.{sizes_aside}
 use Rattle.h5_layout.proofs.KeptLaws.{length-smaller}
 use Rattle.h5_layout.proofs.KeptValues.{smaller_inside, told_cell}
-use Rattle.h5_layout.proofs.LocateLaws.{length-index}
 
 module _ (old new : Space) (m : Listed) (chunk : List ℕ) (root : Option ℕ) (laid : (described_in old.bytes m).layout ≡ InChunks chunk root) (sizes : List ℕ)
     (rank : length sizes ≡ length (described_in old.bytes m).sizes) (done : IsTrimmedTo old new m (smaller_sizes (described_in old.bytes m).sizes sizes)) where
@@ -72,7 +72,7 @@ module _ (old new : Space) (m : Listed) (chunk : List ℕ) (root : Option ℕ) (
       let here : 0 + j ≡ j = omega arith in
       let index : List ℕ = index_of sizes (0 + j) in
       let within : is_inside sizes index ≡ true = is_inside_from sizes index (inside-index sizes (0 + j) (omega (arith, low))) in
-      sizes_aside new.bytes a sizes index (chunked a laid) ∙ now_cell index (length-index sizes (0 + j)) within)
+      sizes_aside new.bytes a sizes index (chunked a laid) ∙ now_cell index (length-index_of sizes (0 + j)) within)
 
   storage_apart : storage_of sizes a.layout ≡ storage_of a.sizes a.layout
   storage_apart = ap (storage_of sizes) laid ∙ sym (ap (storage_of a.sizes) laid)

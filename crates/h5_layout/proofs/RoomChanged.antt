@@ -5,7 +5,6 @@ use Rattle.h5_model.specs.Format.Reached.{Shape}
 use Rattle.h5_space.specs.Moves.{Moves}
 use Rattle.h5_space.specs.Space.{Space}
 use Rattle.h5_header.specs.Listed.{Listed}
-use Rattle.h5_layout.specs.Filled.{HasFilledChunks}
 use Rattle.h5_layout.specs.NewTrees.{IsTreeNamed}
 
 module _ (old : Space) (bytes blocks : ℕ) where
@@ -14,17 +13,6 @@ module _ (old : Space) (bytes blocks : ℕ) where
 
   moves_from : (new : Space) (a b : List Block) → Moves roomy new a b → Moves old new a b
   moves_from new a b m = record { grown = m.grown; kept = m.kept; moved = m.moved }
-
-  pub filled_from : (new : Space) (shape : Shape) (root : ℕ) (box : List ℕ) (more : List (List ℕ)) → HasFilledChunks roomy new shape root box more → HasFilledChunks old new shape root box more
-  filled_from new shape root box more f = record {
-    stand = f.stand;
-    stored = f.stored;
-    filled = f.filled;
-    kept = f.kept;
-    k = f.k;
-    moves = moves_from new _ _ f.moves;
-    bushy = f.bushy;
-  }
 
   pub named_from : (new : Space) (m : Listed) (shape : Shape) (root : ℕ) → IsTreeNamed roomy new m shape root → IsTreeNamed old new m shape root
   named_from new m shape root is = record {

@@ -1,12 +1,11 @@
 -- Data that a layout names have room for the cells, and the value of a cell is that at its place.
-use Rattle.std.proofs.Common.{◌≡◌, ℕ, suc, ◌+◌, ◌-◌, ◌*◌, ◌^◌, ◌<◌, ◌≤◌, List, length, drop, Option, Some, None, ℤ, Bool, true, false, cond, refl, sym, ap, ◌∙◌, subst, arith, get_or, eq-eqb}
-use Rattle.std.specs.Prelude.{nat_le, slice_get}
+use Rattle.std.proofs.Common.{◌≡◌, ℕ, ◌+◌, ◌-◌, ◌*◌, ◌^◌, ◌<◌, ◌≤◌, List, length, drop, Option, Some, None, ℤ, Bool, true, false, cond, refl, sym, ap, ◌∙◌, subst, arith, eq-eqb}
+use Rattle.std.specs.Prelude.{nat_le}
 use Rattle.std.specs.List.{slice_range}
 use Rattle.std.proofs.lemmas.Bool.Decides.{nat_tests}
-use Rattle.std.proofs.lemmas.Option.{same_Some, cond_some, slice_get-get_or}
+use Rattle.std.proofs.lemmas.Option.{same_Some, cond_some}
 use Rattle.std.proofs.lemmas.List.{length-take, length-drop}
-use Rattle.std.proofs.lemmas.List.FromFn.{length-map-range_with_len, get_or-map-range_with_len}
-use Rattle.std.proofs.Math.Nat.{mul-le-mul_right}
+use Rattle.std.proofs.lemmas.List.FromFn.{length-map-range_with_len}
 use Rattle.h5_bytes.specs.Bytes.{number_at, part}
 use Rattle.h5_bytes.specs.Blocks.{block}
 use Rattle.h5_model.specs.Tree.Places.{cells, extent_cells, index_of}
@@ -18,7 +17,7 @@ use Rattle.std.specs.Option.{option_map_or}
 use Rattle.h5_shape.proofs.Products.{cells_le}
 use Rattle.h5_model.proofs.PlaceLaws.{place-index}
 use Rattle.h5_model.specs.Format.Messages.{Message}
-use Rattle.h5_model.specs.Format.Described.{Described, HasArray, described_dataset}
+use Rattle.h5_model.specs.Format.Described.{Described, HasArray}
 use Rattle.h5_header.proofs.FoundLaws.{among_some}
 use Rattle.h5_layout.proofs.BreachLaws.{small_chunk}
 use Rattle.h5_bytes.proofs.PartLaws.{length-part}
@@ -68,27 +67,10 @@ room_of sizes size body layout h =
 
 -- ---- the place of a cell
 
--- a place below the number of cells has its bytes
-pub place_room : (sizes : List ℕ) (size place end : ℕ) → place < cells sizes → nat_le (cells sizes * size) end ≡ true → place * size + size ≤ end
-place_room sizes size place end below room =
-    let enough : cells sizes * size ≤ end = grind (arith, nat_tests) in
-    let next : suc place * size ≤ cells sizes * size = mul-le-mul_right size (omega arith) in
-    let wide : suc place * size ≡ place * size + size = omega arith in
-    omega arith
-
 pub few : (sizes dims : List ℕ) → dims ≡ sizes → extent_cells sizes ≤ 2 ^ 40 → cells dims < 2 ^ 64
 few sizes dims same small = let most : cells sizes ≤ 2 ^ 40 = omega (arith, cells_le sizes) in rw same (omega arith)
 
 -- ---- the cell at a place
-
-pub get-cells : (image : List ℕ) (a : Described) (chunks : Chunks) (place : ℕ) → place < cells a.sizes
-    → slice_get (described_dataset image a chunks).cells place ≡ Some (cell_of image a.fixed a.fill a.sizes a.layout chunks (index_of a.sizes place))
-get-cells image a chunks place below =
-    let here : get_or (described_dataset image a chunks).cells place a.fill ≡ cell_of image a.fixed a.fill a.sizes a.layout chunks (index_of a.sizes place)
-    = get_or-map-range_with_len (λ k. cell_of image a.fixed a.fill a.sizes a.layout chunks (index_of a.sizes k)) 0 (cells a.sizes) place place a.fill below (omega arith) in
-    slice_get-get_or (described_dataset image a chunks).cells place a.fill
-    (omega (arith, length-map-range_with_len (λ k. cell_of image a.fixed a.fill a.sizes a.layout chunks (index_of a.sizes k)) 0 (cells a.sizes)))
-    ∙ ap (λ (v : ℤ). Some v) here
 
 -- the value in the data, or the fill where there are none, is the cell's
 pub data_cell : (image : List ℕ) (t : Fixed) (fill : ℤ) (sizes : List ℕ) (layout : Layout) (chunks : Chunks) (place : ℕ) → IsUnchunked (length image) layout → place < cells sizes

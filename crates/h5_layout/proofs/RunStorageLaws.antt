@@ -21,6 +21,7 @@ use Rattle.h5_model.proofs.PlaceLaws.{index-place, place_below}
 use Rattle.h5_chunks.specs.Lists.{ChunkOffsets}
 use Rattle.h5_chunks.specs.Shapes.{AreChunkSizes}
 use Rattle.h5_shape.specs.declared.runs.CellRun.{CellRun}
+use Rattle.h5_shape.proofs.GridBoxes.{length-index_of}
 use Rattle.h5_layout.specs.ArrayChunks.{ArrayChunks, IsInChunksOf}
 use Rattle.h5_layout.specs.ChunkCells.{AreBeside, left_in_row}
 use Rattle.h5_layout.specs.Data.{AreDataRead, chunk_shape, stored_chunks}
@@ -35,7 +36,7 @@ use Rattle.h5_layout.specs.declared.lacking.Missing.TheVariants as missing
 use Rattle.h5_layout.proofs.ChosenPlaces.{index_selected, selected_place}
 use Rattle.h5_layout.proofs.GridLaws.{chunk_inside}
 use Rattle.h5_layout.proofs.LackingLaws.{block_lacking, chunks_found}
-use Rattle.h5_layout.proofs.LocateLaws.{inner_inside, length-index, some_cells}
+use Rattle.h5_layout.proofs.LocateLaws.{inner_inside, some_cells}
 use Rattle.h5_layout.proofs.KeptValues.{stored_below}
 use Rattle.h5_layout.proofs.StandsAt.{block_stands}
 
@@ -60,7 +61,7 @@ chunked_alike sizes (InChunks d root) chunk is = (root, (let same : Chunked d �
 pub inner_low : (sizes chunk : List ℕ) (place inner : ℕ) → inner ≡ place_of chunk (inner_of chunk (index_of sizes place)) → length chunk ≡ length sizes → AreChunkSizes chunk → inner < cells chunk
 inner_low sizes chunk place inner is rank own =
     let index : List ℕ = index_of sizes place in
-    let low = place_below chunk (inner_of chunk index) (inner_inside chunk index (length-index sizes place ∙ sym rank) (some_cells chunk own.some)) in
+    let low = place_below chunk (inner_of chunk index) (inner_inside chunk index (length-index_of sizes place ∙ sym rank) (some_cells chunk own.some)) in
     omega (arith, is, low)
 
 -- more cells than are left in a row of a chunk

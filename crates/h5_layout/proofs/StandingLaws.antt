@@ -25,13 +25,14 @@ use Rattle.h5_model.specs.Tree.Places.{cells, index_of, place_of}
 use Rattle.h5_model.proofs.PlaceLaws.{index-place, place_below, place-index}
 use Rattle.h5_laws.proofs.Lists.{In}
 use Rattle.h5_laws.proofs.Maps.{found_entry}
+use Rattle.h5_shape.proofs.GridBoxes.{length-index_of}
 use Rattle.h5_chunks.specs.Read.{AreChunksRead}
 use Rattle.h5_chunks.specs.Told.{chunks_told}
 use Rattle.h5_layout.specs.Data.{AreDataRead, chunk_shape, data_blocks, stored_chunks}
 use Rattle.h5_layout.specs.Standing.{address_of, blocks_with_cells}
 use Rattle.h5_layout.specs.Stored.{has_room}
 use Rattle.h5_layout.proofs.GridLaws.{chunk_inside}
-use Rattle.h5_layout.proofs.LocateLaws.{inner_inside, length-index}
+use Rattle.h5_layout.proofs.LocateLaws.{inner_inside}
 use Rattle.h5_layout.proofs.RoomLaws.{by_class}
 
 -- ---- an index by its chunk and its place in it
@@ -168,7 +169,7 @@ module _ (image : List ℕ) (t : Fixed) (sizes : List ℕ) where
 
     module _ (rank : length chunk ≡ length sizes) (some : 0 < cells chunk) where
       inner_below : (place : ℕ) → place_of chunk (inner_of chunk (index_of sizes place)) < cells chunk
-      inner_below place = place_below chunk (inner_of chunk (index_of sizes place)) (inner_inside chunk (index_of sizes place) (length-index sizes place ∙ sym rank) some)
+      inner_below place = place_below chunk (inner_of chunk (index_of sizes place)) (inner_inside chunk (index_of sizes place) (length-index_of sizes place ∙ sym rank) some)
 
       pub boxed : (place x : ℕ) → stands layout place ≡ Some x → IsBoxed place x
       boxed place x is =
@@ -205,10 +206,10 @@ module _ (image : List ℕ) (t : Fixed) (sizes : List ℕ) where
           let address : a.at ≡ b.at = ap (λ (e : List ℕ × ℕ). e.1) same in
           let cell : i ≡ l = same_stride t.size i l (p - a.at) (omega (arith, a.is, from)) (omega (arith, a.is, from, to)) (omega (arith, b.is, address, since)) (omega (arith, b.is, address, since, until)) in
           let inner : inner_of chunk (index_of sizes j) ≡ inner_of chunk (index_of sizes k)
-          = sym (index-place chunk (inner_of chunk (index_of sizes j)) (inner_inside chunk (index_of sizes j) (length-index sizes j ∙ sym rank) some))
+          = sym (index-place chunk (inner_of chunk (index_of sizes j)) (inner_inside chunk (index_of sizes j) (length-index_of sizes j ∙ sym rank) some))
           ∙ ap (index_of chunk) cell
-          ∙ index-place chunk (inner_of chunk (index_of sizes k)) (inner_inside chunk (index_of sizes k) (length-index sizes k ∙ sym rank) some) in
-          let index : index_of sizes j ≡ index_of sizes k = index_by_parts chunk (index_of sizes j) (index_of sizes k) (length-index sizes j ∙ sym rank) (length-index sizes k ∙ sym rank) corner inner in
+          ∙ index-place chunk (inner_of chunk (index_of sizes k)) (inner_inside chunk (index_of sizes k) (length-index_of sizes k ∙ sym rank) some) in
+          let index : index_of sizes j ≡ index_of sizes k = index_by_parts chunk (index_of sizes j) (index_of sizes k) (length-index_of sizes j ∙ sym rank) (length-index_of sizes k ∙ sym rank) corner inner in
           sym (place-index sizes j low) ∙ ap (place_of sizes) index ∙ place-index sizes k below
 
       held_boxed : (place x : ℕ) → stands layout place ≡ Some x → IsHeld image t sizes layout place x

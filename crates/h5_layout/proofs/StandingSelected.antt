@@ -1,10 +1,8 @@
 -- Selected cells that stand one behind another in the image: their bytes are those of their values.
-use Rattle.std.proofs.Common.{Bor, ◌≡◌, ℕ, ◌+◌, ◌*◌, ◌%◌, ◌<◌, ◌≤◌, List, length, map, true, sym, ap, ◌∙◌, subst, arith}
+use Rattle.std.proofs.Common.{Bor, ◌≡◌, ℕ, ◌+◌, ◌<◌, ◌≤◌, List, length, map, sym, ap, ◌∙◌, subst}
 use Rattle.std.specs.Prelude.{slice_index_or}
 use Rattle.std.specs.List.{range_with_len}
-use Rattle.std.proofs.lemmas.Bool.Decides.{nat_tests}
-use Rattle.std.proofs.lemmas.Nat.{mod-mul-add}
-use Rattle.h5_model.specs.Format.Fixed.{Fixed, IsFixed}
+use Rattle.h5_model.specs.Format.Fixed.{IsFixed}
 use Rattle.h5_model.specs.Format.Plain.{cells_bytes}
 use Rattle.h5_model.specs.Scripts.Answers.{stored_values}
 use Rattle.h5_model.specs.Tree.Objects.{Dataset}
@@ -16,19 +14,12 @@ use Rattle.h5_model.proofs.PlainValues.{size-low}
 use Rattle.h5_msg.proofs.ValueBytes.{AreBytes}
 use Rattle.h5_shape.specs.OneRun.{IsOneRun}
 use Rattle.h5_shape.specs.declared.runs.CellRun.{CellRun}
-use Rattle.h5_layout.specs.Buffers.{are_whole_cells}
 use Rattle.h5_layout.specs.Lent.{AreInLine, IsStandingSelection}
 use Rattle.h5_layout.specs.Pieces.{CellsLeft}
 use Rattle.h5_layout.specs.Runs.{AreCellBytes, IsPieceAt}
 use Rattle.h5_layout.specs.declared.pieces.Piece.TheVariants.{Bytes}
-use Rattle.h5_layout.proofs.BufferLaws.{written_back}
+use Rattle.h5_layout.proofs.BufferLaws.{written_back, so_many_cells}
 use Rattle.h5_layout.proofs.LentLaws.{places, run_below, run_lent}
-
--- bytes of so many cells are whole cells
-whole_cells : (t : Fixed) (n : ℕ) (bytes : List ℕ) → 1 ≤ t.size → length bytes ≡ n * t.size → are_whole_cells t bytes ≡ true
-whole_cells t n bytes some long =
-    let none : length bytes % t.size ≡ 0 = ap (λ k. k % t.size) (long ∙ omega arith) ∙ mod-mul-add n t.size 0 some in
-    grind (arith, nat_tests, none)
 
 module _ (d : Dataset) (hyper : Hyper) (run : CellRun) (is : IsOneRun d.sizes hyper run) where
   -- the run has a cell, and each of its cells is one of the array
@@ -45,7 +36,7 @@ module _ (d : Dataset) (hyper : Hyper) (run : CellRun) (is : IsOneRun d.sizes hy
         selection = is.selection;
         rank = is.rank;
         within = is.within;
-        same = sym (written_back d.fixed some bytes (whole_cells d.fixed run.length bytes some are.0) sound low) ∙ ap (cells_bytes d.fixed) lent.values;
+        same = sym (written_back d.fixed some bytes (so_many_cells d.fixed some bytes run.length are.0) sound low) ∙ ap (cells_bytes d.fixed) lent.values;
       }
 
   -- a piece with all cells of the run
@@ -61,5 +52,5 @@ module _ (d : Dataset) (hyper : Hyper) (run : CellRun) (is : IsOneRun d.sizes hy
         selection = is.selection;
         rank = is.rank;
         within = is.within;
-        same = sym (written_back d.fixed some b.now (whole_cells d.fixed own.whole.0 b.now some own.whole.2) sound low) ∙ ap (cells_bytes d.fixed) values;
+        same = sym (written_back d.fixed some b.now (so_many_cells d.fixed some b.now own.whole.0 own.whole.2) sound low) ∙ ap (cells_bytes d.fixed) values;
       }

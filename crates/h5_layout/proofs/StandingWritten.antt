@@ -24,7 +24,7 @@ use Rattle.h5_model.specs.Tree.Places.{cells, index_of}
 use Rattle.h5_model.proofs.FixedLaws.{value_back, length-bytes_of}
 use Rattle.h5_model.proofs.PlainValues.{length-cells_bytes, size-low}
 use Rattle.h5_model.proofs.ValueLaws.{value_at-moved, value_at-same}
-use Rattle.h5_space.proofs.MovesLaws.{part-same}
+use Rattle.h5_space.proofs.MovesLaws.{part-same, byte-with_part}
 use Rattle.h5_header.proofs.FoundLaws.{among_some}
 use Rattle.h5_laws.proofs.Lists.{In, in_all, all_in}
 use Rattle.h5_laws.proofs.InPlace.CellWrites.{table_set}
@@ -44,10 +44,6 @@ pub parts_of_type : (t : Fixed) (vs ws : List ℤ) → list_all (fits t) (vs ++ 
 parts_of_type t vs ws all =
     let both = sym (list_all-append (fits t) vs ws) ∙ all in
     and_parts (list_all (fits t) vs) (list_all (fits t) ws) both
-
--- a byte beside those that are written
-pub byte_beside : (at : ℕ) (new bytes : List ℕ) (p : ℕ) → at + length new ≤ length bytes → (p < at) ⊎ (at + length new ≤ p) → byte_at (with_part at new bytes) p ≡ byte_at bytes p
-byte_beside at new bytes p room far = ap (λ (bs : List ℕ). get_or bs p 0) (with_part_is at new bytes room) ∙ grind (arith, places, far)
 
 -- a block is among those around a byte
 pub among_blocks : (p : ℕ) (bs : List Block) (b : Block) → In b bs → holds p b.at b.len ≤ cover p bs
@@ -246,7 +242,7 @@ module _ (t : Fixed) (is : IsFixed t) (fill : ℤ) (sizes : List ℕ) (layout : 
       let here : stands image t sizes layout place ≡ Some at
       = ap (stands image t sizes layout) (let same : place ≡ place + 0 = omega arith in same) ∙ stand 0 (omega arith) ∙ ap (λ (n : ℕ). Some n) (let same : at + 0 * t.size ≡ at = omega arith in same) in
       let kept : (p : ℕ) → (p < at) ⊎ (at + t.size ≤ p) → byte_at first p ≡ byte_at image p
-      = λ p far. byte_beside at (bytes_of t v) image p fit (elim far [ inl under ↦ inl under | inr past ↦ inr (omega (arith, past, wide)) ]) in
+      = λ p far. byte-with_part at (bytes_of t v) image p fit (elim far [ inl under ↦ inl under | inr past ↦ inr (omega (arith, past, wide)) ]) in
       let one = do_stay image first t sizes long at kept layout was place (omega (arith, room)) here in
       let set_one = cell_set image first t sizes long at kept fill layout was place (omega (arith, room)) here v
       (first_value image at v (and_parts (fits t v) (list_all (fits t) vs) all).0 (omega (arith, fit, wide))) (size-low t is) in
@@ -361,9 +357,6 @@ module _ (old : List ℕ) (a : Described) (ms : List Message) (has : HasArray ms
 
     pub stored_blocks_stay : data_blocks new a.fixed a.layout ≡ data_blocks old a.fixed a.layout
     stored_blocks_stay = run.stay.blocks
-
-    pub stored_k : k_values new ≡ k_values old
-    stored_k = run.stay.k
 
     pub stored_cursors : (cursor : ChunkCursor) → IsCursorIn old a.fixed a.layout cursor → IsCursorIn new a.fixed a.layout cursor
     stored_cursors = run.stay.cursors

@@ -1,19 +1,14 @@
 -- Cells of a block stand one behind another; those of chunks stand nowhere where there is no tree.
-use Rattle.std.proofs.Common.{◌≡◌, ℕ, ◌+◌, ◌*◌, ◌^◌, ◌≤◌, List, Option, Some, None, sym, ap, ◌∙◌, arith}
-use Rattle.std.specs.Prelude.{option_map}
-use Rattle.std.specs.FinMap.{get-empty}
-use Rattle.std.specs.Ordering.{nat_cmp}
-use Rattle.std.specs.Cmp.Lexicographic.{slice_cmp}
+use Rattle.std.proofs.Common.{◌≡◌, ℕ, ◌+◌, ◌*◌, ◌^◌, ◌≤◌, List, Option, Some, sym, ap, ◌∙◌, arith}
 use Rattle.h5_bytes.specs.declared.Block.{Block}
-use Rattle.h5_model.specs.Format.Layout.{Layout, InBlock, InChunks}
+use Rattle.h5_model.specs.Format.Layout.{Layout, InBlock}
 use Rattle.h5_model.specs.Format.Messages.{Message}
 use Rattle.h5_model.specs.Format.Described.{Described, HasArray}
-use Rattle.h5_model.specs.Tree.Grid.{corner_of, inner_of}
-use Rattle.h5_model.specs.Tree.Places.{cells, index_of, place_of}
+use Rattle.h5_model.specs.Tree.Places.{cells, index_of}
 use Rattle.h5_model.proofs.PlaceLaws.{place-index}
 use Rattle.h5_shape.proofs.Products.{cells_le}
 use Rattle.h5_layout.specs.Data.{stored_chunks}
-use Rattle.h5_layout.specs.Standing.{IsStandingAt, address_at, address_of}
+use Rattle.h5_layout.specs.Standing.{IsStandingAt, address_of}
 
 module _ (image : List ℕ) (a : Described) where
   -- the address, by the layout
@@ -34,14 +29,6 @@ module _ (image : List ℕ) (a : Described) where
           ap (address_by (place + k)) block_is
           ∙ ap (λ (p : ℕ). Some (b.at + p * a.fixed.size)) (place-index a.sizes (place + k) (omega (arith, room, low)))
           ∙ ap (λ (p : ℕ). Some p) sum ∙ ap (λ (s : ℕ). Some ((b.at + place * s) + k * a.fixed.size)) (sym same)
-
-  -- ---- chunks
-
-  module _ (chunk : List ℕ) (tree : Option ℕ) (laid : InChunks chunk tree ≡ a.layout) where
-    pub none_chunked : tree ≡ None → (place : ℕ) → address_at image a place ≡ None
-    none_chunked none place =
-        ap (address_by place) (sym laid) ∙ ap (λ (r : Option ℕ). address_by place (InChunks chunk r)) none
-        ∙ ap (option_map (λ at. at + place_of chunk (inner_of chunk (index_of a.sizes place)) * a.fixed.size)) (get-empty (slice_cmp nat_cmp) (corner_of chunk (index_of a.sizes place)))
 
 -- ---- how many cells there are
 

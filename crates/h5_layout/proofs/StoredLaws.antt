@@ -77,13 +77,6 @@ module _ (image : List ℕ) (a : Described) (there : IsUnchunked (length image) 
     no_block image a.sizes a.layout none,
   )
 
-  -- no cell is stored where there is none
-  pub without_cells : cells a.sizes ≡ 0 → AreFilled (described_dataset image a empty)
-  without_cells none = (
-    are_cells (replicate (cells a.sizes) a.fill) (length-replicate (cells a.sizes) a.fill) (λ k low. absurd (omega (arith, low, none))),
-    no_cell a.sizes none a.layout,
-  )
-
   module _ (sound : IsFixed t) (room : has_room a.sizes t.size a.layout ≡ true) (some : cells a.sizes ≢ 0) (held : List ℕ) (is : data_in image a.layout ≡ Some held)
       (n : ℕ) (long : n ≡ cells a.sizes * t.size) where
     abbrev bytes : List ℕ

@@ -1,8 +1,5 @@
 -- Chunks that hold a cell of an array: stored ones that begin inside, and those that a selection meets.
 use Rattle.std.proofs.Common.{◌≡◌, ℕ, ◌^◌, ◌<◌, ◌≤◌, List, length, get_or, sym, ap, ◌∙◌, subst, Some, None, cond}
-use Rattle.std.specs.Ordering.{nat_cmp}
-use Rattle.std.specs.Cmp.Lexicographic.{slice_cmp}
-use Rattle.std.specs.declared.cmp.Ordering.TheVariants.{Equal}
 use Rattle.std.specs.FinMap.{entries, get, get-entries, get-retain_keys, nat_cmp-IsAntisymmetric, retain_keys, slice_cmp-IsAntisymmetric}
 use Rattle.std.specs.List.{Contains}
 use Rattle.h5_model.specs.Format.Chunks.{Chunks}
@@ -11,6 +8,7 @@ use Rattle.h5_model.specs.Views.Selection.{Slab, Within}
 use Rattle.h5_model.proofs.PlaceLaws.{is_inside_from}
 use Rattle.h5_laws.proofs.Lists.{In, contains_in, in_map}
 use Rattle.h5_laws.proofs.Maps.{found_entry}
+use Rattle.h5_chunks.proofs.OutsideLaws.{alike}
 use Rattle.h5_layout.specs.HeldChunks.{IsHeldChunk, IsChunkMet, held_chunks}
 use Rattle.h5_layout.proofs.CornerInside.{corner_inside, corner_whole}
 
@@ -20,15 +18,11 @@ module _ (stored : Chunks) (sizes : List ℕ) where
   abbrev held : Chunks
   held = retain_keys stored (is_inside sizes)
 
-  -- no other offsets are equal to these
-  alike : (offsets other : List ℕ) → slice_cmp nat_cmp offsets other ≡ Equal → is_inside sizes other ≡ is_inside sizes offsets
-  alike offsets other equal = ap (is_inside sizes) (sym (slice_cmp-IsAntisymmetric nat_cmp-IsAntisymmetric offsets other equal))
-
   -- one that is stored and inside is there
   pub held_there : (offsets : List ℕ) (n : ℕ) → get stored offsets ≡ Some n → IsInside sizes offsets → Contains (held_chunks sizes stored) offsets
   held_there offsets n found inside =
       let kept : get held offsets ≡ Some n
-      = get-retain_keys stored (is_inside sizes) offsets (alike offsets) ∙ ap (λ b. cond b (get stored offsets) None) (is_inside_from sizes offsets inside) ∙ found in
+      = get-retain_keys stored (is_inside sizes) offsets (alike (is_inside sizes) offsets) ∙ ap (λ b. cond b (get stored offsets) None) (is_inside_from sizes offsets inside) ∙ found in
       let entry : In (offsets, n) (entries held)
       = found_entry (slice_cmp-IsAntisymmetric nat_cmp-IsAntisymmetric) (entries held) offsets n (sym (get-entries held offsets) ∙ kept) in
       contains_in offsets (held_chunks sizes stored) (in_map (λ (e : List ℕ × ℕ). e.0) (offsets, n) (entries held) entry)

@@ -1,8 +1,6 @@
 -- An array in chunks of which the chunks outside an extent were dropped, and those at its edge trimmed.
 use Rattle.std.proofs.Common.{◌≡◌, ℕ, ◌*◌, ◌<◌, ◌≤◌, List, [], length, get_or, map, Bool, true, false, cond, Option, Some, None, refl, sym, ap, ◌∙◌, subst, arith}
-use Rattle.std.specs.Ordering.{nat_cmp}
-use Rattle.std.specs.Cmp.Lexicographic.{nat_list_cmp_total, slice_cmp}
-use Rattle.std.specs.declared.cmp.Ordering.TheVariants.{Equal}
+use Rattle.std.specs.Cmp.Lexicographic.{nat_list_cmp_total}
 use Rattle.std.specs.FinMap.{entries, get, get-entries, get-retain_keys, nat_cmp-IsAntisymmetric, retain_keys, slice_cmp-IsAntisymmetric, values}
 use Rattle.std.proofs.lemmas.Option.{slice_get-get_or}
 use Rattle.h5_bytes.specs.Bytes.{part}
@@ -30,6 +28,7 @@ use Rattle.h5_layout.specs.ArrayChunks.{ArrayChunks, AreSoundChunks, IsInChunksO
 use Rattle.h5_layout.specs.ArrayEdits.{IsArrayApart, IsArrayMoved, described_in}
 use Rattle.h5_chunks.specs.Edited.{AreChunksApart, HasChunksNow}
 use Rattle.h5_chunks.specs.Lists.{offsets_across, reaches_beyond}
+use Rattle.h5_chunks.proofs.OutsideLaws.{alike}
 use Rattle.h5_layout.specs.Data.{AreDataRead, chunk_shape, data_blocks, stored_chunks}
 use Rattle.h5_layout.specs.Kept.{slices_kept}
 use Rattle.h5_layout.specs.HeldChunks.{held_chunks}
@@ -94,11 +93,8 @@ chunks_apart s m was k of root rooted =
 -- ---- chunks that are left
 
 module _ (chunks : Chunks) (sizes : List ℕ) where
-  alike : (offsets other : List ℕ) → slice_cmp nat_cmp offsets other ≡ Equal → is_inside sizes other ≡ is_inside sizes offsets
-  alike offsets other equal = ap (is_inside sizes) (sym (slice_cmp-IsAntisymmetric nat_cmp-IsAntisymmetric offsets other equal))
-
   pub left_is : (offsets : List ℕ) → get (retain_keys chunks (is_inside sizes)) offsets ≡ cond (is_inside sizes offsets) (get chunks offsets) None
-  left_is offsets = get-retain_keys chunks (is_inside sizes) offsets (alike offsets)
+  left_is offsets = get-retain_keys chunks (is_inside sizes) offsets (alike (is_inside sizes) offsets)
 
   pub left_inside : (offsets : List ℕ) (at : ℕ) → get (retain_keys chunks (is_inside sizes)) offsets ≡ Some at → (is_inside sizes offsets ≡ true)
       × (get chunks offsets ≡ Some at)

@@ -2,10 +2,10 @@
 use Rattle.std.proofs.Common.{◌≡◌, ℕ, zero, suc, ◌+◌, ◌*◌, ◌<◌, ◌≤◌, inl, inr, List, [], ◌∷◌, length, take, None, refl, sym, ap, ◌∙◌, subst, arith}
 use Rattle.std.specs.Prelude.{slice_index_or}
 use Rattle.std.specs.FinMap.{get}
-use Rattle.std.specs.List.{AllZip, Contains}
+use Rattle.std.specs.List.{Contains}
 use Rattle.std.proofs.Math.Nat.{mul-le-mul_right}
 use Rattle.std.proofs.Math.Seq.{take-suc}
-use Rattle.h5_model.specs.Format.Chunks.{IsChunkKey, IsOffset, offsets_in}
+use Rattle.h5_model.specs.Format.Chunks.{offsets_in}
 use Rattle.h5_model.specs.Format.Links.{Before}
 use Rattle.h5_model.specs.Format.Reached.{Shape}
 use Rattle.h5_model.proofs.TextOrder.{before_itself}
@@ -15,7 +15,7 @@ use Rattle.h5_shape.proofs.RisingBoxes.{Rises}
 use Rattle.h5_chunks.specs.Told.{chunks_told}
 use Rattle.h5_chunks.specs.Edited.{IsFullAt}
 use Rattle.h5_layout.specs.Filled.{AreToStore, HasFilledChunks}
-use Rattle.h5_chunks.specs.Lists.{IsKeyOf, key_length}
+use Rattle.h5_chunks.specs.Lists.{IsKeyOf}
 use Rattle.h5_chunks.specs.Lists.{ChunkOffsets}
 use Rattle.h5_layout.specs.Storage.{HasStoredMore, IsFullInTurn}
 use Rattle.h5_layout.proofs.FilledLaws.{filled_then}
@@ -67,20 +67,6 @@ module _ (s t : Space) (shape : Shape) (root : ℕ) (bytes : List ℕ) (new : Ch
   module _ (key : List ℕ) (of : IsKeyOf new.rank new.bytes key) (offsets : offsets_in new.rank key ≡ this) where
     pub turn_offsets : offsets_in (length shape.sizes) key ≡ this
     turn_offsets = ap (λ (n : ℕ). offsets_in n key) (sym is.rank) ∙ offsets
-
-    pub turn_long : length key ≡ key_length (length shape.sizes)
-    turn_long = of.long ∙ ap key_length is.rank
-
-    pub turn_keyed : IsChunkKey shape.sizes shape.bytes key
-    turn_keyed =
-        let own : IsKeyOf (length shape.sizes) shape.bytes key
-        = subst (λ (n : ℕ). IsKeyOf n shape.bytes key) is.rank (subst (λ (n : ℕ). IsKeyOf new.rank n key) is.bytes of) in
-        record {
-          stored = own.stored;
-          unfiltered = own.unfiltered;
-          aligned = subst (AllZip IsOffset shape.sizes) (sym turn_offsets) (in_all (λ (o : List ℕ). AllZip IsOffset shape.sizes o) this new.offsets is.aligned (member new.offsets k low));
-          element = own.element;
-        }
 
     pub turn_next : (u : Space) → HasFilledChunks t u shape root bytes (offsets_in (length shape.sizes) key ∷ []) → HasFilledChunks s u shape root bytes (take (k + 1) new.offsets)
     turn_next u one =

@@ -1,14 +1,12 @@
 -- Values that are left, and a step over them.
-use Rattle.std.proofs.Common.{◌≡◌, ℕ, suc, ◌+◌, ◌-◌, ◌*◌, ◌/◌, ◌<◌, ◌≤◌, List, [], ◌∷◌, ◌++◌, length, map, Some, ℤ, sym, ap, ◌∙◌, subst, arith}
+use Rattle.std.proofs.Common.{◌≡◌, ℕ, suc, ◌+◌, ◌-◌, ◌*◌, ◌/◌, ◌<◌, ◌≤◌, [], ◌∷◌, length, map, ℤ, sym, ap, ◌∙◌, subst, arith}
 use Rattle.std.specs.Prelude.{IfSome}
 use Rattle.std.specs.List.{range_with_len}
 use Rattle.std.proofs.lemmas.Nat.{div-mul-add}
 use Rattle.std.proofs.Math.Nat.{mul-le-mul_right}
 use Rattle.h5_model.specs.Format.Fixed.{Fixed, IsFixed}
 use Rattle.h5_model.proofs.PlainValues.{size-low}
-use Rattle.h5_layout.specs.Pieces.{CellsLeft, IsPieceTaken, piece_values}
-use Rattle.h5_layout.specs.Values.{ArePiecesOf, IsPart, part_values, value_in_part, values_left}
-use Rattle.h5_layout.specs.declared.pieces.Piece.{Piece}
+use Rattle.h5_layout.specs.Values.{IsPart, part_values, value_in_part}
 use Rattle.h5_layout.specs.declared.values.Part.{Part}
 
 -- whole cells are as many as their bytes have room for
@@ -45,16 +43,3 @@ module _ (t : Fixed) (fill : ℤ) where
         low = omega (arith, same, is.low);
         room = subst (λ (k : ℕ). IfSome part.bytes (λ bytes. k * t.size ≤ length bytes.now)) (sym same) is.room;
       }
-
-  -- ---- the pieces that follow
-
-  module _ (part next : Part) (before after : CellsLeft) (piece : Piece) (none : part.left ≡ 0) (alike : ArePiecesOf t fill (Some before)) (taken : IsPieceTaken before piece after) where
-    pub alike_behind : ArePiecesOf t fill (Some after)
-    alike_behind = (taken.fixed ∙ alike.0, taken.fill ∙ alike.1)
-
-    pub piece_next : part_values t fill next ≡ piece_values t fill piece → values_left t fill part (Some before) ≡ values_left t fill next (Some after)
-    piece_next same =
-        ap (λ (vs : List ℤ). vs ++ before.values) (no_part part none) ∙ taken.values
-        ∙ ap (λ (u : Fixed). piece_values u before.fill piece ++ after.values) alike.0
-        ∙ ap (λ (v : ℤ). piece_values t v piece ++ after.values) alike.1
-        ∙ ap (λ (vs : List ℤ). vs ++ after.values) (sym same)

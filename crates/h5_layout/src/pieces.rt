@@ -21,17 +21,18 @@ pub enum Piece<'a> {
     },
 }
 
-/// The selected cells of an array in pieces: those that are left, in row-major order. No step takes memory.
+/// The selected cells of an array in pieces: those that are left, in row-major order. No step takes memory. A piece is lent
+/// by the image, and what says which cells are selected is lent besides.
 #[derive(Debug, Drop)]
-pub struct Runs<'a> {
+pub struct Runs<'a, 'r> {
     cells: StoredCells<'a>,
     /// What is left of the run under way.
     run: CellRun,
     /// The runs that follow, if any do.
-    runs: Option<CellRuns>,
+    runs: Option<CellRuns<'r>>,
 }
 
-impl<'a> Model for Runs<'a> {
+impl<'a, 'r> Model for Runs<'a, 'r> {
     ghost use Rattle.std.specs.Prelude.{length};
     ghost use Rattle.h5_layout.specs.Pieces.{CellsLeft};
     ghost use Rattle.h5_layout.specs.Runs.{AreRunsBelow, cells_left, places_left};
@@ -43,19 +44,19 @@ impl<'a> Model for Runs<'a> {
     ghost invariant = { λ r. AreRunsBelow (length r.cells.values) r.run r.runs };
 }
 
-impl<'a> Runs<'a> {
+impl<'a, 'r> Runs<'a, 'r> {
     ghost use Rattle.h5_layout.specs.Runs.{AreRunsBelow, cells_left, places_left};
 
     /// The cells of a run, and of the runs that follow.
-    pub(crate) fn new(cells: StoredCells<'a>, run: CellRun, runs: Option<CellRuns>) -> Self
+    pub(crate) fn new(cells: StoredCells<'a>, run: CellRun, runs: Option<CellRuns<'r>>) -> Self
         requires { AreRunsBelow (length cells.values) run runs }
-        ensures { result ≡ cells_left cells.entry (places_left run runs) }
+        ensures { result ≡ cells_left cells.entry (places_left run runs.entry) }
     {
         Runs { cells, run, runs }
     }
 }
 
-impl<'a> Iterator for Runs<'a> {
+impl<'a, 'r> Iterator for Runs<'a, 'r> {
     type Item = Piece<'a>;
 
     ghost next_gives = { GivesPiece };
@@ -76,7 +77,7 @@ impl<'a> Iterator for Runs<'a> {
 }
 
 /// What is left of a run, or where nothing is the run that follows.
-fn run_under_way(run: CellRun, runs: &mut Option<CellRuns>) -> Option<CellRun>
+fn run_under_way(run: CellRun, runs: &mut Option<CellRuns<'_>>) -> Option<CellRun>
     ensures step { MatchOption result
         ((places_left run runs.old ≡ []) × (runs.new ≡ runs.old))
         (λ next. places_left run runs.old ≡ places_left next runs.new) }

@@ -191,7 +191,7 @@ impl<'a> StoredArray<'a> {
     /// The selected cells, in pieces, in row-major order. Takes no memory.
     ///
     /// That the selection is within the sizes is the caller's condition.
-    pub fn runs(&self, slab: &Slab<'_>) -> Runs<'a>
+    pub fn runs<'r>(&'r self, slab: &'r Slab<'_>) -> Runs<'a, 'r>
         requires rank { length slab.now ≡ length self.now.sizes }
         requires within { Within self.now.sizes slab.now }
         ensures { result ≡ record {
@@ -205,7 +205,7 @@ impl<'a> StoredArray<'a> {
     }
 
     /// All cells, in pieces, in row-major order. Takes no memory.
-    pub fn all(&self) -> Runs<'a>
+    pub fn all(&self) -> Runs<'a, 'a>
         ensures { result ≡ record {
           fixed = self.now.fixed;
           fill = self.now.fill;

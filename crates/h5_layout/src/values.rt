@@ -32,7 +32,7 @@ pub struct Values<'a> {
     /// What is left of the piece under way.
     part: Part<'a>,
     /// The pieces that follow, if any do.
-    pieces: Option<Runs<'a>>,
+    pieces: Option<Runs<'a, 'a>>,
 }
 
 impl<'a> Model for Values<'a> {
@@ -60,7 +60,7 @@ impl<'a> Values<'a> {
     }
 
     /// The values of cells that come in pieces, of this type and this fill.
-    pub(crate) fn new(fixed: Fixed, fill: i128, pieces: Runs<'a>) -> Self
+    pub(crate) fn new(fixed: Fixed, fill: i128, pieces: Runs<'a, 'a>) -> Self
         requires fixed { pieces.fixed ≡ fixed }
         requires fill { pieces.fill ≡ fill }
         ensures { result ≡ pieces.entry.values }
@@ -96,7 +96,7 @@ impl<'a> Iterator for Values<'a> {
 fn part_under_way<'a>(
     fixed: &Fixed,
     part: Part<'a>,
-    pieces: &mut Option<Runs<'a>>,
+    pieces: &mut Option<Runs<'a, 'a>>,
 ) -> Option<Part<'a>>
     requires part { IsPart fixed.now part }
     requires pieces { (fill : ℤ) × ArePiecesOf fixed.now fill pieces.old }

@@ -1,5 +1,5 @@
 -- Members of lists.
-use Rattle.std.proofs.Common.{◌≡◌, ◌⊎◌, ℕ, zero, suc, ◌+◌, ◌<◌, inl, inr, List, [], ◌∷◌, Bool, true, false, cond, map, refl, sym, ap, ◌∙◌, subst, arith}
+use Rattle.std.proofs.Common.{◌≡◌, ◌⊎◌, ℕ, zero, suc, ◌+◌, ◌<◌, ◌≤◌, inl, inr, List, [], ◌∷◌, length, Bool, true, false, cond, map, refl, sym, ap, ◌∙◌, subst, arith}
 use Rattle.std.specs.List.{AllByRecursion, Contains, filter, range_with_len}
 
 -- x is one of the list
@@ -10,6 +10,11 @@ In x (y ∷ ys) = (y ≡ x) ⊎ In x ys
 pub all_in : {X : Type 0} (P : X → Type 0) (xs : List X) → ((x : X) → In x xs → P x) → AllByRecursion P xs
 all_in P [] f = tt
 all_in P (y ∷ ys) f = (f y (inl refl), all_in P ys (λ x at. f x (inr at)))
+
+-- two facts of each
+pub all_both : {X : Type 0} (P Q : X → Type 0) (xs : List X) → AllByRecursion P xs → AllByRecursion Q xs → AllByRecursion (λ x. P x × Q x) xs
+all_both P Q [] first second = tt
+all_both P Q (x ∷ xs) first second = ((first.0, second.0), all_both P Q xs first.1 second.1)
 
 pub in_map : {X Y : Type 0} (f : X → Y) (x : X) (xs : List X) → In x xs → In (f x) (map f xs)
 in_map f x [] at = absurd at
@@ -58,3 +63,11 @@ in_range from (suc n) zero low = inl (omega arith)
 in_range from (suc n) (suc i) low =
     let over : from + 1 + i ≡ from + suc i = omega arith in
     inr (subst (λ k. In k (range_with_len (from + 1) n)) over (in_range (from + 1) n i (omega (arith, low))))
+
+-- no more pass a test than there are
+pub few_pass : {X : Type 0} (test : X → Bool) (xs : List X) → length (filter test xs) ≤ length xs
+few_pass test [] = omega arith
+few_pass test (x ∷ xs) = by_test (test x) (few_pass test xs) where
+  by_test : (b : Bool) → length (filter test xs) ≤ length xs → length (cond b (x ∷ filter test xs) (filter test xs)) ≤ length (x ∷ xs)
+  by_test true less = omega (arith, less)
+  by_test false less = omega (arith, less)

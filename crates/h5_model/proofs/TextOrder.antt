@@ -9,7 +9,8 @@ use Rattle.h5_model.specs.Format.Links.{Before, NotAfter}
 abbrev order : List ℕ → List ℕ → Ordering
 order a b = slice_cmp nat_cmp a b
 
-is_less : (r : Ordering) → IsTrue (is_lt r) → r ≡ Less
+-- an order that is less
+pub is_less : (r : Ordering) → IsTrue (is_lt r) → r ≡ Less
 is_less Less h = refl
 is_less Equal h = cc
 is_less Greater h = cc

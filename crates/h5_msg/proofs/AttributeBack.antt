@@ -17,12 +17,12 @@ use Rattle.h5_model.specs.Format.Sizes.{attribute_size}
 use Rattle.h5_model.specs.Format.AttributeBody.{attribute_of, is_attribute, name_in, name_size, datatype_size, dataspace_size, datatype_place, dataspace_place, data_place, kept_body, values_at}
 use Rattle.h5_model.specs.Format.Plain.{with_zeros, cells_bytes, padded_text}
 use Rattle.h5_model.specs.Format.Bodies.{datatype_bytes, dataspace_bytes, attribute_head, attribute_front, attribute_bytes, stored_attribute_bytes}
-use Rattle.h5_model.proofs.PlainValues.{length-cells_bytes}
+use Rattle.h5_model.proofs.PlainValues.{length-cells_bytes, size-low}
 use Rattle.h5_msg.proofs.WordLaws.{words_long}
 use Rattle.h5_msg.proofs.DatatypeLaws.{fixed_of-written}
 use Rattle.h5_msg.proofs.DataspaceLaws.{Small, plain_alone, plain_back}
 use Rattle.h5_model.proofs.StoredValues.{fits_value_at}
-use Rattle.h5_msg.proofs.AttributeLaws.{size_positive, length-values}
+use Rattle.h5_msg.proofs.AttributeLaws.{length-values}
 use Rattle.h5_msg.proofs.ValueBytes.{AreBytes, stored_back}
 use Rattle.h5_msg.proofs.CellLaws.{values_back}
 
@@ -153,7 +153,7 @@ module _ (name sizes : List ℕ) (t : Fixed) (values : List ℤ) (rest : List �
   values_are : values_at t body (data_place body) (cells sizes) ≡ values
   values_are =
       (λ i. values_at t body (cells_at i) (sym count i))
-      ∙ values_back t values body rest (8 + name_room + 16 + (8 + 8 * length sizes)) (size_positive t sound) all cells_part
+      ∙ values_back t values body rest (8 + name_room + 16 + (8 + 8 * length sizes)) (size-low t sound) all cells_part
 
   pub attribute_reads : attribute_of body ≡ Some (name, record { fixed = t; sizes = sizes; values = values; body = None })
   attribute_reads = found body name t (record { sizes = sizes; maxima = map (λ (x : ℕ). Some x) sizes }) values form type_is extent_is room name_is values_are

@@ -1,10 +1,9 @@
 -- Values of attributes.
 use Rattle.std.proofs.Common.{◌≡◌, ℕ, zero, suc, ◌+◌, ◌*◌, ◌<◌, ◌≤◌, List, length, slice_get, ap, ◌∙◌, arith, Some, ℤ, pos}
-use Rattle.std.proofs.lemmas.Bool.Decides.{nat_tests}
 use Rattle.std.proofs.lemmas.List.FromFn.{length-map-range_with_len, get_or-map-range_with_len}
 use Rattle.std.proofs.lemmas.Option.{slice_get-get_or}
 use Rattle.std.proofs.Math.Nat.{mul-le-mul_right}
-use Rattle.h5_model.specs.Format.Fixed.{Fixed, IsFixed, value_at}
+use Rattle.h5_model.specs.Format.Fixed.{Fixed, value_at}
 use Rattle.h5_model.specs.Format.AttributeBody.{values_at}
 
 pub length-values : (t : Fixed) (bytes : List ℕ) (place n : ℕ) → length (values_at t bytes place n) ≡ n
@@ -22,9 +21,6 @@ cell_room place k n size long low room =
     let next : (k + 1) * size ≤ n * size = mul-le-mul_right size (omega arith) in
     let split : (k + 1) * size ≡ k * size + size = omega arith in
     omega arith
-
-pub size_positive : (t : Fixed) → IsFixed t → 1 ≤ t.size
-size_positive t sound = grind (arith, nat_tests, sound.size)
 
 -- there are no more cells than bytes
 pub cells_few : (place n size long : ℕ) → 1 ≤ size → place + n * size ≤ long → n ≤ long

@@ -1,7 +1,7 @@
 -- A layout that was written reads as that layout.
 use Rattle.std.proofs.Common.{◌≡◌, ◌≢◌, ℕ, zero, suc, ◌+◌, ◌-◌, ◌*◌, ◌^◌, ◌<◌, ◌≤◌, inl, inr, min, List, [], ◌∷◌, ◌++◌, map, length, length-append, append_assoc, replicate, get_or, slice_index, take, drop, refl, sym, ap, ◌∙◌, arith, ◌||◌, true, false, Option, Some, None, eq-eqb}
 use Rattle.std.proofs.lemmas.Bool.Decides.{nat_tests}
-use Rattle.std.proofs.lemmas.Bool.{or_parts, cases_lt}
+use Rattle.std.proofs.lemmas.Bool.{cases_lt}
 use Rattle.std.proofs.lemmas.List.{take_all}
 use Rattle.std.proofs.lemmas.List.FromFn.{fill_by_all, length-map-range_with_len, get_or-map-range_with_len}
 use Rattle.std.proofs.Math.Nat.{mul_assoc, mul-le-mul_left}
@@ -16,6 +16,7 @@ use Rattle.h5_model.specs.Tree.Places.{cells}
 use Rattle.h5_model.specs.Format.Layout.{InMessage, InBlock, InChunks, layout_of, contiguous_layout, short_numbers_at, address_from}
 use Rattle.h5_model.specs.Format.Bodies.{compact_bytes, contiguous_bytes, chunked_bytes, short_words, or_undefined}
 use Rattle.h5_model.specs.Format.Plain.{with_zeros}
+use Rattle.h5_model.proofs.NumberLaws.{reads_back}
 use Rattle.h5_msg.proofs.WordLaws.{number_at-drop}
 
 pub zero_step : (f : ℕ → ℕ) (k n : ℕ) → n ≢ 0 → list_any (λ n. n == 0) (map f (range_with_len k n)) ≡ (f k == 0 || list_any (λ n. n == 0) (map f (range_with_len (k + 1) (n - 1))))
@@ -40,11 +41,6 @@ needed_step d c s m = rw (mul_assoc d c s) (capped d (c * s) m) where
 pub cells_first : (sizes : List ℕ) → 1 ≤ length sizes → cells sizes ≡ get_or sizes 0 0 * cells (take (length sizes - 1) (drop 1 sizes))
 cells_first [] some = absurd (omega arith)
 cells_first (d ∷ ds) some = ap (λ (xs : List ℕ). d * cells xs) (sym (take_all (length (d ∷ ds) - 1) ds (omega arith)))
-
--- a number that was written, with anything behind it
-written_number : (n x : ℕ) (rest : List ℕ) → x < 256 ^ n → number_at (little_bytes n x ++ rest) 0 n ≡ x
-unfolding number_at
-written_number n x rest small = little_number-reads_back n x rest small
 
 -- ---- data in the message
 
@@ -146,7 +142,7 @@ module _ (chunk : List ℕ) (tree : Option ℕ) (size : ℕ) (rest : List ℕ) (
       let none : 4 * length chunk + 0 ≡ 4 * length chunk = omega arith in
       number_at-drop body 11 (4 * length chunk) 4 ∙ ap (λ (bytes : List ℕ). number_at bytes (4 * length chunk) 4) joined
       ∙ ap (λ (at : ℕ). number_at (short_words chunk ++ tail) at 4) (sym none)
-      ∙ number_at-drop (short_words chunk ++ tail) (4 * length chunk) 0 4 ∙ ap (λ (bytes : List ℕ). number_at bytes 0 4) seam ∙ written_number 4 size rest fits
+      ∙ number_at-drop (short_words chunk ++ tail) (4 * length chunk) 0 4 ∙ ap (λ (bytes : List ℕ). number_at bytes 0 4) seam ∙ reads_back 4 size rest fits
 
   tree_read : number_at body 3 8 ≡ or_undefined tree
   unfolding number_at
@@ -186,8 +182,3 @@ pub chunk_size_at : (body value : List ℕ) (rank k : ℕ) → short_numbers_at 
 chunk_size_at body value rank k is low =
     let long = length-chunk body value rank is in
     ap (λ (xs : List ℕ). slice_index xs k) (sym is) ∙ get_or-map-range_with_len (λ i. number_at body (11 + 4 * i) 4) 0 rank k k 0 (omega arith) (omega arith)
-
-pub none_is_zero : (xs : List ℕ) (k : ℕ) → list_any (λ n. n == 0) xs ≡ false → k < length xs → 1 ≤ slice_index xs k
-none_is_zero [] k none low = absurd (omega arith)
-none_is_zero (x ∷ xs) zero none low = let own : (x == 0) ≡ false = (or_parts (x == 0) (list_any (λ n. n == 0) xs) none).0 in grind (arith, nat_tests)
-none_is_zero (x ∷ xs) (suc k) none low = none_is_zero xs k (or_parts (x == 0) (list_any (λ n. n == 0) xs) none).1 (omega arith)

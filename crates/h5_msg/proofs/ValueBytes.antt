@@ -1,7 +1,7 @@
 -- Any bytes of the right number are the bytes of a value, and of the values that are read from them.
 use Rattle.std.proofs.Common.{◌≡◌, ℕ, zero, suc, ◌+◌, ◌-◌, ◌*◌, ◌/◌, ◌%◌, ◌^◌, ◌<◌, ◌≤◌, List, [], ◌∷◌, ◌++◌, length, take, drop, map, slice_index, inl, inr, Bool, true, false, cond, ℤ, pos, negsuc, ◌-ℤ◌, refl, ap, sym, ◌∙◌, arith, mod-eq_of_lt}
 use Rattle.std.proofs.lemmas.Int.{ints}
-use Rattle.std.proofs.lemmas.Nat.{div-mul-add, mod-pow-add}
+use Rattle.std.proofs.lemmas.Nat.{mod-pow-add, same_from_place}
 use Rattle.std.proofs.lemmas.List.{length-take, length-drop, drop-drop, get_or-take, get_or-drop, get_or_past}
 use Rattle.std.proofs.lemmas.Bool.{cases_lt}
 use Rattle.std.proofs.Math.Nat.{pow-suc, div-div-eq-div-mul}
@@ -37,13 +37,6 @@ low_back (b ∷ bs) i y low is =
     let next : y / 256 ^ suc i ≡ little_from 0 (length bs) bs = over ∙ omega arith in
     rw (first, low_back bs (suc i) y (λ k. low (suc k)) next) refl
 
--- two digits of one number
-digits : (a b r s w : ℕ) → r < w → s < w → a * w + r ≡ b * w + s → (a ≡ b) × (r ≡ s)
-digits a b r s w low high e =
-    let same : a ≡ b = sym (div-mul-add a w r low) ∙ ap (λ n. n / w) e ∙ div-mul-add b w s high in
-    let product : a * w ≡ b * w = ap (λ n. n * w) same in
-    (same, omega arith)
-
 high_back : (bytes : List ℕ) (y : ℕ) → AreBytes bytes → y % 256 ^ length bytes ≡ big_from 0 (length bytes) bytes → bytes_high_first (length bytes) y ≡ bytes
 high_back [] y low is = refl
 high_back (b ∷ bs) y low is =
@@ -55,7 +48,7 @@ high_back (b ∷ bs) y low is =
     let split : y % 256 ^ suc (length bs) ≡ (y / 256 ^ length bs % 256) * 256 ^ length bs + y % 256 ^ length bs
     = ap (λ n. y % n) wide ∙ mod-pow-add y 8 (8 * length bs) ∙ ap (λ n. (y / n % 256) * n + y % n) (sym power) in
     let some : 0 < 256 ^ length bs = omega (arith, few) in
-    let two = digits (y / 256 ^ length bs % 256) b (y % 256 ^ length bs) (big_from 0 (length bs) bs) (256 ^ length bs) (omega (arith, some)) few
+    let two = same_from_place (y / 256 ^ length bs % 256) (y % 256 ^ length bs) b (big_from 0 (length bs) bs) (256 ^ length bs) (omega (arith, some)) few
     (sym split ∙ is ∙ ap (λ n. b * 256 ^ length bs + n) rest) in
     let first : byte_at (length bs) y ≡ b = byte-is (length bs) y ∙ two.0 in
     rw (first, high_back bs y (λ k. low (suc k)) two.1) refl

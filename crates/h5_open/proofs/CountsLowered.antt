@@ -21,14 +21,7 @@ use Rattle.h5_open.specs.declared.opened.object.OpenedObject.{OpenedObject}
 use Rattle.h5_open.specs.LinkTaken.{AreCountsLowered, AreHeadersStanding, header_blocks_at, lowered_blocks}
 use Rattle.h5_open.specs.Opened.Objects.{header_of}
 use Rattle.h5_open.proofs.ListCovers.{member_cover, pair_cover}
-
--- what moves within some blocks moves within more
-pub moves_within : (s t : Space) (few more : List Block) → ((q : ℕ) → cover q few ≤ cover q more) → Moves s t few few → Moves s t more more
-moves_within s t few more within moves = record {
-  grown = moves.grown;
-  kept = λ q low used free. moves.kept q low (omega (arith, within q, used)) free;
-  moved = λ q. omega (arith, moves.moved q);
-}
+use Rattle.h5_open.proofs.OneRemade.{wide_moves}
 
 -- An object whose header stands, with the messages that it had.
 pub record IsHeaderStill (old new : List ℕ) (o : OpenedObject) : Type 0 where
@@ -152,7 +145,7 @@ module _ (old : Space) (slots : List (Option OpenedObject)) (less : List (ℕ ×
     one_lowered = record {
       each = each_next;
       counts = counts_next;
-      moves = moves_then old now next all all all so_far.moves (moves_within now next header all within moves);
+      moves = moves_then old now next all all all so_far.moves (wide_moves now next header all all within (λ q. refl) moves);
       as_long = long ∙ so_far.as_long;
       room = room ∙ so_far.room;
     }

@@ -12,7 +12,7 @@ use Rattle.h5_space.specs.Whole.{IsApart}
 use Rattle.h5_open.specs.declared.opened.object.OpenedObject.{OpenedObject}
 use Rattle.h5_open.specs.Opened.Kept.{IsOpened}
 use Rattle.h5_open.specs.Opened.Objects.{object_blocks, objects_of}
-use Rattle.h5_open.proofs.SuperblockKept.{apart_left, end_left, field_left, k_left, long_left, superblock_in}
+use Rattle.h5_open.proofs.SuperblockKept.{end_left, field_left, k_left, long_left, superblock_in}
 
 module _ (old : Space) (slots : List (Option OpenedObject)) (numbers : BTreeMap ℕ ℕ) (opened : IsOpened old slots numbers) (new : Space) (before after : List Block)
     (moves : Moves old new before after) (among : (q : ℕ) → cover q before ≤ cover q (flat_map (object_blocks old.bytes) (objects_of slots))) where
@@ -33,7 +33,3 @@ module _ (old : Space) (slots : List (Option OpenedObject)) (numbers : BTreeMap 
 
   pub superblock_kept : superblock_length new.bytes ≤ length new.bytes
   superblock_kept = long_left old new before after moves long apart
-
-  -- it stands apart from the blocks that there are now
-  pub superblock_apart : IsApart (after ++ (superblock_in new.bytes ∷ [])) new.free (length new.bytes)
-  superblock_apart = apart_left old new before after moves long apart

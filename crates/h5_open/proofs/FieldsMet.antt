@@ -5,7 +5,7 @@ use Rattle.std.proofs.lemmas.List.{length-append}
 use Rattle.std.specs.Prelude.{◌==◌, IsTrue}
 use Rattle.h5_bytes.specs.Blocks.{cover}
 use Rattle.h5_bytes.specs.declared.Block.{Block}
-use Rattle.h5_bytes.proofs.BlockLaws.{all_append}
+use Rattle.h5_bytes.proofs.BlockLaws.{all_append, all_so}
 use Rattle.h5_model.specs.Format.Superblock.{root_header, root_header_place}
 use Rattle.h5_model.specs.Format.Symbols.{Target, Header, Text}
 use Rattle.h5_model.specs.Format.Reached.{Named, naming_of, ObjectHeader, Reached}
@@ -18,7 +18,6 @@ use Rattle.h5_open.specs.Counted.Links.{leading, all_links}
 use Rattle.h5_open.specs.Opened.Objects.{content_links}
 use Rattle.h5_open.specs.Read.{AreWaiting}
 use Rattle.h5_open.specs.Walk.{AreFieldsMet}
-use Rattle.h5_open.proofs.PlaceLaws.{weaken_all}
 use Rattle.h5_open.proofs.CountedLaws.CountLaws.{all_links_push, one_more, none_more}
 
 -- a field that names the header is reached
@@ -128,7 +127,7 @@ more_fields image held now followed depth objects o fields grown waiting header 
     each = λ f contained. naming f (in_contains f (more.own ++ old.fields) contained);
   };
   stand = all_append (λ (f : ℕ). 1 ≤ cover (f - 8) now) more.own old.fields (all_in (λ (f : ℕ). 1 ≤ cover (f - 8) now) more.own (λ f at. (more.each f at).stands))
-      (weaken_all (λ (f : ℕ). 1 ≤ cover (f - 8) held) (λ (f : ℕ). 1 ≤ cover (f - 8) now) old.fields (λ f stands. omega (arith, stands, grown (f - 8))) old.stand);
+      (all_so (λ (f : ℕ). 1 ≤ cover (f - 8) held) (λ (f : ℕ). 1 ≤ cover (f - 8) now) old.fields (λ f stands. omega (arith, stands, grown (f - 8))) old.stand);
   long = omega (arith, length-append more.own old.fields, more.long, old.long, all_links_push image header objects o);
 } where
   more : AreOwnFields image held now (content_links image o.content) fields header

@@ -19,10 +19,10 @@ use Rattle.h5_group.specs.Links.{IsGroupRead}
 use Rattle.h5_group.specs.Told.{blocks_told, links_told}
 use Rattle.h5_open.specs.declared.opened.object.OpenedObject.{OpenedObject}
 use Rattle.h5_open.specs.declared.opened.object.OpenedContent.TheVariants as content
-use Rattle.h5_open.specs.Opened.Kept.{IsObjectKept, IsOpened}
-use Rattle.h5_open.specs.Opened.Objects.{content_links, header_of, links_by, object_blocks, object_in, objects_of, table_of}
+use Rattle.h5_open.specs.Opened.Kept.{IsOpened}
+use Rattle.h5_open.specs.Opened.Objects.{header_of, links_by, object_blocks, object_in, objects_of, table_of}
 use Rattle.h5_open.specs.Opened.Sound.{IsHeaderIn}
-use Rattle.h5_open.proofs.GroupWritten.{IsGroupWritten, written_both, written_count, written_grown, written_k, written_kept, written_led, written_moves, written_object}
+use Rattle.h5_open.proofs.GroupWritten.{IsGroupWritten, written_both, written_count, written_grown, written_k, written_moves, written_object}
 
 -- The links of a group were changed, then the bytes of these other blocks were written, and the end of file address.
 pub record IsGroupRelinked (old mid new : Space) (slots : List (Option OpenedObject)) (parent : ℕ) (p : OpenedObject) (t : SymbolTable) (written : List Block)
@@ -70,16 +70,9 @@ module _ (old mid new : Space) (slots : List (Option OpenedObject)) (numbers : B
   pub count_stays : reference_count (prefix_at new.bytes (header_of p)) ≡ reference_count (prefix_at old.bytes (header_of p))
   count_stays = written_count old mid new slots numbers opened parent p t [] written relinked_written
 
-  pub linked_kept : IsObjectKept new.bytes p
-  linked_kept = written_kept old mid new slots numbers opened parent p t [] written relinked_written
-
   -- with the blocks beside it
   pub linked_moves : Moves old new (end_field old.bytes ∷ (object_blocks old.bytes p ++ written)) (end_field new.bytes ∷ (object_blocks new.bytes p ++ written))
   linked_moves = written_moves old mid new slots numbers opened parent p t [] written relinked_written
-
-  -- each of its links leads to a header of the table, or to a text
-  pub linked_led : (name : List ℕ) (h : ℕ) → Contains (content_links new.bytes p.content) (name, Header h) → IsHeaderIn (table_of slots) h
-  linked_led = written_led old mid new slots numbers opened parent p t [] written relinked_written (table_of slots) is.led
 
   pub linked_object : object_in new.bytes (table_of slots) p ≡ with_links change (object_in old.bytes (table_of slots) p)
   linked_object = written_object old mid new slots numbers opened parent p t [] written relinked_written (table_of slots) (table_of slots) change is.links

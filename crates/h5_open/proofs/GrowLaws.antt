@@ -6,14 +6,13 @@ use Rattle.std.proofs.lemmas.Grind.{flat_map-append}
 use Rattle.std.proofs.lemmas.List.{map-append, append-nil}
 use Rattle.std.proofs.lemmas.List.Elements.{Contains-append_left}
 use Rattle.h5_bytes.specs.Blocks.{cover}
-use Rattle.h5_bytes.proofs.BlockLaws.{cover-append}
+use Rattle.h5_bytes.proofs.BlockLaws.{cover-append, all_so}
 use Rattle.h5_model.specs.Format.Symbols.{Target, Header, Text}
 use Rattle.h5_laws.proofs.Lists.{In, contains_in}
 use Rattle.h5_laws.proofs.Pigeonhole.{Apart, apart_of_distinct, distinct_of_apart, apart_push}
 use Rattle.h5_open.specs.declared.opened.object.OpenedObject.{OpenedObject}
 use Rattle.h5_open.specs.Opened.Objects.{headers, content_links, object_blocks}
 use Rattle.h5_open.specs.Placed.Whole.{IsLedTo, HasHeight, IsLed, AreLed, HasParent, AreNamed}
-use Rattle.h5_open.proofs.PlaceLaws.{weaken_all}
 
 -- ---- links that lead to objects
 
@@ -30,18 +29,18 @@ led_on objects more P Q on (name, Text text) led = tt
 pub height_stays : (image : List ℕ) (objects more : List OpenedObject) (height : ℕ) (o : OpenedObject) → HasHeight image objects height o → HasHeight image (objects ++ more) height o
 height_stays image objects more zero o high = high
 height_stays image objects more (suc height) o high =
-    weaken_all (IsLed image objects height) (IsLed image (objects ++ more) height) (content_links image o.content)
+    all_so (IsLed image objects height) (IsLed image (objects ++ more) height) (content_links image o.content)
     (led_on objects more (HasHeight image objects height) (HasHeight image (objects ++ more) height) (height_stays image objects more height)) high
 
 pub all_led_grow : (image : List ℕ) (objects more : List OpenedObject) (height : ℕ) (links : List (List ℕ × Target)) → AllByRecursion (IsLed image objects height) links
     → AllByRecursion (IsLed image (objects ++ more) height) links
 all_led_grow image objects more height links all =
-    weaken_all (IsLed image objects height) (IsLed image (objects ++ more) height) links
+    all_so (IsLed image objects height) (IsLed image (objects ++ more) height) links
     (led_on objects more (HasHeight image objects height) (HasHeight image (objects ++ more) height) (height_stays image objects more height)) all
 
 pub objects_led_grow : (image : List ℕ) (objects more others : List OpenedObject) → AllByRecursion (AreLed image objects) others → AllByRecursion (AreLed image (objects ++ more)) others
 objects_led_grow image objects more others all =
-    weaken_all (AreLed image objects) (AreLed image (objects ++ more)) others (λ o led. (led.0, height_stays image objects more led.0 o led.1)) all
+    all_so (AreLed image objects) (AreLed image (objects ++ more)) others (λ o led. (led.0, height_stays image objects more led.0 o led.1)) all
 
 -- ---- one object more
 

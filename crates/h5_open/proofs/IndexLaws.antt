@@ -10,7 +10,7 @@ use Rattle.std.specs.FinMap.{get}
 use Rattle.std.proofs.lemmas.Bool.Decides.{nat_tests}
 use Rattle.std.proofs.lemmas.List.{length-map, map-append}
 use Rattle.std.proofs.lemmas.Map.Steps.{length-le_from_distinct_below}
-use Rattle.std.proofs.lemmas.Option.{same_Some, slice_get-map, slice_get_read, slice_get_within}
+use Rattle.std.proofs.lemmas.Option.{same_Some, slice_get-map, slice_get_read}
 use Rattle.h5_bytes.proofs.BlockLaws.{all_append}
 use Rattle.h5_laws.proofs.Lists.{in_contains, stands_at}
 use Rattle.h5_open.specs.declared.opened.object.OpenedObject.{OpenedObject}
@@ -44,19 +44,8 @@ pub slot_here : (slots : List (Option OpenedObject)) (numbers : BTreeMap ℕ ℕ
     → (o : OpenedObject) × (slice_get slots number ≡ Some (Some o)) × (header_of o ≡ header)
 slot_here slots numbers index header number got = slot_of slots number header (found_at (table_of slots) numbers index header number got)
 
-pub slot_low : (slots : List (Option OpenedObject)) (numbers : BTreeMap ℕ ℕ) → IsIndex (table_of slots) numbers → (header number : ℕ) → lookup nat_cmp numbers header ≡ Some number
-    → number < length slots
-slot_low slots numbers index header number got =
-    let slot = slot_here slots numbers index header number got in slice_get_within slots number (Some slot.0) slot.1
-
 pub dense_length : (slots : List (Option OpenedObject)) → IsDense slots → length slots ≡ length (objects_of slots)
 dense_length slots dense = ap length dense ∙ length-map (objects_of slots) (λ o. Some o)
-
--- an object has its slot
-pub dense_slot : (slots : List (Option OpenedObject)) → IsDense slots → (n : ℕ) (o : OpenedObject) → slice_get (objects_of slots) n ≡ Some o → slice_get slots n ≡ Some (Some o)
-dense_slot slots dense n o at =
-    ap (λ (s : List (Option OpenedObject)). slice_get s n) dense ∙ slice_get-map (λ (x : OpenedObject). Some x) (objects_of slots) n
-    ∙ ap (option_map (λ (x : OpenedObject). Some x)) at
 
 -- and what a slot has is an object
 dense_object : (slots : List (Option OpenedObject)) → IsDense slots → (n : ℕ) (slot : Option OpenedObject) → slice_get slots n ≡ Some slot

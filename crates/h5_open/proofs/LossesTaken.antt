@@ -1,7 +1,7 @@
 -- What goes with a link that is taken out of a group of an opened image: the objects that go, and those to which links are left, before the
 -- edit and after the link was taken.
-use Rattle.std.proofs.Common.{◌≡◌, inl, inr, ℕ, ◌+◌, ◌≤◌, IsSome, List, [], ◌∷◌, ◌++◌, length, map, refl, ap, ◌∙◌, subst, arith, Option, Some, None}
-use Rattle.std.specs.Prelude.{is_some, slice_get, true, false}
+use Rattle.std.proofs.Common.{◌≡◌, inl, inr, ℕ, ◌+◌, ◌≤◌, List, [], ◌∷◌, ◌++◌, length, map, refl, ap, ◌∙◌, subst, arith, Option, Some, None}
+use Rattle.std.specs.Prelude.{is_some, slice_get}
 use Rattle.std.specs.Option.{option_flatten, option_map_or}
 use Rattle.std.specs.BTreeMap.{BTreeMap}
 use Rattle.std.specs.FinMap.{get}
@@ -20,6 +20,7 @@ use Rattle.h5_group.specs.Told.{blocks_told}
 use Rattle.h5_laws.specs.Trees.Unlinked.{IsTreeLeft, lost_links}
 use Rattle.h5_laws.proofs.Lists.{In, contains_in, from_map, in_either}
 use Rattle.h5_laws.proofs.SoundLaws.LinksThere.{links_are}
+use Rattle.h5_laws.proofs.Maps.{value_of}
 use Rattle.h5_open.specs.declared.opened.object.OpenedObject.{OpenedObject}
 use Rattle.h5_open.specs.declared.opened.object.OpenedContent.{OpenedContent}
 use Rattle.h5_open.specs.declared.opened.object.OpenedContent.TheVariants as content
@@ -37,10 +38,6 @@ use Rattle.h5_open.proofs.SuperblockKept.{end_inside}
 use Rattle.h5_open.proofs.TargetCounted.{chosen_cover}
 use Rattle.h5_open.proofs.TargetStands.{still_standing}
 use Rattle.h5_open.proofs.TouchedBlocks.{blocks_of_slot, group_blocks, touched_cover}
-
-some_is : {X : Type 0} (o : Option X) → IsSome o → (x : X) × (o ≡ Some x)
-some_is None some = absurd (let never : false ≡ true = some in cc)
-some_is (Some x) some = (x, refl)
 
 -- the blocks of an object beside those of its header
 abbrev pub cells_at : List ℕ → List (Option OpenedObject) → ℕ → List Block
@@ -74,7 +71,7 @@ module _ (old : Space) (slots : List (Option OpenedObject)) (numbers : BTreeMap 
 
   slot_of : (n : ℕ) → Contains losses.numbers n → (o : OpenedObject) × (slice_get slots n ≡ Some (Some o))
   slot_of n among =
-      let some = some_is (get tree n) (left.there n among) in
+      let some = value_of (get tree n) (left.there n among) in
       slot_in_tree old.bytes slots n some.0 some.1
 
   pub gone_slot : (n : ℕ) → Contains gone n → (o : OpenedObject) × (slice_get slots n ≡ Some (Some o))

@@ -10,21 +10,16 @@ use Rattle.std.specs.List.{Contains}
 use Rattle.std.specs.Ordering.{nat_cmp, eq_by_cmp}
 use Rattle.h5_laws.proofs.Lists.{In, contains_in, in_contains, in_either, in_left, in_right}
 use Rattle.h5_laws.proofs.Pigeonhole.{Apart, apart_of_distinct, distinct_of_apart, apart_push}
+use Rattle.h5_group.proofs.LinkLists.{in_take}
 use Rattle.h5_open.specs.LostLinks.{HaveLostLinks, AreMoreLost, links_lost}
 use Rattle.h5_open.specs.declared.opened.losses.LostLinks.{LostLinks}
 
 -- ---- elements of a list, and the first of them
 
-pub in_take : {X : Type 0} (k : ℕ) (x : X) (xs : List X) → In x (take k xs) → In x xs
-in_take zero x xs at = absurd at
-in_take (suc k) x [] at = absurd at
-in_take (suc k) x (y ∷ ys) (inl e) = inl e
-in_take (suc k) x (y ∷ ys) (inr at) = inr (in_take k x ys at)
-
 pub apart_take : (k : ℕ) (xs : List ℕ) → Apart xs → Apart (take k xs)
 apart_take zero xs apart = tt
 apart_take (suc k) [] apart = tt
-apart_take (suc k) (x ∷ xs) apart = ((λ at. apart.0 (in_take k x xs at)), apart_take k xs apart.1)
+apart_take (suc k) (x ∷ xs) apart = ((λ at. apart.0 (in_take x xs k at)), apart_take k xs apart.1)
 
 -- an element that is read is one of the list
 pub in_get : {X : Type 0} (xs : List X) (i : ℕ) (d : X) → i < length xs → In (get_or xs i d) xs

@@ -1,32 +1,21 @@
 -- Objects that lose links are parted, as one after another is put to those that go or to the others.
-use Rattle.std.proofs.Common.{◌≡◌, ◌⊎◌, inl, inr, ℕ, ◌+◌, ◌<◌, ◌≤◌, ◌==◌, Bool, true, false, List, [], ◌∷◌, ◌++◌, get_or, length, map, take, refl, sym, ap, ◌∙◌, subst, arith}
+use Rattle.std.proofs.Common.{◌≡◌, inl, inr, ℕ, ◌+◌, ◌<◌, ◌≤◌, ◌==◌, Bool, true, false, List, [], ◌∷◌, ◌++◌, get_or, length, map, take, refl, sym, ap, ◌∙◌, subst, arith}
 use Rattle.std.specs.Prelude.{if◌then◌else◌}
 use Rattle.std.proofs.lemmas.Bool.Decides.{nat_tests}
 use Rattle.std.proofs.lemmas.List.{map-append, append-nil, take_more}
 use Rattle.std.proofs.lemmas.Grind.{flat_map-append}
 use Rattle.std.specs.Ordering.{nat_cmp, eq_by_cmp}
 use Rattle.std.specs.List.{Contains, IsDistinct, flat_map}
+use Rattle.std.proofs.lemmas.List.Elements.{Contains-push, Contains-append_left, Contains-push_cases}
 use Rattle.h5_bytes.specs.Blocks.{cover}
 use Rattle.h5_bytes.specs.declared.Block.{Block}
 use Rattle.h5_bytes.proofs.BlockLaws.{cover-append}
-use Rattle.h5_laws.proofs.Lists.{In, contains_in, from_map, in_contains, in_either, in_left, in_right}
+use Rattle.h5_laws.proofs.Lists.{In, contains_in, from_map, in_contains, in_right}
 use Rattle.h5_laws.proofs.Pigeonhole.{Apart, apart_of_distinct, distinct_of_apart, apart_push}
 use Rattle.h5_open.proofs.LostLaws.{apart_take}
 use Rattle.h5_open.specs.LostLinks.{AreLossesParted}
 
 -- ---- an element more at the end
-
-contains_left : {X : Type 0} (x : X) (xs ys : List X) → Contains xs x → Contains (xs ++ ys) x
-contains_left x xs ys at = contains_in x (xs ++ ys) (in_left x xs ys (in_contains x xs at))
-
-contains_last : {X : Type 0} (x : X) (xs : List X) → Contains (xs ++ x ∷ []) x
-contains_last x xs = contains_in x (xs ++ x ∷ []) (in_right x xs (x ∷ []) (inl refl))
-
-last_or : {X : Type 0} (x y : X) (xs : List X) → Contains (xs ++ y ∷ []) x → Contains xs x ⊎ (y ≡ x)
-last_or x y xs at = elim (in_either x xs (y ∷ []) (in_contains x (xs ++ y ∷ []) at)) [
-  | inl there ↦ inl (contains_in x xs there)
-  | inr last ↦ elim last [ inl same ↦ inr same | inr never ↦ absurd never ]
-]
 
 distinct_push : (xs : List ℕ) (y : ℕ) → IsDistinct (eq_by_cmp nat_cmp) xs → (Contains xs y → ⊥) → IsDistinct (eq_by_cmp nat_cmp) (xs ++ y ∷ [])
 distinct_push xs y once other = distinct_of_apart (xs ++ y ∷ []) (apart_push xs y (apart_of_distinct xs once) (λ at. other (contains_in y xs at)))
@@ -66,14 +55,14 @@ module _ (links lost : ℕ → ℕ) (blocks : ℕ → List Block) where
     put_gone none covers = record {
       gone_once = distinct_push gone number are.gone_once (λ at. other (are.goes number at).0);
       less_once = are.less_once;
-      goes = λ n at. elim (last_or n number gone at) [
-        | inl there ↦ let g = are.goes n there in (contains_left n numbers (number ∷ []) g.0, g.1)
-        | inr same ↦ subst (λ (m : ℕ). Contains (numbers ++ number ∷ []) m × (lost m ≡ links m)) same (contains_last number numbers, omega (arith, is, none))
+      goes = λ n at. elim (Contains-push_cases gone number n at) [
+        | inl there ↦ let g = are.goes n there in (Contains-append_left numbers (number ∷ []) n g.0, g.1)
+        | inr same ↦ subst (λ (m : ℕ). Contains (numbers ++ number ∷ []) m × (lost m ≡ links m)) same (Contains-push numbers number, omega (arith, is, none))
       ];
-      stays = λ n rest at. let s = are.stays n rest at in (contains_left n numbers (number ∷ []) s.0, s.1, s.2);
-      parted = λ n at. elim (last_or n number numbers at) [
-        | inl there ↦ elim (are.parted n there) [ inl goes ↦ inl (contains_left n gone (number ∷ []) goes) | inr stays ↦ inr stays ]
-        | inr same ↦ inl (subst (Contains (gone ++ number ∷ [])) same (contains_last number gone))
+      stays = λ n rest at. let s = are.stays n rest at in (Contains-append_left numbers (number ∷ []) n s.0, s.1, s.2);
+      parted = λ n at. elim (Contains-push_cases numbers number n at) [
+        | inl there ↦ elim (are.parted n there) [ inl goes ↦ inl (Contains-append_left gone (number ∷ []) n goes) | inr stays ↦ inr stays ]
+        | inr same ↦ inl (subst (Contains (gone ++ number ∷ [])) same (Contains-push gone number))
       ];
       covered = λ p.
           let more = ap (cover p) (flat_map-append blocks gone (number ∷ []) ∙ ap (λ (bs : List Block). flat_map blocks gone ++ bs) (append-nil (blocks number))) in
@@ -88,15 +77,15 @@ module _ (links lost : ℕ → ℕ) (blocks : ℕ → List Block) where
           (distinct_push (map (λ (l : ℕ × ℕ). l.0) less) number are.less_once (λ at.
           let one = from_map (λ (l : ℕ × ℕ). l.0) number less (in_contains number (map (λ (l : ℕ × ℕ). l.0) less) at) in
           other (subst (Contains numbers) one.2 (are.stays one.0.0 one.0.1 (contains_in one.0 less one.1)).0)));
-      goes = λ n at. let g = are.goes n at in (contains_left n numbers (number ∷ []) g.0, g.1);
-      stays = λ n rest at. elim (last_or (n, rest) (number, left) less at) [
-        | inl there ↦ let s = are.stays n rest there in (contains_left n numbers (number ∷ []) s.0, s.1, s.2)
+      goes = λ n at. let g = are.goes n at in (Contains-append_left numbers (number ∷ []) n g.0, g.1);
+      stays = λ n rest at. elim (Contains-push_cases less (number, left) (n, rest) at) [
+        | inl there ↦ let s = are.stays n rest there in (Contains-append_left numbers (number ∷ []) n s.0, s.1, s.2)
         | inr same ↦
-            subst (λ (l : ℕ × ℕ). Contains (numbers ++ number ∷ []) l.0 × (1 ≤ l.1) × (l.1 + lost l.0 ≡ links l.0)) same (contains_last number numbers, some, is)
+            subst (λ (l : ℕ × ℕ). Contains (numbers ++ number ∷ []) l.0 × (1 ≤ l.1) × (l.1 + lost l.0 ≡ links l.0)) same (Contains-push numbers number, some, is)
       ];
-      parted = λ n at. elim (last_or n number numbers at) [
-        | inl there ↦ elim (are.parted n there) [ inl goes ↦ inl goes | inr stays ↦ inr (stays.0, contains_left (n, stays.0) less ((number, left) ∷ []) stays.1) ]
-        | inr same ↦ inr (left, subst (λ (m : ℕ). Contains (less ++ (number, left) ∷ []) (m, left)) same (contains_last (number, left) less))
+      parted = λ n at. elim (Contains-push_cases numbers number n at) [
+        | inl there ↦ elim (are.parted n there) [ inl goes ↦ inl goes | inr stays ↦ inr (stays.0, Contains-append_left less ((number, left) ∷ []) (n, stays.0) stays.1) ]
+        | inr same ↦ inr (left, subst (λ (m : ℕ). Contains (less ++ (number, left) ∷ []) (m, left)) same (Contains-push less (number, left)))
       ];
       covered = λ p. covers p ∙ are.covered p;
     }

@@ -1,12 +1,11 @@
 -- The slots of objects that lose links, and what their headers count.
-use Rattle.std.proofs.Common.{◌≡◌, ℕ, ◌+◌, ◌≤◌, ◌==◌, Bool, true, false, List, [], length, refl, ap, subst, arith, Option, Some, None, IsSome}
+use Rattle.std.proofs.Common.{◌≡◌, ℕ, ◌+◌, ◌≤◌, ◌==◌, Bool, true, false, List, length, refl, ap, subst, arith, Option, Some, None, IsSome}
 use Rattle.std.specs.Prelude.{if◌then◌else◌, slice_get}
 use Rattle.std.proofs.lemmas.Bool.Decides.{nat_tests}
 use Rattle.std.proofs.lemmas.List.FromFn.{length-range_with_len}
 use Rattle.std.specs.BTreeMap.{BTreeMap}
 use Rattle.std.specs.FinMap.{get}
 use Rattle.std.specs.List.{Contains, IsDistinct, range_with_len}
-use Rattle.std.specs.Option.{option_flatten, option_map_or}
 use Rattle.std.specs.Ordering.{nat_cmp, eq_by_cmp}
 use Rattle.h5_laws.specs.Trees.Sound.{IsSoundTree}
 use Rattle.h5_laws.proofs.Lists.{In, contains_in, in_range}
@@ -18,8 +17,7 @@ use Rattle.h5_model.specs.Tree.Objects.{Object, Tree, hard_links}
 use Rattle.h5_space.specs.Space.{Space}
 use Rattle.h5_open.specs.declared.opened.object.OpenedObject.{OpenedObject}
 use Rattle.h5_open.specs.Opened.Kept.{IsOpened}
-use Rattle.h5_open.specs.Opened.Objects.{header_of, object_blocks, table_of, tree_of}
-use Rattle.h5_open.specs.SlotsInPlace.{blocks_at}
+use Rattle.h5_open.specs.Opened.Objects.{header_of, table_of, tree_of}
 use Rattle.h5_open.proofs.HeaderInPlace.{slot_in_tree}
 use Rattle.h5_open.proofs.OpenedLaws.Sounds.{sound}
 use Rattle.h5_open.proofs.RelinkedTree.{count_was}
@@ -66,6 +64,3 @@ module _ (image : Space) (slots : List (Option OpenedObject)) (numbers : BTreeMa
       let same : 0 + n ≡ n = omega arith in
       subst (λ (k : ℕ). In k all) same (in_range 0 (length slots) n ((sound image slots numbers opened).numbers.given n (there n (contains_in n lost at))))) in
       omega (arith, fit, length-range_with_len 0 (length slots))
-
-pub slot_blocks_at : (image : List ℕ) (slots : List (Option OpenedObject)) (n : ℕ) (p : OpenedObject) → slice_get slots n ≡ Some (Some p) → blocks_at image slots n ≡ object_blocks image p
-slot_blocks_at image slots n p at = ap (λ (s : Option (Option OpenedObject)). option_map_or (object_blocks image) (option_flatten s) []) at

@@ -17,9 +17,10 @@ use Rattle.h5_laws.proofs.SoundLaws.Applied.{follow_stands}
 use Rattle.h5_laws.proofs.SoundLaws.Counts.{content_some, leads_or, some_named}
 use Rattle.h5_laws.proofs.SoundLaws.Left.{lost_fits}
 use Rattle.h5_laws.proofs.SoundLaws.LinksThere.{GroupAt, link_is}
+use Rattle.h5_group.proofs.LinkLists.{in_take}
 use Rattle.h5_open.specs.LostLinks.{HaveLostLinks, AreMoreLost, links_lost}
 use Rattle.h5_open.specs.declared.opened.losses.LostLinks.{LostLinks}
-use Rattle.h5_open.proofs.LostLaws.{apart_take, in_take}
+use Rattle.h5_open.proofs.LostLaws.{apart_take}
 
 module _ (tree : Tree) (link : Link) where
   -- a path leads to the object from the link
@@ -109,7 +110,7 @@ module _ (tree : Tree) (link : Link) where
           counts = all;
           led = λ n there.
               led_on (take (done + 1) new.numbers.items)
-              (λ k first. through.led k (contains_in k old.numbers.items (in_take (done + 1) k old.numbers.items (subst (In k) same first))))
+              (λ k first. through.led k (contains_in k old.numbers.items (in_take k old.numbers.items (done + 1) (subst (In k) same first))))
               n (let some = (more.lost.each n).0 there in omega (arith, some, all n));
         }
 
@@ -146,7 +147,7 @@ module _ (tree : Tree) (link : Link) where
       first_fits k n =
           lost_fits tree parent name link (take k lost.numbers.items) sound stands
           (distinct_of_apart (take k lost.numbers.items) (apart_take k lost.numbers.items (apart_of_distinct lost.numbers.items through.have.once)))
-          (λ m at. through.led m (contains_in m lost.numbers.items (in_take k m lost.numbers.items (in_contains m (take k lost.numbers.items) at)))) n
+          (λ m at. through.led m (contains_in m lost.numbers.items (in_take m lost.numbers.items k (in_contains m (take k lost.numbers.items) at)))) n
 
       pub through_fits : (n : ℕ) → links_lost lost.counts n ≤ hard_links tree n
       through_fits n = let fits = first_fits done n in omega (arith, through.counts n, fits)

@@ -1,6 +1,6 @@
 -- An object that was written into a block, the link to it that was put into a group, and the end of file address that was written: the room
 -- for them, and what the image is then.
-use Rattle.std.proofs.Common.{◌≡◌, ℕ, ◌+◌, ◌≤◌, ◌^◌, List, [], ◌∷◌, length, refl, sym, ap, ◌∙◌, subst, arith}
+use Rattle.std.proofs.Common.{◌≡◌, ℕ, ◌+◌, ◌≤◌, ◌^◌, List, [], ◌∷◌, length, refl, ap, ◌∙◌, subst, arith}
 use Rattle.h5_bytes.specs.Blocks.{block}
 use Rattle.h5_bytes.specs.Bytes.{part}
 use Rattle.h5_model.specs.Format.Addresses.{SymbolTable}
@@ -41,9 +41,6 @@ module _ (at : ℕ) (c : ContentBytes) (lead : Leads) (leads : lead ≡ lead_at 
 
   pub object_span : (name : List ℕ) → texts_span (name, lead) ≡ text_span name
   object_span name = ap (λ (l : Leads). texts_span (name, l)) leads ∙ lead_span name at c
-
-  pub object_plain : IsPlainLead lead
-  object_plain = subst IsPlainLead (sym leads) (lead_at_plain at c)
 
 module _ (old taken : Space) (t : SymbolTable) (group : IsGroupApart old t) (name : List ℕ) (at len : ℕ) (b : ObjectBytes) (lead : Leads) (leads : lead ≡ lead_at at b.content)
     (took : Moves old taken [] (block at len ∷ [])) (spends : Spends old taken len 1) where

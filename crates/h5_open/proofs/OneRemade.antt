@@ -225,15 +225,6 @@ module _ (old new : Space) (slots slots' : List (Option OpenedObject)) (numbers 
   pub one_changed : (bytes : ℕ) → length new.bytes ≤ length old.bytes + bytes → IsChangedInPlace (opened_state old slots) (opened_state new slots') tree' (length slots') touched bytes
   one_changed bytes room = slots_changed old new slots slots' numbers numbers opened tree' touched bytes good one_in_place index_stays room
 
-  -- the tree is as it was where the object is
-  pub one_same : remade ≡ object_in old.bytes table p → tree' ≡ tree
-  one_same same = same_map nat_cmp_total nat_cmp-IsAntisymmetric tree' tree (λ n. go n (number == n) refl) where
-    go : (n : ℕ) (b : Bool) → (number == n) ≡ b → get tree' n ≡ get tree n
-    go n true tested =
-        let here : number ≡ n = grind (arith, nat_tests, tested) in
-        put_here n tested ∙ ap (λ (o : Object). Some o) same ∙ sym of.there ∙ ap (get tree) here
-    go n false tested = put_beside n tested
-
   -- the tree as a change of that object
   pub one_tree : (change : Object → Object) → remade ≡ change (object_in old.bytes table p) → tree' ≡ with_object tree number change
   one_tree change is_changed =

@@ -6,7 +6,7 @@ use Rattle.std.proofs.lemmas.Bool.Decides.{nat_tests}
 use Rattle.h5_bytes.specs.Blocks.{holds, cover, Separate}
 use Rattle.h5_bytes.specs.Texts.{text_at}
 use Rattle.h5_bytes.specs.declared.Block.{Block}
-use Rattle.h5_bytes.proofs.BlockLaws.{holds_in, cover-append}
+use Rattle.h5_bytes.proofs.BlockLaws.{holds_in, cover-append, all_so}
 use Rattle.h5_model.specs.Format.Addresses.{SymbolTable}
 use Rattle.h5_model.specs.Format.Superblock.{leaf_k}
 use Rattle.h5_model.specs.Format.Symbols.{Entry, Header, Text, symbol_block, symbol_bytes, symbols_in, symbols_at, link_of}
@@ -22,10 +22,6 @@ use Rattle.h5_group.proofs.DropExact.{begins_in}
 use Rattle.h5_open.specs.Read.{AreWaiting}
 
 -- ---- lists
-
-pub weaken_all : {X : Type 0} (P Q : X → Type 0) (xs : List X) → ((x : X) → P x → Q x) → AllByRecursion P xs → AllByRecursion Q xs
-weaken_all P Q [] f all = tt
-weaken_all P Q (x ∷ xs) f all = (f x all.0, weaken_all P Q xs f all.1)
 
 range_apart : (from n : ℕ) → Apart (range_with_len from n)
 range_apart from zero = tt
@@ -82,7 +78,7 @@ module _ (image : List ℕ) (t : SymbolTable) (base held now : List Block) (more
   )
 
   widen : (Among Wider : ℕ → ℕ → Type 0) → ((n k : ℕ) → Among n k → Wider n k) → (fields : List ℕ) → AllByRecursion (IsPlaced Among) fields → AllByRecursion (IsPlaced Wider) fields
-  widen Among Wider f fields placed = weaken_all (IsPlaced Among) (IsPlaced Wider) fields (λ x p. record { node = p.node; i = p.i; hard = p.hard; is_field = p.is_field; among = f p.node p.i p.among }) placed
+  widen Among Wider f fields placed = all_so (IsPlaced Among) (IsPlaced Wider) fields (λ x p. record { node = p.node; i = p.i; hard = p.hard; is_field = p.is_field; among = f p.node p.i p.among }) placed
 
   module _ (node : ℕ) (stands : Contains nodes_of node) (nodes : List ℕ) (other : In node nodes → ⊥) (rest : List Entry) where
     abbrev Here : List ℕ → ℕ → ℕ → Type 0

@@ -4,22 +4,18 @@ use Rattle.std.specs.Prelude.{if◌then◌else◌, slice_get, slice_set}
 use Rattle.std.specs.BTreeMap.{BTreeMap}
 use Rattle.std.specs.FinMap.{get}
 use Rattle.std.specs.Option.{option_flatten}
-use Rattle.std.proofs.lemmas.Bool.Decides.{nat_tests}
-use Rattle.std.proofs.lemmas.List.FromFn.{length-map-range_with_len}
-use Rattle.std.proofs.lemmas.Option.{cond_some, slice_get_within}
+use Rattle.std.proofs.lemmas.Option.{slice_get_within}
 use Rattle.h5_model.specs.Edits.Applied.{with_sizes, with_dataset}
 use Rattle.h5_model.specs.Edits.Refusal.{is_chunked}
-use Rattle.h5_model.specs.Format.Extent.{Extent, extent_in, extent_of, is_dataspace, rank_in, size_in}
 use Rattle.h5_model.specs.Format.Layout.{Layout, InMessage, InBlock, InChunks}
 use Rattle.h5_model.specs.Format.Messages.{Message}
 use Rattle.h5_model.specs.Format.Superblock.{end_of_file, end_field}
-use Rattle.h5_model.specs.Format.Described.{storage_of, Described, HasArray}
+use Rattle.h5_model.specs.Format.Described.{storage_of, Described}
 use Rattle.h5_model.specs.Tree.Objects.{with_object}
 use Rattle.h5_model.proofs.OneReading.{one_messages}
 use Rattle.h5_space.specs.Moves.{Moves}
 use Rattle.h5_space.specs.Space.{Space}
 use Rattle.h5_header.specs.Listed.{messages_in}
-use Rattle.h5_header.proofs.FoundLaws.{among_some}
 use Rattle.h5_layout.specs.Data.{dataset_told}
 use Rattle.h5_layout.specs.Told.{array_told}
 use Rattle.h5_open.specs.declared.opened.object.OpenedObject.{OpenedObject}
@@ -40,18 +36,6 @@ use Rattle.h5_open.proofs.AttributeEdits.{room_opened, slot_beside, slot_length,
 use Rattle.h5_open.proofs.HeaderInPlace.{header_full}
 use Rattle.h5_open.proofs.OpenedLaws.Sounds.{object_of}
 use Rattle.h5_open.proofs.StandingOpened.{array_is, is_array}
-
--- an array has at most 32 sizes
-pub few_sizes : (ms : List Message) (a : Described) → HasArray ms a → length a.sizes ≤ 32
-unfolding extent_of
-few_sizes ms a has =
-    let x : Extent = record { sizes = a.sizes; maxima = a.maxima } in
-    let space = among_some extent_of 1 ms x has.space in
-    let body : List ℕ = (space.0).body in
-    let p = cond_some (is_dataspace body) (extent_in body) x space.3 in
-    let long : length x.sizes ≡ rank_in body = ap (λ (e : Extent). length e.sizes) (sym p.1) ∙ length-map-range_with_len (size_in body) 0 (rank_in body) in
-    let low : rank_in body ≤ 32 = grind (arith, nat_tests, p.0) in
-    omega (arith, long, low)
 
 -- whether it is in chunks, its sizes do not say
 chunked_so : (layout : Layout) (sizes others : List ℕ) → is_chunked (storage_of sizes layout) ≡ true → is_chunked (storage_of others layout) ≡ true

@@ -1,5 +1,5 @@
 -- An edit in place by what is kept of the objects is an edit in place of the reading: so an image that was opened is opened as it is now.
-use Rattle.std.proofs.Common.{◌≡◌, inl, inr, ℕ, ◌+◌, ◌≤◌, Bool, true, false, not, cond, List, [], ◌∷◌, length, map, refl, sym, ap, ◌∙◌, subst, arith, Option, Some, None, IsSome}
+use Rattle.std.proofs.Common.{◌≡◌, ℕ, ◌+◌, ◌≤◌, Bool, true, false, not, cond, List, ◌∷◌, length, map, refl, sym, ap, ◌∙◌, subst, arith, Option, Some, None, IsSome}
 use Rattle.std.specs.Prelude.{option_map, option_and_then, slice_get}
 use Rattle.std.specs.Option.{option_flatten, option_map_or}
 use Rattle.std.specs.Ordering.{nat_cmp}
@@ -7,7 +7,6 @@ use Rattle.std.specs.Cmp.{nat_cmp_total}
 use Rattle.std.specs.Cmp.Lexicographic.{nat_list_cmp_total}
 use Rattle.std.specs.BTreeMap.{BTreeMap}
 use Rattle.std.specs.FinMap.{FinMap, get, entries, same_map, nat_cmp-IsAntisymmetric}
-use Rattle.std.specs.List.{filter}
 use Rattle.std.proofs.lemmas.Option.{same_Some}
 use Rattle.std.proofs.lemmas.Bool.{not-true}
 use Rattle.h5_bytes.specs.Blocks.{cover, Inside}
@@ -17,6 +16,7 @@ use Rattle.h5_model.specs.Format.Messages.{Message}
 use Rattle.h5_model.specs.Format.Reads.{Placed, HasObject, ReadsAs}
 use Rattle.h5_model.specs.Format.Superblock.{end_field}
 use Rattle.h5_model.specs.Tree.Objects.{Tree, Object, Content, Group, Array, Link, Links, ToObject, Soft, link_in, links_in, links_of}
+use Rattle.h5_model.proofs.Members.{filter_in}
 use Rattle.h5_header.specs.Listed.{messages_in}
 use Rattle.h5_layout.specs.Told.{layout_told, type_told}
 use Rattle.h5_space.specs.Space.{Space}
@@ -43,17 +43,6 @@ use Rattle.h5_open.proofs.SlotPlaces.{others_stay, place_slots, from_slots, slot
 use Rattle.h5_open.proofs.OpenedLaws.ReadBlocks.{blocks_kept}
 
 -- ---- lists and slots
-
-in_filter : (f : Placed → Bool) (x : Placed) (xs : List Placed) → In x (filter f xs) → In x xs × (f x ≡ true)
-in_filter f x [] at = absurd at
-in_filter f x (y ∷ xs) at = go (f y) refl at (in_filter f x xs) where
-  first : f y ≡ true → In x (y ∷ filter f xs) → (In x (filter f xs) → In x xs × (f x ≡ true)) → In x (y ∷ xs) × (f x ≡ true)
-  first is (inl e) more = (inl e, ap f (sym e) ∙ is)
-  first is (inr there) more = let rest = more there in (inr rest.0, rest.1)
-
-  go : (b : Bool) → f y ≡ b → In x (cond b (y ∷ filter f xs) (filter f xs)) → (In x (filter f xs) → In x xs × (f x ≡ true)) → In x (y ∷ xs) × (f x ≡ true)
-  go true is there more = first is there more
-  go false is there more = let rest = more there in (inr rest.0, rest.1)
 
 full_slot : (slot : Option (Option OpenedObject)) (o : OpenedObject) → option_flatten slot ≡ Some o → slot ≡ Some (Some o)
 full_slot None o is = absurd (let never : None ≡ Some o = is in cc)
@@ -174,7 +163,7 @@ module _ (old new : Space) (slots slots' : List (Option OpenedObject)) (numbers 
 
   left_of : (x : Placed) → In x (other_objects touched placed') → IsLeft table table' tree tree' x
   left_of x at =
-      let there = in_filter (λ (y : Placed). not (touched y.number)) x placed' at in
+      let there = filter_in (λ (y : Placed). not (touched y.number)) x placed' at in
       let place = from_slots placing 0 slots' x there.0 in
       let m = place.1 in
       let o = place.2 in
@@ -192,7 +181,7 @@ module _ (old new : Space) (slots slots' : List (Option OpenedObject)) (numbers 
 
   remade_of : (x : Placed) → In x (chosen_objects touched placed') → IsRemade new.bytes table' tree' x
   remade_of x at =
-      let there = in_filter (λ (y : Placed). touched y.number) x placed' at in
+      let there = filter_in (λ (y : Placed). touched y.number) x placed' at in
       let place = from_slots placing 0 slots' x there.0 in
       let m = place.1 in
       let o = place.2 in

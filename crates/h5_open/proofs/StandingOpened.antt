@@ -25,6 +25,7 @@ use Rattle.h5_model.proofs.DescribedLaws.{one_array}
 use Rattle.h5_space.specs.Lending.{with_bytes_at}
 use Rattle.h5_space.specs.Moves.{Moves}
 use Rattle.h5_space.specs.Space.{Space}
+use Rattle.h5_space.proofs.MovesLaws.{byte-with_part}
 use Rattle.h5_header.specs.Listed.{messages_in}
 use Rattle.h5_header.proofs.BesideLaws.{moves_covered}
 use Rattle.h5_layout.specs.CellPlaces.{ArePlacesOf, KeptPlaces}
@@ -32,7 +33,7 @@ use Rattle.h5_layout.specs.Data.{dataset_told, stored_chunks}
 use Rattle.h5_layout.specs.Standing.{IsStandingAt, blocks_with_cells, cell_blocks, is_stored_cell, is_stored_in}
 use Rattle.h5_layout.specs.Told.{array_told}
 use Rattle.h5_layout.proofs.PlacesWritten.{stored_places}
-use Rattle.h5_layout.proofs.StandingWritten.{byte_beside, parts_of_type, stored_among, stored_blocks_stay, stored_chunks_stay, stored_covered, stored_fit, stored_inside, stored_long, stored_read, stored_told}
+use Rattle.h5_layout.proofs.StandingWritten.{parts_of_type, stored_among, stored_blocks_stay, stored_chunks_stay, stored_covered, stored_fit, stored_inside, stored_long, stored_read, stored_told}
 use Rattle.h5_layout.proofs.StandsAt.{cells_low}
 use Rattle.h5_open.specs.declared.opened.object.OpenedObject.{OpenedObject}
 use Rattle.h5_open.specs.declared.opened.object.OpenedContent.{OpenedContent}
@@ -106,7 +107,7 @@ pub kept_outside : (old new : List ℕ) (at : ℕ) (w : List ℕ) (bs : List Blo
     → ((p : ℕ) → holds p at (length w) ≤ cover p bs) → IsKeptOutside old new bs
 kept_outside old new at w bs fit is among = record {
   long = ap length is ∙ length-with_part at w old fit;
-  kept = λ p none. ap (λ (b : List ℕ). byte_at b p) is ∙ byte_beside at w old p fit (elim (cases_lt p at) [
+  kept = λ p none. ap (λ (b : List ℕ). byte_at b p) is ∙ byte-with_part at w old p fit (elim (cases_lt p at) [
     | inl below ↦ inl below
     | inr above ↦ inr (elim (cases_lt p (at + length w)) [
       | inl within ↦ absurd (let one = holds_in p at (length w) above within in let all = among p in omega (arith, one, all, none))

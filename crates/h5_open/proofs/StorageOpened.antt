@@ -20,6 +20,7 @@ use Rattle.h5_space.specs.Moves.{Moves}
 use Rattle.h5_space.specs.Space.{Space}
 use Rattle.h5_header.specs.Listed.{messages_in}
 use Rattle.h5_laws.proofs.Lists.{In, in_contains}
+use Rattle.h5_laws.proofs.SoundLaws.NewPaths.{none_any}
 use Rattle.h5_layout.specs.Data.{stored_chunks}
 use Rattle.h5_layout.specs.Standing.{is_stored_cell, is_stored_in}
 use Rattle.h5_layout.specs.Told.{array_told, layout_told, type_told}
@@ -31,7 +32,6 @@ use Rattle.h5_layout.specs.Lacking.{lacks_cells, stored_all, stored_storage}
 use Rattle.h5_layout.specs.RunStorage.{IsMadeAt}
 use Rattle.h5_layout.specs.Storage.{IsStorageMade}
 use Rattle.h5_layout.proofs.RunStorageLaws.{made_inside}
-use Rattle.h5_layout.proofs.LackingLaws.{none_passes}
 use Rattle.h5_open.specs.ChangedInPlace.{IsChangedInPlace}
 use Rattle.h5_open.specs.Opened.Kept.{IsContentTidy, IsOpened}
 use Rattle.h5_open.specs.Opened.Objects.{tree_of}
@@ -49,7 +49,7 @@ all_stored : (image : List ℕ) (a : Described) (slab : Slab) → lacks_cells im
     → (place : ℕ) → Contains (selection_of a.sizes slab) place → is_stored_cell image a place ≡ true
 all_stored image a slab none place at =
     not-false (is_stored_cell image a place)
-    (none_passes (λ (q : ℕ). not (is_stored_cell image a q)) place (selection_of a.sizes slab) none (in_contains place (selection_of a.sizes slab) at))
+    (none_any (λ (q : ℕ). not (is_stored_cell image a q)) (selection_of a.sizes slab) place none (in_contains place (selection_of a.sizes slab) at))
 
 -- storage that is made leaves an array in chunks, or out of them
 stored_chunked : (sizes : List ℕ) (s : Storage) → is_chunked (stored_storage sizes s) ≡ is_chunked s

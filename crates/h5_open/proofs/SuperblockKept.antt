@@ -26,10 +26,6 @@ end_split image p = split_with (has_chunk_k image) p
 pub end_inside : (image : List ℕ) (p : ℕ) → holds p (end_field image).at 8 ≤ holds p 0 (superblock_length image)
 end_inside image p = omega (arith, end_split image p)
 
--- a number whose bytes stay
-pub number_same : (old new : List ℕ) (at size : ℕ) → part at size new ≡ part at size old → number_at new at size ≡ number_at old at size
-number_same old new at size same = let none : at + 0 ≡ at = omega arith in rw none at (number_at-same old new at size 0 size same (omega arith))
-
 -- a number among first bytes that stay
 pub front_number : (old new : List ℕ) (n place size : ℕ) → part 0 n new ≡ part 0 n old → place + size ≤ n → number_at new place size ≡ number_at old place size
 front_number old new n place size same low = let none : 0 + place ≡ place = omega arith in rw none at (number_at-same old new 0 n place size same low)

@@ -1,7 +1,6 @@
 -- Cells of an array in chunks that are written where they stand: each cell of the grid of chunks outside the sizes of the array stays.
 use Rattle.std.proofs.Common.{◌≡◌, ◌∙◌, ◌⊎◌, inl, inr, ℕ, ◌+◌, ◌-◌, ◌*◌, ◌/◌, ◌%◌, ◌<◌, ◌≤◌, List, [], ◌∷◌, length, Option, Some, None, ℤ, true, false, refl, sym, ap, subst, arith}
 use Rattle.std.proofs.lemmas.Bool.{cases_lt}
-use Rattle.std.proofs.lemmas.List.{places}
 use Rattle.std.proofs.lemmas.Nat.{div-add-mod', div_below}
 use Rattle.h5_bytes.specs.Blocks.{cover}
 use Rattle.h5_bytes.specs.Bytes.{byte_at, part, with_part}
@@ -17,20 +16,17 @@ use Rattle.h5_model.specs.Tree.Places.{IsInside, cells, index_of, place_of}
 use Rattle.h5_model.proofs.PlaceLaws.{index-place, inside-index, place_below, is_inside_from}
 use Rattle.h5_model.proofs.PlainValues.{length-cells_bytes, size-low}
 use Rattle.h5_model.proofs.ValueLaws.{value_at-same}
+use Rattle.h5_model.proofs.BodyLaws.{byte_at-part}
+use Rattle.h5_space.proofs.MovesLaws.{byte-with_part}
 use Rattle.h5_header.proofs.FoundLaws.{among_some}
 use Rattle.h5_layout.specs.Data.{AreDataRead, data_blocks, stored_chunks}
 use Rattle.h5_layout.specs.Standing.{IsStandingAt, address_of}
 use Rattle.h5_layout.specs.Stored.{has_room}
 use Rattle.h5_layout.proofs.RoomLaws.{room_of}
 use Rattle.h5_layout.proofs.StandingLaws.{HasBoxes, boxes_of, held_cell, nowhere, one_cell, stands}
-use Rattle.h5_layout.proofs.StandingWritten.{byte_beside}
 use Rattle.h5_layout.specs.Trimmed.{grid_cell}
 use Rattle.h5_open.specs.Opened.Kept.{AreChunksTrimmed}
 use Rattle.h5_open.proofs.TrimmedKept.{trimmed_by}
-
-byte_in_part : (at len : ℕ) (bytes : List ℕ) (k : ℕ) → k < len → byte_at (part at len bytes) k ≡ byte_at bytes (at + k)
-unfolding part
-byte_in_part at len bytes k low = grind (arith, places, low)
 
 -- ---- sizes inside which an index is, and all that is inside others
 
@@ -119,9 +115,9 @@ module _ (old new : List ℕ) (t : Fixed) (sizes : List ℕ) (place n at : ℕ) 
           let room_there = h.room in
           let at_there = h.at in
           let few : q < h.b.len = omega (arith, high, room_there) in
-          byte_in_part h.b.at h.b.len new q few
+          byte_at-part q h.b.at h.b.len new few
           ∙ kept (h.b.at + q) (beside y there (h.b.at + q) (omega (arith, at_there, low)) (omega (arith, at_there, high)))
-          ∙ sym (byte_in_part h.b.at h.b.len old q few))
+          ∙ sym (byte_at-part q h.b.at h.b.len old few))
           ∙ sym (value old)
 
 -- ---- the array
@@ -134,7 +130,7 @@ module _ (old : List ℕ) (a : Described) (ms : List Message) (has : HasArray ms
   bytes_stay p far =
       let wide = length-cells_bytes a.fixed values in
       ap (λ (b : List ℕ). byte_at b p) wrote
-      ∙ byte_beside at (cells_bytes a.fixed values) old p fit (elim far [ inl below ↦ inl below | inr past ↦ inr (omega (arith, wide, past)) ])
+      ∙ byte-with_part at (cells_bytes a.fixed values) old p fit (elim far [ inl below ↦ inl below | inr past ↦ inr (omega (arith, wide, past)) ])
 
   module _ (index : List ℕ) (long : length index ≡ length a.sizes) (out : IsInside a.sizes index → ⊥) where
     by_layout : (layout : Layout) → is_chunked (storage_of a.sizes layout) ≡ true → AreDataRead old a.fixed layout → has_room a.sizes a.fixed.size layout ≡ true

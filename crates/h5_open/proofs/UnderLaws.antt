@@ -6,7 +6,7 @@ use Rattle.std.proofs.lemmas.List.Elements.{Contains-append_left, Contains-appen
 use Rattle.std.proofs.lemmas.Bool.{false_from_ne_true}
 use Rattle.h5_bytes.specs.Blocks.{cover, Separate, Inside}
 use Rattle.h5_bytes.specs.declared.Block.{Block}
-use Rattle.h5_bytes.proofs.BlockLaws.{all_append}
+use Rattle.h5_bytes.proofs.BlockLaws.{all_append, all_so}
 use Rattle.h5_model.specs.Format.Reached.{Named, naming_of, ObjectHeader}
 use Rattle.h5_model.specs.Faults.Breaches.{is_header}
 use Rattle.h5_laws.proofs.Lists.{contains_in, in_right}
@@ -17,7 +17,6 @@ use Rattle.h5_open.specs.Opened.Objects.{headers, object_blocks, opened_blocks}
 use Rattle.h5_open.specs.Placed.Whole.{HasParent}
 use Rattle.h5_open.specs.Read.{IsObjectRead, IsObjectFollowed}
 use Rattle.h5_open.specs.Walk.{IsNamedBy, IsUnder, IsReady}
-use Rattle.h5_open.proofs.PlaceLaws.{weaken_all}
 use Rattle.h5_open.proofs.FieldsMet.{more_fields}
 use Rattle.h5_open.proofs.GrowLaws.{headers-append, cover-objects, cover-object, distinct_push, named_push}
 
@@ -27,7 +26,7 @@ pub header_met : (image : List ℕ) (held : List Block) (followed : List Named) 
 header_met image held followed objects field header depth ready new = record {
   walked = (ready.under).walked;
   met = ready.met;
-  alone = weaken_all (λ (y : Named). is_header y.role ≡ true → Contains (headers objects) y.at) (λ (y : Named). y.at ≡ header → is_header y.role ≡ false) followed
+  alone = all_so (λ (y : Named). is_header y.role ≡ true → Contains (headers objects) y.at) (λ (y : Named). y.at ≡ header → is_header y.role ≡ false) followed
       (λ y known at. false_from_ne_true (is_header y.role) (λ is. new (subst (Contains (headers objects)) at (known is)))) (ready.under).known;
 }
 
@@ -72,10 +71,10 @@ module _ (image : List ℕ) (held now : List Block) (followed : List Named) (obj
     distinct = distinct_push objects o under.distinct (λ at. new (subst (Contains (headers objects)) read.header_is at));
     parents = named_push image [] objects o under.parents (subst (λ (h : ℕ). (objects ≡ []) ⊎ HasParent image objects h) (sym read.header_is) ready.parent);
     known = all_append (λ (y : Named). is_header y.role ≡ true → Contains (headers (objects ++ o ∷ [])) y.at) gone.new followed
-        (weaken_all (λ (y : Named). is_header y.role ≡ true → y.at ≡ o.messages.header) (λ (y : Named). is_header y.role ≡ true → Contains (headers (objects ++ o ∷ [])) y.at) gone.new
+        (all_so (λ (y : Named). is_header y.role ≡ true → y.at ≡ o.messages.header) (λ (y : Named). is_header y.role ≡ true → Contains (headers (objects ++ o ∷ [])) y.at) gone.new
         (λ y only is. subst (Contains (headers (objects ++ o ∷ []))) (sym (only is)) at_header) gone.only)
-        (weaken_all (λ (y : Named). is_header y.role ≡ true → Contains (headers objects) y.at) (λ (y : Named). is_header y.role ≡ true → Contains (headers (objects ++ o ∷ [])) y.at) followed still_known under.known);
-    named = all_append (IsNamedBy (gone.new ++ followed)) objects (o ∷ []) (weaken_all (IsNamedBy followed) (IsNamedBy (gone.new ++ followed)) objects still_named under.named)
+        (all_so (λ (y : Named). is_header y.role ≡ true → Contains (headers objects) y.at) (λ (y : Named). is_header y.role ≡ true → Contains (headers (objects ++ o ∷ [])) y.at) followed still_known under.known);
+    named = all_append (IsNamedBy (gone.new ++ followed)) objects (o ∷ []) (all_so (IsNamedBy followed) (IsNamedBy (gone.new ++ followed)) objects still_named under.named)
         ((naming_of field ObjectHeader o.messages.header depth, Contains-append_left gone.new followed (naming_of field ObjectHeader o.messages.header depth) gone.first, refl, refl), tt);
     fields = λ h. more_fields image held now (gone.new ++ followed) depth objects o gone.fields (λ p. omega (arith, read.claimed p)) gone.waiting h (under.fields h);
   }

@@ -1,6 +1,6 @@
 -- A link that is to be taken out of a group of an opened image: what is known of the group and of what goes with it before, and what is opened
 -- after.
-use Rattle.std.proofs.Common.{◌≡◌, inl, inr, ℕ, ◌+◌, ◌≤◌, ◌^◌, Bool, true, List, [], ◌∷◌, length, refl, sym, ap, ◌∙◌, subst, arith, Option, Some}
+use Rattle.std.proofs.Common.{◌≡◌, inl, inr, ℕ, ◌+◌, ◌≤◌, Bool, true, List, [], ◌∷◌, length, refl, sym, ap, ◌∙◌, subst, arith, Option, Some}
 use Rattle.std.specs.Prelude.{slice_get}
 use Rattle.std.specs.BTreeMap.{BTreeMap}
 use Rattle.std.specs.List.{Contains}
@@ -24,7 +24,7 @@ use Rattle.h5_laws.proofs.SoundLaws.Read.{sound_reading}
 use Rattle.h5_open.specs.declared.opened.object.OpenedObject.{OpenedObject}
 use Rattle.h5_open.specs.ChangedInPlace.{IsChangedInPlace, is_among}
 use Rattle.h5_open.specs.LinkAdded.{IsGroupSlot}
-use Rattle.h5_open.specs.LinkTaken.{AreCountsLowered, AreHeadersStanding, IsLinkTaken, IsLinkTo, IsOwnTable, lowered_blocks, touched_below}
+use Rattle.h5_open.specs.LinkTaken.{AreCountsLowered, AreHeadersStanding, IsLinkTaken, IsLinkTo, lowered_blocks, touched_below}
 use Rattle.h5_open.specs.Losses.{AreLosses}
 use Rattle.h5_open.specs.Opened.Kept.{IsContentTidy, IsOpened}
 use Rattle.h5_open.specs.Opened.Objects.{table_of, tree_of}
@@ -32,7 +32,7 @@ use Rattle.h5_open.specs.Opened.State.{FileState, opened_state}
 use Rattle.h5_open.proofs.Among.{among_in, in_among}
 use Rattle.h5_open.proofs.ChangedThen.{changed_wider}
 use Rattle.h5_open.proofs.GroupUnlinked.{told_link}
-use Rattle.h5_open.proofs.LinkCalls.{group_stood, image_short}
+use Rattle.h5_open.proofs.LinkCalls.{group_stood}
 use Rattle.h5_open.proofs.LinkSlots.{group_slot}
 use Rattle.h5_open.proofs.LossesTaken as taking
 use Rattle.h5_open.proofs.LossesTaken.{numbers_less, touched_numbers}
@@ -54,9 +54,6 @@ module _ (image : Space) (slots : List (Option OpenedObject)) (numbers : BTreeMa
   pub parent_slot : (t : SymbolTable) × IsGroupSlot slots parent t
   parent_slot = group_slot image.bytes slots parent (holds_links tree parent name here.link here.stands)
 
-  pub own_headers : IsOwnTable (table_of slots)
-  own_headers = opened.reads.1.holds.own
-
   -- What the call ensures, where this is opened then.
   abbrev pub IsUnlinked : Space → List (Option OpenedObject) → Type 0
   IsUnlinked new slots' = IsChangedInPlace f (opened_state new slots') (tree_left f.tree parent name) f.next (touched_below f.tree parent object) 0
@@ -65,9 +62,6 @@ module _ (image : Space) (slots : List (Option OpenedObject)) (numbers : BTreeMa
     -- the link can be taken out of the group
     pub unlink_group : IsGroupApart image t
     unlink_group = group_stood image slots numbers opened parent slot.0 t slot.1 slot.2
-
-    pub unlink_short : length image.bytes ≤ 2 ^ 31
-    unlink_short = image_short image slots numbers opened parent slot.0 t slot.1 slot.2
 
     pub unlink_there : (target : Target) × Contains (links_told image.bytes t) (name, target)
     unlink_there = let told = told_link image slots numbers opened parent slot.0 t slot.1 slot.2 name here.link here.stands in (told.0, told.1)

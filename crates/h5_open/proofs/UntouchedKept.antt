@@ -8,16 +8,12 @@ use Rattle.h5_model.specs.Format.Reads.{Placed, ReadsAs}
 use Rattle.h5_model.specs.Tree.Objects.{Tree}
 use Rattle.h5_space.proofs.MovesLaws.{part-same}
 use Rattle.h5_laws.proofs.Lists.{In, in_all, all_in, in_flat}
+use Rattle.h5_layout.proofs.StandingWritten.{among_blocks}
 use Rattle.h5_open.specs.ChangedInPlace.{IsChangedInPlace, is_among}
 use Rattle.h5_open.specs.InPlace.{other_objects}
 use Rattle.h5_open.specs.Opened.State.{FileState}
 use Rattle.h5_open.proofs.InPlaceLaws.{cover-split, in_others, others_in}
 use Rattle.h5_open.proofs.SuperblockKept.{end_inside}
-
-cover_block : (p : ℕ) (b : Block) (bs : List Block) → In b bs → holds p b.at b.len ≤ cover p bs
-cover_block p b [] at = absurd at
-cover_block p b (c ∷ bs) (inl e) = let same = ap (λ (d : Block). holds p d.at d.len) e in omega (arith, same)
-cover_block p b (c ∷ bs) (inr at) = omega (arith, cover_block p b bs at)
 
 cover_object : (p : ℕ) (x : Placed) (xs : List Placed) → In x xs → cover p x.blocks ≤ cover p (flat_map (λ (y : Placed). y.blocks) xs)
 cover_object p x [] at = absurd at
@@ -37,7 +33,7 @@ module _ (f g : FileState) (t : Tree) (n : ℕ) (touched : List ℕ) (k : ℕ) (
       let inside = in_all (λ (c : Block). c.at + c.len ≤ length f.image) b (flat_map (λ (y : Placed). y.blocks) placed) reads.holds.within.1 (in_flat (λ (y : Placed). y.blocks) x b placed at there) in
       part-same b.at b.len f.image g.image inside is.grown.0 (λ p low high.
       let here = holds_in p b.at b.len low high in
-      let mine = cover_block p b x.blocks there in
+      let mine = among_blocks p x.blocks b there in
       let other = cover_object p x (other_objects (is_among touched) placed) is_other in
       let once = reads.holds.apart p in
       let split = cover-split (is_among touched) p placed in

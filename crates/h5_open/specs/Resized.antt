@@ -1,7 +1,7 @@
 -- An array of an opened image that was given other sizes (File Format Specification 3.0, sections III.A.1, IV.A.1.a and IV.A.2.b).
 use Rattle.std.specs.Prelude.{◌≡◌, ℕ, ◌+◌, ◌*◌, ◌&&◌, Bool, true, false, nat_lt, if◌then◌else◌, Option, Some, None, List, length}
 use Rattle.h5_bytes.specs.declared.Block.{Block}
-use Rattle.h5_model.specs.Format.Messages.{Message, HasMessages}
+use Rattle.h5_model.specs.Format.Messages.{Message, HasMessages, most_messages}
 use Rattle.h5_model.specs.Format.Described.{Described}
 use Rattle.h5_space.specs.Space.{Space}
 use Rattle.h5_header.specs.Listed.{Listed, messages_in}
@@ -39,4 +39,4 @@ pub record IsObjectResized (old new : Space) (o o' : OpenedObject) (sizes : List
 
 -- a new Dataspace message is needed, and the header's total of messages has no place for it
 abbrev pub has_no_place : List ℕ → Listed → Bool
-has_no_place image m = lacks_maxima (messages_in image m.list) && nat_lt 65535 (length m.list + 2)
+has_no_place image m = lacks_maxima (messages_in image m.list) && nat_lt most_messages (length m.list + 2)

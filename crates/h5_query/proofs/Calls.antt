@@ -12,7 +12,7 @@ use Rattle.h5_model.specs.Tree.Paths.{location_of, object_at}
 use Rattle.h5_model.specs.Edits.Refusal.{first_holding, is_soft}
 use Rattle.h5_model.specs.Scripts.Reading.{path_rules, list_rules, object_rules, dataset_rules, cell_at}
 use Rattle.h5_model.specs.declared.edit_fault.EditFault.{EditFault}
-use Rattle.h5_model.specs.declared.edit_fault.EditFault.TheVariants.{NotAGroup, NotADataset, NotFound, NoSuchAttribute}
+use Rattle.h5_model.specs.declared.edit_fault.EditFault.TheVariants.{NotAGroup, NotFound, NoSuchAttribute}
 use Rattle.h5_header.specs.Listed.{Listed, messages_in}
 use Rattle.h5_open.specs.Attributes.{attributes_of}
 use Rattle.h5_model.specs.Format.Addresses.{SymbolTable}
@@ -31,8 +31,8 @@ use Rattle.h5_query.specs.Place.{PathLeadsTo}
 use Rattle.h5_query.specs.Look.{HasKind, HasLinksNamed, HasCell, HasAttribute, IsArrayKind}
 use Rattle.h5_query.specs.Kept.{IsHeaderThere, IsArrayAt, names_of_group, array_dataset}
 use Rattle.h5_query.proofs.GroupLaws.{keys_are}
-use Rattle.h5_query.proofs.Indexed.{group_read, group_links, group_no_array, array_there, array_no_group}
-use Rattle.h5_query.proofs.RuleLaws.{list_here, no_dataset, dataset_here, first-behind, index_rules}
+use Rattle.h5_query.proofs.Indexed.{group_read, group_links, array_there, array_no_group}
+use Rattle.h5_query.proofs.RuleLaws.{list_here, dataset_here, first-behind, index_rules}
 
 abbrev attribute_rule : Tree → List ℕ → List ℕ → List (EditFault × Bool)
 attribute_rule tree path name =
@@ -109,9 +109,6 @@ module _ (f : FileState) (number : ℕ) (object : OpenedObject) (of : IsObjectOf
             ∙ sym (keys_are f.image f.table g (group_read f number object of g is))
             ∙ rw (leads.1, group_links f number object of g is) refl;
       }
-
-      pub group_not_array : first_holding (dataset_rules T path) ≡ Some NotADataset
-      group_not_array = no_dataset T path number leads.0 leads.1 (group_no_array f number object of g is)
 
     -- ---- an array
 

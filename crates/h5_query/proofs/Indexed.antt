@@ -14,8 +14,6 @@ use Rattle.h5_open.specs.Opened.Kept.{IsContentKept}
 use Rattle.h5_open.specs.Opened.Objects.{links_by, content_in}
 use Rattle.h5_open.specs.Opened.Sound.{IsSound, IsObjectOf}
 use Rattle.h5_open.specs.Opened.State.{FileState}
-use Rattle.h5_open.specs.Told.{array_told}
-use Rattle.h5_open.specs.Written.{IsArrayThere}
 use Rattle.h5_open.proofs.OpenedLaws.Indexed.{none_there}
 use Rattle.h5_query.specs.Kept.{array_dataset, IsArrayKept}
 
@@ -69,15 +67,3 @@ module _ (f : FileState) (k : ℕ) (o : OpenedObject) (of : IsObjectOf f k o) wh
     array_kept =
         let array = subst (IsContentKept f.image (messages_in f.image o.messages.list)) is of.kept.content in
         record { list = array.0; stored = array.1 }
-
-    -- and so they are those of its header
-    pub array_described : IsArrayThere f k (array_told (messages_in f.image o.messages.list))
-    array_described = record {
-      header = o.messages.header;
-      at = of.header;
-      messages = messages_in f.image o.messages.list;
-      blocks = o.messages.blocks;
-      listed = of.kept.header.has;
-      described = (array_kept).list.array;
-      told = array_there;
-    }

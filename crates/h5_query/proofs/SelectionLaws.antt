@@ -1,8 +1,8 @@
 -- Why four lists select no cells of an array, or that they do.
-use Rattle.std.proofs.Common.{◌≡◌, ◌≢◌, ℕ, suc, ◌≤◌, List, [], ◌∷◌, length, refl, sym, ap, ◌∙◌, Bool, true, false, not, Option, Some, None, Result, Ok, Err, arith}
+use Rattle.std.proofs.Common.{◌≡◌, ◌≢◌, ℕ, ◌≤◌, List, [], ◌∷◌, length, refl, sym, ap, ◌∙◌, Bool, true, false, not, Option, Some, None, Result, Ok, Err, arith}
 use Rattle.std.proofs.lemmas.Bool.Decides.{nat_tests}
 use Rattle.std.proofs.lemmas.List.FromFn.{length-range_with_len}
-use Rattle.std.specs.Prelude.{MatchResult, nat_le, ◌==◌, ◌&&◌, if◌then◌else◌, filter}
+use Rattle.std.specs.Prelude.{MatchResult, nat_le, ◌==◌, ◌&&◌, if◌then◌else◌}
 use Rattle.std.specs.List.{list_any, range_with_len}
 use Rattle.std.specs.Option.{option_map_or}
 use Rattle.std.proofs.lemmas.Bool.{not-false}
@@ -17,12 +17,13 @@ use Rattle.h5_model.specs.Views.Shown.{selected_values}
 use Rattle.h5_model.specs.declared.edit_fault.EditFault.{EditFault}
 use Rattle.h5_model.specs.declared.edit_fault.EditFault.TheVariants as fault
 use Rattle.h5_model.specs.declared.hyperslab.Hyper.{Hyper}
+use Rattle.h5_model.proofs.Members.{few_pass}
 use Rattle.h5_shape.specs.Slab.{slab_of, is_of_one_rank}
 use Rattle.h5_shape.specs.declared.slab.SlabFault.{SlabFault}
 use Rattle.h5_shape.specs.declared.slab.SlabFault.TheVariants as slab
 use Rattle.h5_open.specs.Pieces.{CellsLeft}
 use Rattle.h5_query.specs.Kept.{IsArrayAt}
-use Rattle.h5_query.specs.Selected.{HasRuns, IsSelectedAt, IsSlabOf, hyper_rules, fault_of_slab}
+use Rattle.h5_query.specs.Selected.{HasRuns, IsSelectedAt, hyper_rules, fault_of_slab}
 use Rattle.h5_query.proofs.RuleLaws.{first-behind, first-found}
 
 -- the outcome of the rules by themselves
@@ -63,12 +64,6 @@ module _ (sizes : List ℕ) (hyper : Hyper) where
         let same = slab_answered (Ok s) is in
         sym (ap length same.0 ∙ length-axes_of (length sizes) hyper (ranked (is_of_one_rank hyper) refl s is))
 
-few_pass : (test : ℕ → Bool) (xs : List ℕ) → length (filter test xs) ≤ length xs
-few_pass test [] = omega arith
-few_pass test (x ∷ xs) =
-    let rest = few_pass test xs in
-    elim (test x) as (λ b. length (if b then x ∷ filter test xs else filter test xs) ≤ suc (length xs)) [ true ↦ omega (arith, rest) | false ↦ omega (arith, rest) ]
-
 -- no more are selected than there are
 pub selection_few : (sizes : List ℕ) (slab : Slab) → length (selection_of sizes slab) ≤ cells sizes
 unfolding selection_of
@@ -80,7 +75,8 @@ selection_few sizes slab =
 -- ---- the rules of a selection behind those of the path
 
 module _ (tree : Tree) (path : List ℕ) (hyper : Hyper) where
-  abbrev asked_of : Option Dataset → List (EditFault × Bool)
+  -- those of the lists, of what was found there
+  abbrev pub asked_of : Option Dataset → List (EditFault × Bool)
   asked_of found =
       (fault.RankMismatch, option_map_or (λ (d : Dataset). not (has_rank (length d.sizes) hyper)) found false)
       ∷ (fault.StrideZero, list_any has_no_stride (axes_of hyper))
@@ -97,16 +93,6 @@ module _ (tree : Tree) (path : List ℕ) (hyper : Hyper) where
 
     pub slab_refused : (e : EditFault) → first_holding (hyper_rules (at.1).sizes hyper) ≡ Some e → first_holding (selection_rules tree path hyper) ≡ Some e
     slab_refused e h = slab_left ∙ h
-
-    pub selected_there : (slab : Slab) → first_holding (hyper_rules (at.1).sizes hyper) ≡ None → slab ≡ axes_of hyper → IsSlabOf (at.1).sizes slab
-        → IsSelectedAt tree path hyper (at.0, at.1, slab)
-    selected_there slab selects axes inside = record {
-      accepted = slab_left ∙ selects;
-      number = there.number;
-      found = there.found;
-      axes = axes;
-      slab = inside;
-    }
 
   pub has_runs : (at : ℕ × Dataset × Slab) → IsSelectedAt tree path hyper at → (left : CellsLeft)
       → left ≡ record { fixed = (at.1).fixed; fill = (at.1).fill; values = selected_values at.1 at.2 } → HasRuns tree path hyper left

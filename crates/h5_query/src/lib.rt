@@ -32,4 +32,4 @@ pub use links::{kind_at, store_of};
 pub use names::{LinkNames, names_at};
 pub use path::MAX_DEPTH;
 pub use place::{Place, Spot, look, look_up, number_at};
-pub use selection::{runs_at, selected_at, slab_within, standing_cells};
+pub use selection::{SelectedRuns, runs_at, selected_at, slab_within, standing_cells};

@@ -10,9 +10,42 @@ use crate::array::array_at;
 use h5_model::EditFault;
 use h5_open::{Dims, Opened, Runs, StoredArray};
 use h5_shape::{HyperRef, Slab, SlabFault};
+use std::marker::Model;
 
-/// The selected cells of the array at the path, as runs: pieces of consecutive cells, lent as they stand in the
-/// image. Neither the call nor a step of the runs takes memory.
+/// The selected cells of an array, as runs.
+#[derive(Debug, Drop)]
+pub struct SelectedRuns<'a> {
+    array: StoredArray<'a>,
+    slab: Slab<'a>,
+}
+
+impl<'a> Model for SelectedRuns<'a> {
+    ghost use Rattle.h5_model.specs.Views.Shown.{selected_values};
+    ghost use Rattle.h5_open.specs.Pieces.{CellsLeft};
+    ghost use Rattle.h5_query.specs.Selected.{IsSlabOf};
+
+    ghost Value = { CellsLeft };
+
+    ghost view = { λ s. record {
+      fixed = s.array.fixed;
+      fill = s.array.fill;
+      values = selected_values s.array s.slab;
+    } };
+
+    ghost invariant = { λ s. IsSlabOf s.array.sizes s.slab };
+}
+
+impl<'a> SelectedRuns<'a> {
+    /// The runs: pieces of consecutive cells, lent as they stand in the image, in row-major order. Neither the call nor a
+    /// step takes memory.
+    pub fn iter(&self) -> Runs<'a, '_>
+        ensures { result ≡ self.now }
+    {
+        self.array.runs(&self.slab)
+    }
+}
+
+/// The selected cells of the array at the path, as runs. Takes no memory.
 ///
 /// # Errors
 ///
@@ -20,14 +53,14 @@ use h5_shape::{HyperRef, Slab, SlabFault};
 pub fn runs_at<'a>(
     opened: &'a Opened,
     path: &[u8],
-    hyper: &HyperRef<'_>,
-) -> Result<Runs<'a>, EditFault>
+    hyper: &HyperRef<'a>,
+) -> Result<SelectedRuns<'a>, EditFault>
     ensures { let tree = opened.now.tree in
         MatchResult result (HasRuns tree path.now hyper.now) (λ e.
         first_holding (selection_rules tree path.now hyper.now) ≡ Some e) }
 {
     let (_, array, slab) = selected_at(opened, path, hyper)?;
-    Ok(array.runs(&slab))
+    Ok(SelectedRuns { array, slab })
 }
 
 /// The array at the path with its number, and the selection of the four lists, which is within its sizes. Takes no

@@ -1,5 +1,5 @@
 -- Where headers stand that are placed one after another, and that these are the places of the table.
-use Rattle.std.proofs.Common.{◌≡◌, ℕ, zero, suc, ◌+◌, ◌<◌, ◌≤◌, inl, inr, List, [], ◌∷◌, map, refl, sym, ap, ◌∙◌, subst, arith, length, length-set, set, drop, get_or, Option, Some, None, add-one, drop-cons}
+use Rattle.std.proofs.Common.{◌≡◌, ℕ, zero, suc, ◌+◌, ◌<◌, ◌≤◌, inl, inr, List, [], ◌∷◌, map, refl, sym, ap, ◌∙◌, subst, arith, length, length-set, set, drop, get_or, Option, Some, None}
 use Rattle.std.proofs.lemmas.List.Elements.{All-get_or, All-from_recursion}
 use Rattle.std.proofs.lemmas.Option.{slice_get-get_or}
 use Rattle.std.specs.Prelude.{slice_get}
@@ -7,6 +7,7 @@ use Rattle.std.specs.List.{AllByRecursion}
 use Rattle.std.specs.Option.{option_flatten, option_map_or}
 use Rattle.std.specs.Ordering.{nat_cmp}
 use Rattle.std.specs.FinMap.{find}
+use Rattle.std.proofs.lemmas.List.{drop_more}
 use Rattle.h5_model.specs.Tree.Objects.{Object}
 use Rattle.h5_repack.specs.Image.Written.{object_length, headers_from, end_from}
 use Rattle.h5_repack.proofs.ImageLaws.Places.{found_first, found_later}
@@ -95,9 +96,6 @@ module _ (lengths : ℕ → ℕ) where
 pub length_read : (sizes : List Size) (n : ℕ) (d : Size) → n < length sizes → size_length (get_or sizes n d) ≡ length_by_number sizes n
 length_read sizes n d low = sym (ap (λ (r : Option Size). option_map_or size_length r 0) (slice_get-get_or sizes n d low))
 
-drop_next : (ns : List ℕ) (i : ℕ) → i < length ns → drop i ns ≡ get_or ns i 0 ∷ drop (i + 1) ns
-drop_next ns i low = rw (add-one, drop-cons ns i 0)
-
 pub all_at : (P : ℕ → Type 0) (ns : List ℕ) (i : ℕ) → AllByRecursion P ns → i < length ns → P (get_or ns i 0)
 all_at P ns i all low = All-get_or P ns i 0 low (All-from_recursion P ns all)
 
@@ -107,13 +105,13 @@ module _ (sizes : List Size) (ns : List ℕ) (i end length_here : ℕ) (d : Size
   next_end = ap (λ y. end + y) (here ∙ length_read sizes (get_or ns i 0) d within)
 
   pub end_step : end_of (length_by_number sizes) (end + length_here) (drop (i + 1) ns) ≡ end_of (length_by_number sizes) end (drop i ns)
-  end_step = ap (λ y. end_of (length_by_number sizes) y (drop (i + 1) ns)) next_end ∙ sym (ap (end_of (length_by_number sizes) end) (drop_next ns i low))
+  end_step = ap (λ y. end_of (length_by_number sizes) y (drop (i + 1) ns)) next_end ∙ sym (ap (end_of (length_by_number sizes) end) (drop_more ns i 0 low))
 
   pub headers_step : (hs : List (Option ℕ)) → headers_of (length_by_number sizes) (end + length_here) (drop (i + 1) ns) (set hs (get_or ns i 0) (Some end))
       ≡ headers_of (length_by_number sizes) end (drop i ns) hs
   headers_step hs =
       ap (λ y. headers_of (length_by_number sizes) y (drop (i + 1) ns) (set hs (get_or ns i 0) (Some end))) next_end
-      ∙ sym (ap (λ ms. headers_of (length_by_number sizes) end ms hs) (drop_next ns i low))
+      ∙ sym (ap (λ ms. headers_of (length_by_number sizes) end ms hs) (drop_more ns i 0 low))
 
   pub end_over : (most total : ℕ) → most < end + length_here → end_of (length_by_number sizes) end (drop i ns) ≡ total → most < total
   end_over most total over total_is = omega (arith, end_rises (length_by_number sizes) (end + length_here) (drop (i + 1) ns), end_step, over, total_is)

@@ -1,4 +1,3 @@
-pub mod Known
 pub mod Wholes
 pub mod LineLaws
 pub mod RunLaws

@@ -14,12 +14,12 @@ use Rattle.h5_text.specs.Printed.{WritesSome}
 use Rattle.h5_script.specs.declared.ran.Outcome.{Outcome}
 use Rattle.h5_script.specs.declared.ran.Ran.{Ran}
 use Rattle.std.specs.Prelude.{Result, Ok, Err, MatchResult, IsErrAnd}
+use Rattle.std.proofs.KnownBytes.{Appends-nil}
 use Rattle.h5_script.specs.declared.fault.RunFault.{RunFault}
 use Rattle.h5_script.specs.declared.fault.RunFault.TheVariants.{NoMemory}
 use Rattle.h5_text.specs.declared.streams.PrintFault.{PrintFault}
 use Rattle.h5_text.specs.declared.streams.PrintFault.TheVariants.{WriteFailed}
 use Rattle.h5_text.specs.declared.streams.PrintFault.TheVariants as print
-use Rattle.h5_script.proofs.Known.{appends_none}
 use Rattle.h5_script.proofs.Wholes.{whole_behind}
 
 abbrev line_with : Command → Given → SessionState → Line
@@ -84,7 +84,7 @@ line_untold s t command known untold = has_begun_one (command ∷ []) s t known 
     told = [];
     untold = (answer_at s command untold.given).text;
     whole = refl;
-    written = appends_none known;
+    written = Appends-nil known;
   };
 })
 

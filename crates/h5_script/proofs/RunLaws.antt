@@ -4,6 +4,7 @@ use Rattle.std.specs.List.{count_by}
 use Rattle.std.specs.Io.KnownBytes.{Appends}
 use Rattle.std.proofs.lemmas.List.{map-append}
 use Rattle.std.proofs.lemmas.List.Sums.{sum_by-append}
+use Rattle.std.proofs.KnownBytes.{Appends-nil, Keeps-refl, Appends-trans}
 use Rattle.h5_dump.specs.Session.{SessionState, session_of}
 use Rattle.h5_model.specs.Scripts.Lines.{Command}
 use Rattle.h5_model.specs.Scripts.Sessions.{Session}
@@ -12,7 +13,6 @@ use Rattle.h5_model.proofs.ScriptLaws.{outcomes_of-append, session_after-append,
 use Rattle.h5_script.specs.Answered.{Line}
 use Rattle.h5_script.specs.Runs.{commands_in, asked_in, AreRun, HasRun, HasCounted, HasBegun, IsPartlyTold}
 use Rattle.h5_script.specs.declared.ran.Ran.{Ran}
-use Rattle.h5_script.proofs.Known.{appends_none, appends_more, keeps_all}
 use Rattle.h5_script.proofs.Wholes.{whole_after}
 
 are_run-append : (s m t : SessionState) (first others : List Line) → AreRun s first m → AreRun m others t → AreRun s (first ++ others) t
@@ -33,7 +33,7 @@ Known = Option (List ℕ)
 
 pub has_run_none : (s : SessionState) (known : Known) → HasRun [] s s known known
 unfolding AreRun session_after transcript_of
-has_run_none s known = record { lines = []; asked_are = refl; each = refl; session_is = refl; whole = whole_after s s [] refl; written = appends_none known }
+has_run_none s known = record { lines = []; asked_are = refl; each = refl; session_is = refl; whole = whole_after s s [] refl; written = Appends-nil known }
 
 -- lines behind lines, the first of which led to this session
 module _ (s m : SessionState) (first others : List Line) (is : session_of m ≡ session_after (session_of s) (asked_in first)) where
@@ -75,7 +75,7 @@ has_run_more asked more s m t old mid new one two =
       session_is = two.session_is ∙ session_more s m one.lines two.lines one.session_is;
       whole = whole_after s t (one.lines ++ two.lines) each;
       written = subst (λ (text : List ℕ). Appends old new text) (text_more s m one.lines two.lines one.session_is)
-          (appends_more old mid new _ _ one.written two.written);
+          (Appends-trans old mid new _ _ one.written two.written);
     }
 
 pub has_counted_none : (s : SessionState) (known : Known) (counts : Ran) → HasCounted [] s s known known counts counts
@@ -100,7 +100,7 @@ has_begun_none asked s known = record {
   between = s;
   written = known;
   run = has_run_none s known;
-  last = inl (refl, keeps_all known);
+  last = inl (refl, Keeps-refl known);
 }
 
 -- all commands were run
@@ -112,7 +112,7 @@ has_begun_all asked more s t old new all = record {
   between = t;
   written = new;
   run = all;
-  last = inl (refl, keeps_all new);
+  last = inl (refl, Keeps-refl new);
 }
 
 -- the first of the commands was run and told in part, whatever others follow

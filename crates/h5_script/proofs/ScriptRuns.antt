@@ -1,9 +1,11 @@
 -- A script that is read piece by piece, and how its run ends.
-use Rattle.std.proofs.Common.{◌≡◌, ℕ, ◌+◌, ◌-◌, ◌<◌, ◌≤◌, Bool, true, false, cond, Option, List, [], ◌∷◌, ◌++◌, length, take, drop, take-append-drop, refl, sym, ap, ◌∙◌, subst, append_assoc, append-nil, length-append, length-take, min, inl, inr, arith}
+use Rattle.std.proofs.Common.{◌≡◌, ℕ, ◌+◌, ◌-◌, ◌<◌, ◌≤◌, Bool, true, false, cond, Option, List, [], ◌++◌, length, take, drop, take-append-drop, refl, sym, ap, ◌∙◌, subst, append_assoc, append-nil, length-append, length-take, min, inl, inr, arith}
 use Rattle.std.specs.Prelude.{nat_lt, Result, Ok, Err, MatchResult, IsErrAnd}
 use Rattle.std.specs.Io.KnownBytes.{Consumes, Keeps, IsAtEnd}
 use Rattle.std.proofs.lemmas.Bool.Decides.{nat_tests}
 use Rattle.std.proofs.lemmas.List.{take-take}
+use Rattle.std.proofs.KnownBytes.{Appends-kept, Consumes-nil, Consumes-trans, Consumes-kept}
+use Rattle.std.proofs.Math.Seq.{take-append_seam}
 use Rattle.h5_dump.specs.Session.{SessionState}
 use Rattle.h5_model.specs.Scripts.Lines.{Command, commands_of, finished_lines, within_limit}
 use Rattle.h5_script.specs.Pieces.{AreWholeLines, HasRunLines, HasBegunLines, IsUnderway, commands_of_line}
@@ -13,7 +15,6 @@ use Rattle.h5_script.specs.Streams.{IsRead}
 use Rattle.h5_script.specs.declared.fault.RunFault.{RunFault}
 use Rattle.h5_script.specs.declared.fault.RunFault.TheVariants.{ScriptRead, ScriptWrite, ScriptTooLong, NoMemory}
 use Rattle.h5_script.specs.declared.ran.Ran.{Ran}
-use Rattle.h5_script.proofs.Known.{appends_kept, consumes_none, consumes_more, consumes_kept}
 use Rattle.h5_script.proofs.LineLaws.{commands_of-line, commands_of-whole, whole_append, finished-whole, finished_is}
 use Rattle.h5_script.proofs.PieceLaws.{lines_none}
 use Rattle.h5_script.proofs.RunLaws.{has_begun_none, has_begun_all, has_begun_of, has_begun_more, has_counted_more}
@@ -42,12 +43,8 @@ within_short script short =
     let test : nat_lt limit (length script) ≡ false = grind (arith, nat_tests) in
     ap (λ b. cond b (finished_lines (take limit script)) script) test
 
-take_length_append : (a b : List ℕ) → take (length a) (a ++ b) ≡ a
-take_length_append [] b = refl
-take_length_append (x ∷ a) b = ap (λ xs. x ∷ xs) (take_length_append a b)
-
 take_front : (a b : List ℕ) (n : ℕ) → n ≡ length a → take n (a ++ b) ≡ a
-take_front a b n is = ap (λ k. take k (a ++ b)) is ∙ take_length_append a b
+take_front a b n is = ap (λ k. take k (a ++ b)) is ∙ take-append_seam a b
 
 -- of a script that is too long the lines that its first bytes finish
 within_long : (script front more : List ℕ) → script ≡ front ++ more → length front ≡ limit → limit < length script → within_limit script ≡ finished_lines front
@@ -67,7 +64,7 @@ module _ (s : SessionState) (input old : Known) where
   pub under_start : IsUnderway s s input input old old [] limit none_ran
   under_start = record {
     script = [];
-    read = consumes_none input;
+    read = Consumes-nil input;
     limit = refl;
     run = lines_none s old none_ran [] (λ k d low. absurd (never k low));
   } where
@@ -83,7 +80,7 @@ module _ (s : SessionState) (input old : Known) where
   pub stopped_at_first : (f : RunFault) → IsRunCut f → IsStopped s s input input old old f
   stopped_at_first f is = cut_off s s input input old old f is (record {
     script = [];
-    read = consumes_none input;
+    read = Consumes-nil input;
     run = inl (has_begun_none (commands_of (finished_lines (within_limit []))) s old);
   })
 
@@ -99,7 +96,7 @@ module _ (s : SessionState) (input old : Known) where
     pub stopped_unread : (left : Known) → Keeps mid left → IsUnread s m input left old now
     stopped_unread left kept = record {
       script = under.script;
-      read = consumes_kept input mid left under.script under.read kept;
+      read = Consumes-kept input mid left under.script under.read kept;
       short = low;
       run = subst (λ (bytes : List ℕ). HasRun (commands_of bytes) s m old now)
           (sym (ap finished_lines (sym under.run.parts) ∙ finished_is under.run.done held under.run.whole under.run.endless)) whole_run.run;
@@ -114,7 +111,7 @@ module _ (s : SessionState) (input old : Known) where
     -- nothing was read: the script is at its end
     read_none : (left : Known) (bytes : List ℕ) → bytes ≡ [] → Consumes mid left bytes → Consumes input left under.script
     read_none left bytes none read =
-        subst (λ (xs : List ℕ). Consumes input left xs) (ap (λ xs. under.script ++ xs) none ∙ append-nil under.script) (consumes_more input mid left under.script bytes under.read read)
+        subst (λ (xs : List ℕ). Consumes input left xs) (ap (λ xs. under.script ++ xs) none ∙ append-nil under.script) (Consumes-trans input mid left under.script bytes under.read read)
 
     -- the last line was run
     pub done_all : (left : Known) (bytes : List ℕ) (t : SessionState) (new last : Known) (b : Ran) → bytes ≡ [] → Consumes mid left bytes → IsAtEnd left
@@ -134,7 +131,7 @@ module _ (s : SessionState) (input old : Known) where
               each = all.run.each;
               session_is = all.run.session_is;
               whole = all.run.whole;
-              written = appends_kept old new last _ all.run.written kept;
+              written = Appends-kept old new last _ all.run.written kept;
             };
             refused = all.refused;
             edits = all.edits;
@@ -165,7 +162,7 @@ module _ (s : SessionState) (input old : Known) where
           each = ran.run.each;
           session_is = ran.run.session_is;
           whole = ran.run.whole;
-          written = appends_kept now new last _ ran.run.written kept;
+          written = Appends-kept now new last _ ran.run.written kept;
         })))
 
     -- ---- a piece
@@ -178,7 +175,7 @@ module _ (s : SessionState) (input old : Known) where
       long_grown = omega (arith, length-append under.script (take count piece), length-take count piece, read.within)
 
       read_more : Consumes input left grown
-      read_more = consumes_more input mid left under.script (take count piece) under.read read.read
+      read_more = Consumes-trans input mid left under.script (take count piece) under.read read.read
 
       -- the lines of a part of the piece, behind those before it
       module _ (part : List ℕ) (t : SessionState) (new : Known) where

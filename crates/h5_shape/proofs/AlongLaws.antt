@@ -8,7 +8,7 @@ use Rattle.std.proofs.Math.Nat.{mul-le-mul_left, mul-le-mul_right}
 use Rattle.std.specs.List.{flat_map}
 use Rattle.h5_model.specs.declared.Axis.{Axis}
 use Rattle.h5_model.specs.Views.Selection.{has_no_cell, overlaps, fits_along}
-use Rattle.h5_shape.specs.Loops.{spaced_places}
+use Rattle.h5_shape.specs.SpacedPlaces.{spaced_places}
 use Rattle.h5_shape.specs.Parts.{numbers_along}
 use Rattle.h5_shape.specs.PartsLeft.{IsBoxed}
 
@@ -31,7 +31,7 @@ length-rows b e st (suc n) p =
 abbrev pub offset_at : ℕ → ℕ → ℕ → ℕ
 offset_at block stride t = t / block * stride + t % block
 
-quotient-low : (b t : ℕ) → t < b → (t / b ≡ 0) × (t % b ≡ t)
+pub quotient-low : (b t : ℕ) → t < b → (t / b ≡ 0) × (t % b ≡ t)
 quotient-low b t low =
     let none : 0 * b + t ≡ t = omega arith in
     (rw none at (div-mul-add 0 b t low), rw none at (mod-mul-add 0 b t low))

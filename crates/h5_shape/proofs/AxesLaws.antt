@@ -1,11 +1,11 @@
 -- The four lists of a hyperslab, and its axes.
-use Rattle.std.proofs.Common.{◌≡◌, ℕ, zero, suc, ◌+◌, ◌-◌, ◌<◌, List, [], ◌∷◌, length, take, drop, get_or, true, refl, sym, ap, ◌∙◌, arith}
-use Rattle.std.proofs.Math.Seq.{take-length}
+use Rattle.std.proofs.Common.{◌≡◌, ℕ, zero, suc, ◌-◌, ◌<◌, List, [], ◌∷◌, length, take, drop, get_or, true, refl, sym, ap, ◌∙◌, arith}
 use Rattle.std.proofs.lemmas.Bool.Decides.{nat_tests}
 use Rattle.h5_model.specs.declared.Axis.{Axis}
 use Rattle.h5_model.specs.declared.Hyper.{Hyper}
 use Rattle.h5_model.specs.Views.Selection.{Slab, axes_from, axes_of, has_rank}
 use Rattle.h5_model.proofs.RefusalLaws.{length-axes_of}
+use Rattle.h5_shape.proofs.AxisLaws.{tail_is}
 
 -- how long the lists of some axes are
 pub record AreLong (h : Hyper) (n : ℕ) : Type 0 where
@@ -46,6 +46,7 @@ rest_is (x ∷ s) (y ∷ t) [] b hs ht hn hb = absurd (omega arith)
 rest_is (x ∷ s) (y ∷ t) (z ∷ n) [] hs ht hn hb = absurd (omega arith)
 rest_is (x ∷ s) (y ∷ t) (z ∷ n) (w ∷ b) hs ht hn hb = refl
 
-pub tail_of : (xs : List ℕ) → take (length xs - 1) (drop 1 xs) ≡ drop 1 xs
+-- all but the first of a list
+pub tail_of : {X : Type 0} (xs : List X) → take (length xs - 1) (drop 1 xs) ≡ drop 1 xs
 tail_of [] = refl
-tail_of (x ∷ xs) = let less : length (x ∷ xs) - 1 ≡ length xs = omega arith in rw less (take-length xs)
+tail_of (x ∷ xs) = tail_is x xs

@@ -1,8 +1,9 @@
 -- A write and a view that lie beside each other meet no box.
-use Rattle.std.proofs.Common.{◌≡◌, ℕ, ◌-◌, ◌*◌, ◌/◌, ◌%◌, ◌<◌, ◌≤◌, inl, inr, List, [], ◌∷◌, length, sym, ap, ◌∙◌, arith, true}
+use Rattle.std.proofs.Common.{◌≡◌, ℕ, ◌+◌, ◌-◌, ◌*◌, ◌/◌, ◌%◌, ◌<◌, ◌≤◌, ◌⊎◌, inl, inr, List, [], ◌∷◌, length, get_or, drop, sym, ap, ◌∙◌, arith, true}
 use Rattle.std.proofs.Math.Nat.{div-mul-le_self, mul-div_left, mul-le-mul_right}
 use Rattle.std.proofs.lemmas.Nat.{div-add-mod', le-div}
 use Rattle.std.proofs.lemmas.Bool.{and_parts}
+use Rattle.std.proofs.lemmas.List.{drop_more}
 use Rattle.h5_model.specs.declared.hyperslab.Axis.{Axis}
 use Rattle.h5_model.specs.Tree.Grid.{corner_of}
 use Rattle.h5_model.specs.Tree.Places.{cells, is_inside}
@@ -51,6 +52,12 @@ never_beside (b ∷ bs) (a ∷ rest) (c ∷ cs) (x ∷ xs) (y ∷ ys) (inr below
     let others : corner_of bs xs ≡ corner_of bs ys = cc in
     never_beside bs rest cs xs ys below sizes.1 (and_parts (is_selected_along a x) (is_selected rest xs) left).1 (and_parts (is_selected_along c y) (is_selected cs ys) right).1
     (omega (arith, long)) (omega (arith, short)) others
+
+-- in the dimensions from one on: in that one, or behind it
+pub beside_from : (box : List ℕ) (one other : Slab) (k : ℕ) (d : Axis) → k < length box → k < length one → k < length other
+    → ShareNoBox (get_or box k 0) (get_or one k d) (get_or other k d) ⊎ LieBeside (drop (k + 1) box) (drop (k + 1) one) (drop (k + 1) other)
+    → LieBeside (drop k box) (drop k one) (drop k other)
+beside_from box one other k d h i j beside = rw (drop_more box k 0 h, drop_more one k d i, drop_more other k d j) beside
 
 pub beside_met : (sizes box : List ℕ) (written view : Slab) → length box ≡ length sizes → 0 < cells box → LieBeside box written view
     → met_firsts sizes box (is_written_at sizes written) view ≡ []

@@ -6,9 +6,9 @@ use Rattle.std.specs.List.{flat_map, list_any}
 use Rattle.std.proofs.lemmas.Bool.{not-true, and_parts, or_parts}
 use Rattle.h5_model.specs.Tree.Places.{cells}
 use Rattle.h5_model.specs.declared.Axis.{Axis}
-use Rattle.h5_model.specs.Views.Selection.{Slab, axes_from, fits_along, fits_all, has_no_cell, has_no_stride, is_run, overlaps, selects_none}
+use Rattle.h5_model.specs.Views.Selection.{Slab, fits_along, fits_all, has_no_cell, has_no_stride, is_run, overlaps, selects_none}
 use Rattle.h5_shape.specs.declared.single_run.InnerRun.{InnerRun}
-use Rattle.h5_shape.specs.Loops.{spaced_places, selected_from}
+use Rattle.h5_shape.specs.SpacedPlaces.{spaced_places, selected_from}
 use Rattle.h5_shape.specs.InnerRuns.{HasNoInnerRun, IsInnerRun, IsSelecting, follow_on, selects_along}
 use Rattle.h5_shape.proofs.JoinLaws.{IsFree, free_axis, follow_cases, numbers_from, joined, run_front, unjoined}
 

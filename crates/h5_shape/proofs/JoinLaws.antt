@@ -8,9 +8,9 @@ use Rattle.std.specs.Prelude.{◌==◌}
 use Rattle.std.specs.List.{flat_map}
 use Rattle.h5_model.specs.declared.Axis.{Axis}
 use Rattle.h5_model.specs.Views.Selection.{rises_by_one, is_run}
-use Rattle.h5_shape.specs.Loops.{spaced_places}
+use Rattle.h5_shape.specs.SpacedPlaces.{spaced_places}
 use Rattle.h5_shape.specs.InnerRuns.{follow_on, selects_along}
-use Rattle.h5_shape.proofs.LoopLaws.{same_flat, spaced_rows, spaced_join}
+use Rattle.h5_shape.proofs.SpacedLaws.{same_flat, spaced_rows, spaced_join}
 
 -- ---- lists that are no run
 

@@ -1,5 +1,5 @@
 pub mod Products
-pub mod LoopLaws
+pub mod SpacedLaws
 pub mod SelectedPlaces
 pub mod AxesLaws
 pub mod AxisLaws
@@ -16,6 +16,7 @@ pub mod SlabParts
 pub mod GroupLaws
 pub mod PartedLaws
 pub mod PositionLaws
+pub mod RowLaws
 pub mod CornerLaws
 pub mod PartExamples
 pub mod AxisNumbers

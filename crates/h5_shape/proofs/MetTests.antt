@@ -95,12 +95,14 @@ first_parts b c bs cs some (x ∷ xs, long, is) =
     let none : x / b * b + 0 ≡ c = omega (arith, head) in
     (ap (λ n. n / b * b) (sym none) ∙ ap (λ n. n * b) (div-mul-add (x / b) b 0 some) ∙ head, (xs, omega (arith, long), rest))
 
+-- a corner has a number for each size
+pub length-corner : (box index : List ℕ) → length index ≡ length box → length (corner_of box index) ≡ length box
+length-corner [] index long = refl
+length-corner (b ∷ bs) [] long = absurd (omega (arith, long))
+length-corner (b ∷ bs) (x ∷ xs) long = ap suc (length-corner bs xs (omega (arith, long)))
+
 first_long : (box first : List ℕ) → IsFirst box first → length first ≡ length box
-first_long box first (index, long, is) = ap length (sym is) ∙ corner_long box index long where
-  corner_long : (box index : List ℕ) → length index ≡ length box → length (corner_of box index) ≡ length box
-  corner_long [] index long = refl
-  corner_long (b ∷ bs) [] long = absurd (omega (arith, long))
-  corner_long (b ∷ bs) (x ∷ xs) long = ap suc (corner_long bs xs (omega (arith, long)))
+first_long box first (index, long, is) = ap length (sym is) ∙ length-corner box index long
 
 pub meets_held : (slab : Slab) (box first : List ℕ) → length box ≡ length slab → 0 < cells box → IsFirst box first → meets_box slab box first ≡ true → IsHeldIn box first (is_selected slab)
 meets_held [] [] first rank some is meets = record { index = []; long = refl; corner = is.2 ∙ refl; passes = refl }

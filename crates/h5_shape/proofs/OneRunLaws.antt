@@ -2,9 +2,7 @@
 use Rattle.std.proofs.Common.{◌≡◌, ℕ, ◌≤◌, List, [], ◌∷◌, length, refl, sym, ap, ◌∙◌, arith, Bool, true, false, not, cond, Ok, Err}
 use Rattle.std.proofs.lemmas.Bool.Decides.{nat_tests}
 use Rattle.std.proofs.lemmas.List.{append-nil}
-use Rattle.std.specs.Prelude.{nat_le}
 use Rattle.std.specs.List.{list_any}
-use Rattle.std.proofs.lemmas.Bool.{and_parts}
 use Rattle.h5_model.specs.declared.Hyper.{Hyper}
 use Rattle.h5_model.specs.Views.Selection.{Slab, axes_of, has_rank, has_no_stride, is_run, overlaps, selection_of, selects_none}
 use Rattle.h5_model.proofs.RefusalLaws.{length-axes_of}
@@ -12,7 +10,7 @@ use Rattle.h5_model.proofs.WithinLaws.{from_is_within}
 use Rattle.h5_shape.specs.declared.runs.CellRun.{CellRun}
 use Rattle.h5_shape.specs.declared.single_run.InnerRun.{InnerRun}
 use Rattle.h5_shape.specs.declared.slab.SlabFault.TheVariants as fault
-use Rattle.h5_shape.specs.Loops.{spaced_places, first_place}
+use Rattle.h5_shape.specs.SpacedPlaces.{spaced_places, first_place}
 use Rattle.h5_shape.specs.Runs.{cell_runs}
 use Rattle.h5_shape.specs.Slab.{is_of_one_rank}
 use Rattle.h5_shape.specs.InnerRuns.{HasNoInnerRun, IsInnerRun, IsSelecting}
@@ -49,13 +47,6 @@ module _ (sizes : List ℕ) (hyper : Hyper) where
   module _ (run : CellRun) (one : IsOneRun sizes hyper run) where
     lists : (is_of_one_rank hyper ≡ true) × (list_any has_no_stride (axes_of hyper) ≡ false) × (list_any overlaps (axes_of hyper) ≡ false)
     lists = passed (is_of_one_rank hyper) (list_any has_no_stride (axes_of hyper)) (list_any overlaps (axes_of hyper)) (axes_of hyper) one.selection
-
-    -- each of the lists has a number for each size
-    pub one-run_rank : has_rank (length sizes) hyper ≡ true
-    one-run_rank =
-        let own : has_rank (length hyper.start) hyper ≡ true = (and_parts (has_rank (length hyper.start) hyper) (nat_le (length hyper.start) 32) lists.0).0 in
-        let long : length hyper.start ≡ length sizes = sym (length-axes_of (length hyper.start) hyper own) ∙ one.rank in
-        ap (λ (n : ℕ). has_rank n hyper) (sym long) ∙ own
 
     selects : selects_none (axes_of hyper) ≡ false
     selects = elim (selects_none (axes_of hyper)) as (λ b. selects_none (axes_of hyper) ≡ b → b ≡ false) [

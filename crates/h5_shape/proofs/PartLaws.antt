@@ -1,6 +1,6 @@
 -- The next part of a selection.
-use Rattle.std.proofs.Common.{◌≡◌, ℕ, zero, suc, ◌+◌, ◌*◌, ◌<◌, ◌≤◌, List, [], ◌∷◌, ◌++◌, length, get_or, take, drop, set, map, refl, sym, ap, ◌∙◌, arith, false}
-use Rattle.std.proofs.lemmas.List.{drop_more, length-drop, get_or-take, drop-set, take-take, drop_all}
+use Rattle.std.proofs.Common.{◌≡◌, ℕ, suc, ◌+◌, ◌*◌, ◌<◌, ◌≤◌, List, [], ◌∷◌, ◌++◌, length, get_or, take, drop, set, map, refl, sym, ap, ◌∙◌, arith, false}
+use Rattle.std.proofs.lemmas.List.{drop_more, length-drop, get_or-take, drop-set, take-take, drop_all, take-set}
 use Rattle.std.specs.List.{flat_map}
 use Rattle.h5_model.specs.declared.Axis.{Axis}
 use Rattle.h5_model.specs.Views.Selection.{Slab}
@@ -97,11 +97,6 @@ pub kept_before : (ss ts : List Span) (k : ℕ) → take (k + 1) ts ≡ take (k 
 kept_before ss ts k kept =
     let low : k ≤ k + 1 = omega arith in
     sym (take-take k (k + 1) ts low) ∙ ap (take k) kept ∙ take-take k (k + 1) ss low
-
-take-set : (ts : List Span) (k : ℕ) (v : Span) → take k (set ts k v) ≡ take k ts
-take-set [] k v = refl
-take-set (t ∷ ts) zero v = refl
-take-set (t ∷ ts) (suc k) v = ap (λ (l : List Span). t ∷ l) (take-set ts k v)
 
 pub kept_set : (ss ts : List Span) (k : ℕ) (v : Span) → take (k + 1) ts ≡ take (k + 1) ss → take k (set ts k v) ≡ take k ss
 kept_set ss ts k v kept = take-set ts k v ∙ kept_before ss ts k kept

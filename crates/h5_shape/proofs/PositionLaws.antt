@@ -9,7 +9,7 @@ use Rattle.h5_model.specs.declared.Axis.{Axis}
 use Rattle.h5_model.specs.Tree.Places.{cells, place_of, IsInside}
 use Rattle.h5_model.specs.Views.Selection.{Slab, Selected, Within, selection_of, overlaps, selects_none}
 use Rattle.h5_model.proofs.PlaceLaws.{positive, place_below}
-use Rattle.h5_shape.specs.Loops.{spaced_places, selected_from, first_place}
+use Rattle.h5_shape.specs.SpacedPlaces.{spaced_places, selected_from, first_place}
 use Rattle.h5_shape.specs.PartCells.{selection_shape, selected_index}
 use Rattle.h5_shape.proofs.AlongLaws.{get_or-rows, length-rows, offset_rises}
 use Rattle.h5_shape.proofs.SelectedPlaces.{selection-from}
@@ -60,7 +60,7 @@ length-pieces : (f : ℕ → List ℕ) (m : ℕ) → ((x : ℕ) → length (f x)
 length-pieces f m long [] = omega arith
 length-pieces f m long (x ∷ xs) = length-append (f x) (flat_map f xs) ∙ omega (arith, long x, length-pieces f m long xs)
 
-length-selected_from : (sizes : List ℕ) (slab : Slab) → length sizes ≡ length slab → (p : ℕ) → length (selected_from sizes slab p) ≡ cells (selection_shape slab)
+pub length-selected_from : (sizes : List ℕ) (slab : Slab) → length sizes ≡ length slab → (p : ℕ) → length (selected_from sizes slab p) ≡ cells (selection_shape slab)
 length-selected_from [] [] rank p = refl
 length-selected_from [] (a ∷ rest) rank p = absurd (omega arith)
 length-selected_from (d ∷ ds) [] rank p = absurd (omega arith)
@@ -70,7 +70,7 @@ length-selected_from (d ∷ ds) (a ∷ rest) rank p =
     length-pieces (selected_from ds rest) (cells (selection_shape rest)) (length-selected_from ds rest (omega arith)) starts
     ∙ ap (λ (n : ℕ). n * cells (selection_shape rest)) (length-rows a.block c (a.stride * c) a.count p)
 
-get_or-selected_from : (sizes : List ℕ) (slab : Slab) (at : List ℕ) (q : ℕ) → length sizes ≡ length slab → IsInside (selection_shape slab) at
+pub get_or-selected_from : (sizes : List ℕ) (slab : Slab) (at : List ℕ) (q : ℕ) → length sizes ≡ length slab → IsInside (selection_shape slab) at
     → get_or (selected_from sizes slab (q + first_place sizes slab)) (place_of (selection_shape slab) at) 0 ≡ q + place_of sizes (selected_index slab at)
 get_or-selected_from [] [] [] q rank h = refl
 get_or-selected_from [] [] (t ∷ ts) q rank h = absurd h

@@ -6,7 +6,7 @@ use Rattle.std.specs.Option.{is_some}
 use Rattle.std.specs.Iterator.{YieldsFirst}
 use Rattle.h5_model.specs.Views.Selection.{rises_by_one, is_run}
 use Rattle.h5_shape.specs.declared.runs.CellRun.{CellRun}
-use Rattle.h5_shape.specs.Loops.{spaced_places}
+use Rattle.h5_shape.specs.SpacedPlaces.{spaced_places}
 use Rattle.h5_shape.specs.Runs.{runs_with, cell_runs, places_in, AreMaximal}
 
 -- the first run begins with the place that was put

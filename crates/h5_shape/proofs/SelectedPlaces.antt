@@ -13,8 +13,8 @@ use Rattle.h5_model.specs.Tree.Places.{cells, index_of}
 use Rattle.h5_model.specs.declared.Axis.{Axis}
 use Rattle.h5_model.specs.Views.Selection.{Slab, in_block, is_selected_along, is_selected, selection_of, fits_along, fits_all, overlaps}
 use Rattle.h5_model.proofs.SelectionLaws.{from_some_below, range-append, to_some_below}
-use Rattle.h5_shape.specs.Loops.{spaced_places, selected_from, first_place}
-use Rattle.h5_shape.proofs.LoopLaws.{same_flat}
+use Rattle.h5_shape.specs.SpacedPlaces.{spaced_places, selected_from, first_place}
+use Rattle.h5_shape.proofs.SpacedLaws.{same_flat}
 
 -- ---- ranges
 

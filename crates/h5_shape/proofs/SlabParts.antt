@@ -7,7 +7,7 @@ use Rattle.std.proofs.lemmas.Bool.{and_parts, or_parts}
 use Rattle.h5_model.specs.declared.Axis.{Axis}
 use Rattle.h5_model.specs.Views.Selection.{Slab, Within, fits_along, fits_all, has_no_cell, overlaps, selects_none}
 use Rattle.h5_shape.specs.declared.parts.Span.{Span}
-use Rattle.h5_shape.specs.Loops.{spaced_places}
+use Rattle.h5_shape.specs.SpacedPlaces.{spaced_places}
 use Rattle.h5_shape.specs.Parts.{numbers_along, spans_from, spans_along, parts_of}
 use Rattle.h5_shape.specs.PartsLeft.{AreBoxed}
 use Rattle.h5_shape.proofs.SlabRuns.{within_fits}

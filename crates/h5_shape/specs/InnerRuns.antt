@@ -5,7 +5,7 @@ use Rattle.h5_model.specs.Tree.Places.{cells}
 use Rattle.h5_model.specs.declared.Axis.{Axis}
 use Rattle.h5_model.specs.Views.Selection.{Slab, fits_along, fits_all, has_no_cell, has_no_stride, is_run, overlaps, selects_none}
 use Rattle.h5_shape.specs.declared.single_run.InnerRun.{InnerRun}
-use Rattle.h5_shape.specs.Loops.{first_place, selected_from, spaced_places}
+use Rattle.h5_shape.specs.SpacedPlaces.{first_place, selected_from, spaced_places}
 
 -- an axis has a stride, selects a number, none twice, and all of them below the size
 abbrev pub selects_along : ℕ → Axis → Bool

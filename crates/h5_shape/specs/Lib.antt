@@ -1,9 +1,9 @@
 pub mod Slab
-pub mod Loops
+pub mod SpacedPlaces
 pub mod Runs
 pub mod InnerRuns
 pub mod OneRun
-pub mod Left
+pub mod Rows
 pub mod Parts
 pub mod PartsLeft
 pub mod PartCells

@@ -5,7 +5,7 @@ use Rattle.std.specs.List.{flat_map}
 use Rattle.h5_model.specs.declared.hyperslab.Axis.{Axis}
 use Rattle.h5_model.specs.Views.Selection.{Slab}
 use Rattle.h5_shape.specs.declared.parts.Span.{Span}
-use Rattle.h5_shape.specs.Loops.{spaced_places}
+use Rattle.h5_shape.specs.SpacedPlaces.{spaced_places}
 
 -- the numbers that an axis selects, block after block
 abbrev pub numbers_along : Axis → List ℕ

@@ -4,10 +4,10 @@
 mod axes;
 mod dims;
 mod hyper;
-mod loops;
 mod met;
 mod owned;
 mod parts;
+mod rows;
 mod runs;
 mod single_run;
 mod slab;

@@ -1,5 +1,5 @@
 //! The boxes of a grid that an edit and a view both meet (File Format Specification 3.0, section III.A.1, chunked raw data).
-ghost use Rattle.std.specs.Prelude.{◌≡◌, ℕ, ◌^◌, ◌-◌, ◌%◌, ◌<◌, ◌≤◌, ◌==◌, IsTrue, List, MatchOption, [], false, length, min, replicate};
+ghost use Rattle.std.specs.Prelude.{◌≡◌, ℕ, ◌^◌, ◌-◌, ◌%◌, ◌<◌, ◌≤◌, ◌==◌, IsTrue, List, MatchOption, [], drop, false, length, min, replicate};
 ghost use Rattle.std.specs.Iterator.{YieldsFirst, item_count};
 ghost use Rattle.std.specs.List.{AllByRecursion, list_any};
 ghost use Rattle.h5_model.specs.Views.Selection.{Within, overlaps};
@@ -55,7 +55,7 @@ pub fn lie_apart(grid: &Dims, written: &Slab<'_>, view: &Slab<'_>) -> bool
         → met_firsts sizes grid.now (is_written_at sizes written.now) view.now ≡ [] }
 {
     let grid = grid.sizes();
-    has_zero(grid) || lie_beside(grid, written.axes(), view.axes())
+    has_zero(grid) || lie_beside(grid, written.axes(), view.axes(), 0)
 }
 
 /// The boxes of the grid of chunks that hold a cell of a write and a cell of a view, for any array that the write is
@@ -168,21 +168,15 @@ fn is_reduced(sizes: &[u64], kept: &[u64]) -> bool
     bound < size || is_reduced(sizes, kept)
 }
 
-/// Whether in some dimension one selection ends before the box in which the other one begins.
-fn lie_beside(grid: &[u64], one: &Axes<'_>, other: &Axes<'_>) -> bool
+/// Whether in some dimension from k on one selection ends before the box in which the other one begins.
+fn lie_beside(grid: &[u64], one: &Axes<'_>, other: &Axes<'_>, k: usize) -> bool
     requires { list_any (λ d. d == 0) grid.now ≡ false }
-    ensures { IsTrue result → LieBeside grid.now one.now other.now }
+    ensures { IsTrue result → LieBeside (drop k grid.now) (drop k one.now) (drop k other.now) }
 {
-    let [size, grid @ ..] = grid else {
+    if k >= grid.len() || k >= one.len() || k >= other.len() {
         return false;
-    };
-    let Some(axis) = one.first() else {
-        return false;
-    };
-    let Some(beside) = other.first() else {
-        return false;
-    };
-    are_boxes_apart(*size, &axis, &beside) || lie_beside(grid, &one.rest(), &other.rest())
+    }
+    are_boxes_apart(grid[k], &one.at(k), &other.at(k)) || lie_beside(grid, one, other, k + 1)
 }
 
 /// Whether the axis that starts first ends before the box in which the other one starts.

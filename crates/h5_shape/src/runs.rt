@@ -7,7 +7,7 @@ ghost use Rattle.h5_model.specs.Views.Selection.{Within, overlaps, selection_of,
 ghost use Rattle.h5_shape.specs.Runs.{cell_runs};
 
 use crate::axes::Axes;
-use crate::loops::LoopNest;
+use crate::rows::RowWalk;
 use std::marker::Model;
 
 /// Consecutive row-major places.
@@ -22,55 +22,56 @@ pub struct CellRun {
 /// The runs of consecutive places of the selected cells: those that are left, in row-major order. Each is as long as
 /// it can be. It takes no memory.
 #[derive(Debug, Drop)]
-pub struct CellRuns {
-    nest: LoopNest,
+pub struct CellRuns<'a> {
+    walk: RowWalk<'a>,
     place: u64,
     has_more: bool,
 }
 
-impl Model for CellRuns {
+impl<'a> Model for CellRuns<'a> {
     ghost use Rattle.std.specs.Prelude.{List};
     ghost use Rattle.h5_shape.specs.declared.runs.CellRun.{CellRun};
     ghost use Rattle.h5_shape.specs.Runs.{cell_runs};
-    ghost use Rattle.h5_shape.specs.Left.{left_of, IsRoomy};
+    ghost use Rattle.h5_shape.specs.Rows.{left_of, IsRoomy};
 
     ghost Value = { List CellRun };
 
-    ghost view = { λ s. cell_runs (left_of s.nest s.place s.has_more) };
+    ghost view = { λ s. cell_runs (left_of s.walk s.place s.has_more) };
 
-    ghost invariant = { λ s. IsRoomy s.nest s.place s.has_more };
+    ghost invariant = { λ s. IsRoomy s.walk s.place s.has_more };
 }
 
-impl CellRuns {
+impl<'a> CellRuns<'a> {
     /// No run.
-    pub(crate) fn none() -> CellRuns
+    pub(crate) fn none(sizes: &'a [u64], axes: &'a Axes<'a>) -> CellRuns<'a>
         ensures { result ≡ [] }
     {
         CellRuns {
-            nest: LoopNest::one_cell(),
+            walk: RowWalk::none(sizes, axes),
             place: 0,
             has_more: false,
         }
     }
 
-    /// Goes over to the runs of the cells that these axes select. They are written where they are to stand, since loops
-    /// for all dimensions that there can be are too long to be moved for nothing.
-    pub(crate) fn select(&mut self, sizes: &[u64], axes: &Axes<'_>)
+    /// The runs of the cells that these axes select.
+    pub(crate) fn of(sizes: &'a [u64], axes: &'a Axes<'a>) -> CellRuns<'a>
         requires rank { length sizes.now ≡ length axes.now }
         requires within { Within sizes.now axes.now }
         requires some { selects_none axes.now ≡ false }
         requires apart { list_any overlaps axes.now ≡ false }
         requires small { cells sizes.now ≤ 2 ^ 40 }
-        ensures { self.new ≡ cell_runs (selection_of sizes.now axes.now) }
+        ensures { result ≡ cell_runs (selection_of sizes.now axes.now) }
     {
-        self.nest.clear();
-        self.nest.select(sizes, axes);
-        self.place = 0;
-        self.has_more = true;
+        let (walk, place) = RowWalk::of(sizes, axes);
+        CellRuns {
+            walk,
+            place,
+            has_more: true,
+        }
     }
 }
 
-impl Iterator for CellRuns {
+impl<'a> Iterator for CellRuns<'a> {
     type Item = CellRun;
 
     ghost next_gives = { YieldsFirst (λ left. left) };
@@ -81,20 +82,20 @@ impl Iterator for CellRuns {
         if !self.has_more {
             return None;
         }
-        let place = self.nest.origin + self.place;
-        let mut end = self.place + self.nest.length;
+        let place = self.place;
+        let mut end = place + self.walk.rows.length;
         self.has_more = false;
-        while let Some(next) = self.nest.next_place(self.place) {
+        while let Some(next) = self.walk.next_place(self.place) {
             self.place = next;
             if next != end {
                 self.has_more = true;
                 break;
             }
-            end += self.nest.length;
+            end += self.walk.rows.length;
         }
         Some(CellRun {
             place,
-            length: self.nest.origin + end - place,
+            length: end - place,
         })
     }
 }

@@ -117,7 +117,7 @@ impl<'a> Slab<'a> {
     /// memory.
     ///
     /// That the selection is within the sizes, and that these have at most 2^40 cells, are the caller's conditions.
-    pub fn runs(&self, dims: &Dims) -> CellRuns
+    pub fn runs<'b>(&'b self, dims: &'b Dims) -> CellRuns<'b>
         requires rank { length dims.now ≡ length self.now }
         requires within { Within dims.now self.now }
         requires small { cells_of dims.now ≤ 2 ^ 40 }
@@ -125,11 +125,11 @@ impl<'a> Slab<'a> {
         ensures places { places_in result ≡ selection_of dims.now self.now }
         ensures maximal { AreMaximal result }
     {
-        let mut runs = CellRuns::none();
-        if !is_empty(self.axes()) {
-            runs.select(dims.sizes(), self.axes());
+        let (sizes, axes) = (dims.sizes(), self.axes());
+        if is_empty(axes) {
+            return CellRuns::none(sizes, axes);
         }
-        runs
+        CellRuns::of(sizes, axes)
     }
 
     /// Whether there is a selected cell, and all selected cells stand at consecutive row-major places.

@@ -1,6 +1,6 @@
 -- Names in a heap's segment, and their order in a symbol node.
-use Rattle.std.proofs.Common.{◌≡◌, ℕ, zero, suc, ◌+◌, ◌-◌, ◌<◌, ◌≤◌, List, [], ◌∷◌, length, get_or, slice_get, take, drop, map, Some, refl, sym, ap, subst, ◌∙◌, arith, true, Ordering, Less, Equal, Greater, inl, inr}
-use Rattle.std.specs.Ordering.{nat_cmp, is_lt, ordering_reverse}
+use Rattle.std.proofs.Common.{◌≡◌, ℕ, zero, suc, ◌+◌, ◌-◌, ◌<◌, ◌≤◌, List, [], ◌∷◌, length, get_or, slice_get, take, drop, map, Some, refl, sym, ap, subst, ◌∙◌, arith, Less, Equal, Greater, inl, inr}
+use Rattle.std.specs.Ordering.{nat_cmp, ordering_reverse}
 use Rattle.std.specs.Cmp.Lexicographic.{slice_cmp, nat_list_cmp_total}
 use Rattle.std.specs.FinMap.{nat_cmp-IsAntisymmetric, slice_cmp-IsAntisymmetric}
 use Rattle.std.proofs.lemmas.Bool.{cases_order}
@@ -10,6 +10,7 @@ use Rattle.std.proofs.lemmas.List.Elements.{recursion_from_All, All-from_get_or}
 use Rattle.h5_bytes.specs.Texts.{text_at}
 use Rattle.h5_model.specs.Format.Links.{Ascend, Before}
 use Rattle.h5_model.specs.Format.Symbols.{Entry, entries_of, link_of, symbols_in}
+use Rattle.h5_model.proofs.TextOrder.{is_less}
 use Rattle.h5_snod.specs.Names.{IsPlace, name_at, entry_names}
 use Rattle.h5_snod.proofs.EntryLaws.{entry_in, length-entries, get_or-entries}
 
@@ -19,11 +20,7 @@ pub before_less : (a b : List ℕ) → slice_cmp nat_cmp a b ≡ Less → Before
 before_less a b h = rw h refl
 
 less_before : (a b : List ℕ) → Before a b → slice_cmp nat_cmp a b ≡ Less
-less_before a b h = by_test (slice_cmp nat_cmp a b) h where
-  by_test : (o : Ordering) → is_lt o ≡ true → o ≡ Less
-  by_test Less e = refl
-  by_test Equal e = cc
-  by_test Greater e = cc
+less_before a b = is_less (slice_cmp nat_cmp a b)
 
 before_trans : (a b c : List ℕ) → Before a b → Before b c → Before a c
 before_trans a b c h g = before_less a c (nat_list_cmp_total.trans a b c (less_before a b h) (less_before b c g))

@@ -9,26 +9,12 @@ use Rattle.std.specs.declared.cmp.Ordering.TheVariants.{Less}
 use Rattle.std.proofs.lemmas.Bool.{cases_eq}
 use Rattle.std.proofs.lemmas.Bool.Decides.{nat_tests}
 use Rattle.std.proofs.lemmas.Map.{lookup-none}
+use Rattle.h5_bytes.proofs.BlockLaws.{all_append, all_left, all_right, all_so}
 
 -- ---- what holds of each element
 
 module _ {X : Type 0} (P : X → Type 0) where
-  pub all_append : (xs ys : List X) → AllByRecursion P xs → AllByRecursion P ys → AllByRecursion P (xs ++ ys)
-  all_append [] ys front back = back
-  all_append (x ∷ xs) ys front back = (front.0, all_append xs ys front.1 back)
-
-  pub all_front : (xs ys : List X) → AllByRecursion P (xs ++ ys) → AllByRecursion P xs
-  all_front [] ys all = tt
-  all_front (x ∷ xs) ys all = (all.0, all_front xs ys all.1)
-
-  pub all_back : (xs ys : List X) → AllByRecursion P (xs ++ ys) → AllByRecursion P ys
-  all_back [] ys all = all
-  all_back (x ∷ xs) ys all = all_back xs ys all.1
-
-  pub all_weaker : (Q : X → Type 0) → ((x : X) → P x → Q x) → (xs : List X) → AllByRecursion P xs → AllByRecursion Q xs
-  all_weaker Q weaker [] all = tt
-  all_weaker Q weaker (x ∷ xs) all = (weaker x all.0, all_weaker Q weaker xs all.1)
-
+  -- it holds of the element at each place
   pub all_at : (xs : List X) (i : ℕ) (d : X) → AllByRecursion P xs → i < length xs → P (get_or xs i d)
   all_at [] i d all low = absurd (omega (arith, low))
   all_at (x ∷ xs) zero d all low = all.0
@@ -46,10 +32,10 @@ module _ {V : Type 0} where
   Ascends (e ∷ es) = Above e.0 es × Ascends es
 
   pub below_more : (k q : ℕ) (es : List (ℕ × V)) → k ≤ q → Below k es → Below q es
-  below_more k q es le = all_weaker (λ e. e.0 < k) (λ e. e.0 < q) (λ e low. omega (arith, le, low)) es
+  below_more k q es le = all_so (λ e. e.0 < k) (λ e. e.0 < q) es (λ e low. omega (arith, le, low))
 
   pub above_less : (k q : ℕ) (es : List (ℕ × V)) → q ≤ k → Above k es → Above q es
-  above_less k q es le = all_weaker (λ e. k < e.0) (λ e. q < e.0) (λ e high. omega (arith, le, high)) es
+  above_less k q es le = all_so (λ e. k < e.0) (λ e. q < e.0) es (λ e high. omega (arith, le, high))
 
   -- ---- the order, in the kit's words
 
@@ -75,7 +61,7 @@ module _ {V : Type 0} where
 
   pub ascends_front : (f g : List (ℕ × V)) → Ascends (f ++ g) → Ascends f
   ascends_front [] g s = tt
-  ascends_front (e ∷ f) g s = (all_front (λ x. e.0 < x.0) f g s.0, ascends_front f g s.1)
+  ascends_front (e ∷ f) g s = (all_left (λ x. e.0 < x.0) f g s.0, ascends_front f g s.1)
 
   pub ascends_back : (f g : List (ℕ × V)) → Ascends (f ++ g) → Ascends g
   ascends_back [] g s = s
@@ -83,7 +69,7 @@ module _ {V : Type 0} where
 
   pub ascends_below : (f g : List (ℕ × V)) (x : ℕ × V) → Ascends (f ++ x ∷ g) → Below x.0 f
   ascends_below [] g x s = tt
-  ascends_below (e ∷ f) g x s = ((all_back (λ y. e.0 < y.0) f (x ∷ g) s.0).0, ascends_below f g x s.1)
+  ascends_below (e ∷ f) g x s = ((all_right (λ y. e.0 < y.0) f (x ∷ g) s.0).0, ascends_below f g x s.1)
 
   pub ascends_above : (f g : List (ℕ × V)) (x : ℕ × V) → Ascends (f ++ x ∷ g) → Above x.0 g
   ascends_above [] g x s = s.0
@@ -100,13 +86,13 @@ module _ {V : Type 0} where
   ascends_put [] g x s low high = (high, s)
   ascends_put (e ∷ f) g x s low high =
       let above = λ (y : ℕ × V). e.0 < y.0 in
-      (all_append above f (x ∷ g) (all_front above f g s.0) (low.0, all_back above f g s.0), ascends_put f g x s.1 low.1 high)
+      (all_append above f (x ∷ g) (all_left above f g s.0) (low.0, all_right above f g s.0), ascends_put f g x s.1 low.1 high)
 
   pub ascends_cut : (f g : List (ℕ × V)) (x : ℕ × V) → Ascends (f ++ x ∷ g) → Ascends (f ++ g)
   ascends_cut [] g x s = s.1
   ascends_cut (e ∷ f) g x s =
       let above = λ (y : ℕ × V). e.0 < y.0 in
-      (all_append above f g (all_front above f (x ∷ g) s.0) (all_back above f (x ∷ g) s.0).1, ascends_cut f g x s.1)
+      (all_append above f g (all_left above f (x ∷ g) s.0) (all_right above f (x ∷ g) s.0).1, ascends_cut f g x s.1)
 
   pub ascends_set : (f g : List (ℕ × V)) (x : ℕ × V) (v : V) → Ascends (f ++ x ∷ g) → Ascends (f ++ (x.0, v) ∷ g)
   ascends_set f g x v s = ascends_put f g (x.0, v) (ascends_cut f g x s) (ascends_below f g x s) (ascends_above f g x s)
@@ -122,10 +108,10 @@ module _ {V : Type 0} where
   lookup_other test (e ∷ f) g x fails = ap (λ o. cond (test e.0) (Some e.1) o) (lookup_other test f g x fails)
 
   none_below : (k : ℕ) (es : List (ℕ × V)) → Below k es → AllByRecursion (λ e. is_at (nat_cmp k) e.0 ≡ false) es
-  none_below k = all_weaker (λ e. e.0 < k) (λ e. is_at (nat_cmp k) e.0 ≡ false) (λ e low. grind (arith, nat_tests, low))
+  none_below k es = all_so (λ e. e.0 < k) (λ e. is_at (nat_cmp k) e.0 ≡ false) es (λ e low. grind (arith, nat_tests, low))
 
   none_above : (k : ℕ) (es : List (ℕ × V)) → Above k es → AllByRecursion (λ e. is_at (nat_cmp k) e.0 ≡ false) es
-  none_above k = all_weaker (λ e. k < e.0) (λ e. is_at (nat_cmp k) e.0 ≡ false) (λ e high. grind (arith, nat_tests, high))
+  none_above k es = all_so (λ e. k < e.0) (λ e. is_at (nat_cmp k) e.0 ≡ false) es (λ e high. grind (arith, nat_tests, high))
 
   pub lookup_here : (f g : List (ℕ × V)) (x : ℕ × V) → Below x.0 f → lookup (is_at (nat_cmp x.0)) (f ++ x ∷ g) ≡ Some x.1
   lookup_here f g x low =

@@ -7,9 +7,10 @@ use Rattle.std.specs.Map.{lookup}
 use Rattle.std.specs.Ordering.{nat_cmp}
 use Rattle.std.proofs.lemmas.Bool.{cases_lt}
 use Rattle.std.proofs.lemmas.List.{get_or_read, append_assoc, take-append-drop, drop_more, take_more}
+use Rattle.h5_bytes.proofs.BlockLaws.{all_append, all_right}
 use Rattle.h5_space.specs.Addresses.{run_entries, run_at, front, back, BeginsAt, AreRuns, IsLastAt, IsGapAt, IsEntryAt, map_of}
 use Rattle.h5_space.specs.declared.addresses.Run.{Run}
-use Rattle.h5_space.proofs.AddressLaws.{Above, Below, Ascends, ascends_above, lookup_here, lookup_gap, all_append, all_back, above_less, below_more, ascends_below, sorted_from_ascends, ascends_from_sorted, ascends_front, ascends_back}
+use Rattle.h5_space.proofs.AddressLaws.{Above, Below, Ascends, ascends_above, lookup_here, lookup_gap, above_less, below_more, ascends_below, sorted_from_ascends, ascends_from_sorted, ascends_front, ascends_back}
 
 module _ {V : Type 0} where
   abbrev pub Filled : List (Run V) → Type 0
@@ -103,12 +104,12 @@ module _ {V : Type 0} where
   firsts_above : (a : ℕ) (runs : List (Run V)) → Filled runs → Above a (run_entries runs) → (k : ℕ) (d : Run V) → k < length runs → a < (get_or runs k d).first
   firsts_above a [] filled above k d low = absurd (omega (arith, low))
   firsts_above a (x ∷ xs) filled above zero d low = first_above a x.first x.entries.items (run_entries xs) filled.0 above
-  firsts_above a (x ∷ xs) filled above (suc k) d low = firsts_above a xs filled.1 (all_back (λ e. a < e.0) x.entries.items (run_entries xs) above) k d (omega (arith, low))
+  firsts_above a (x ∷ xs) filled above (suc k) d low = firsts_above a xs filled.1 (all_right (λ e. a < e.0) x.entries.items (run_entries xs) above) k d (omega (arith, low))
 
   -- what is behind entries is behind their first
   behind_first : (first : ℕ) (es rest : List (ℕ × V)) → BeginsAt first es → Ascends (es ++ rest) → Above first rest
   behind_first first [] rest begins s = absurd begins
-  behind_first first (e ∷ es) rest begins s = above_less e.0 first rest (omega (arith, begins)) (all_back (λ x. e.0 < x.0) es rest s.0)
+  behind_first first (e ∷ es) rest begins s = above_less e.0 first rest (omega (arith, begins)) (all_right (λ x. e.0 < x.0) es rest s.0)
 
   pub firsts_rise : (runs : List (Run V)) → Filled runs → Ascends (run_entries runs) → IsNonDecreasingBy (λ run. run.first) runs
   firsts_rise [] filled s i j d le low = absurd (omega (arith, low))

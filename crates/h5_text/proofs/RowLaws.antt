@@ -1,7 +1,6 @@
 -- Cells behind cells, in rows.
-use Rattle.std.proofs.Common.{◌≡◌, ℕ, suc, ◌+◌, ◌%◌, ◌<◌, ℤ, List, [], ◌∷◌, ◌++◌, length, replicate, sym, ap, ◌∙◌, append_assoc, append-nil, arith}
+use Rattle.std.proofs.Common.{◌≡◌, ℕ, suc, ◌+◌, ◌%◌, ◌<◌, ℤ, List, [], ◌∷◌, ◌++◌, length, sym, ap, ◌∙◌, append_assoc, append-nil, arith}
 use Rattle.std.proofs.Math.Nat.{mod-eq_of_lt, mod-lt, mod-add-mod}
-use Rattle.std.proofs.lemmas.List.{replicate-append-replicate}
 use Rattle.h5_text.specs.Rows.{cell_text, cells_from}
 
 pub next_after : (width column n : ℕ) → ((column + 1) % width + n) % width ≡ (column + suc n) % width
@@ -40,6 +39,3 @@ pub column_step : (width column wide here next k : ℕ) → wide ≡ width → h
 column_step width column wide here next k same at is =
     let sum : column + k + 1 ≡ column + (k + 1) = omega arith in
     is ∙ ap (λ w. (here + 1) % w) same ∙ ap (λ n. (n + 1) % width) at ∙ mod-add-mod (column + k) width 1 ∙ ap (λ n. n % width) sum
-
-pub replicate_more : (k : ℕ) (v : ℤ) → replicate (k + 1) v ≡ replicate k v ++ v ∷ []
-replicate_more k v = sym (replicate-append-replicate k 1 v)

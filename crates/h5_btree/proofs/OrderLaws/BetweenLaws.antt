@@ -14,11 +14,13 @@ use Rattle.h5_bytes.proofs.PartLaws.{length-part}
 -- ---- lists of lists
 
 module _ {X : Type 0} (P : X → Type 0) (f : ℕ → List X) where
-  each_up : (xs : List ℕ) → AllByRecursion (λ n. AllByRecursion P (f n)) xs → AllByRecursion P (flat_map f xs)
+  -- what holds of all the lists holds of what is in them
+  pub each_up : (xs : List ℕ) → AllByRecursion (λ n. AllByRecursion P (f n)) xs → AllByRecursion P (flat_map f xs)
   each_up [] all = tt
   each_up (x ∷ xs) all = all_append P (f x) (flat_map f xs) all.0 (each_up xs all.1)
 
-  each_down : (xs : List ℕ) → AllByRecursion P (flat_map f xs) → AllByRecursion (λ n. AllByRecursion P (f n)) xs
+  -- the other way
+  pub each_down : (xs : List ℕ) → AllByRecursion P (flat_map f xs) → AllByRecursion (λ n. AllByRecursion P (f n)) xs
   each_down [] all = tt
   each_down (x ∷ xs) all = (all_left P (f x) (flat_map f xs) all, each_down xs (all_right P (f x) (flat_map f xs) all))
 

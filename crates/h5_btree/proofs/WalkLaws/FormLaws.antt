@@ -14,7 +14,7 @@ use Rattle.h5_model.specs.declared.open_fault.Cause.TheVariants.{NodeForm, Sibli
 use Rattle.h5_laws.proofs.Lists.{in_all, in_table}
 use Rattle.h5_btree.proofs.NodeLaws.{length-children, length-keys, key_is}
 use Rattle.h5_btree.specs.Walk.Forms.{TreeForm, OfGroup, OfChunks, kind_of, node_role, leaf_role, leaf_length, IsFormed, LeafBreach, IsKeyedAt}
-use Rattle.h5_btree.proofs.WalkLaws.Prefix.{key_got}
+use Rattle.h5_btree.proofs.WalkLaws.Prefix.{got_is}
 
 pub node_long : (image : List ℕ) (form : TreeForm) (field root heap level at depth : ℕ)
     → length_of image (naming_of field (node_role form root heap level) at depth) ≡ node_length (kind_of image form)
@@ -75,7 +75,7 @@ key_broken image (OfChunks shape) field root heap at depth i there low wrong =
     let count : entries_in bytes ≡ length node.children = length-children kind bytes node refl in
     let more : entries_in bytes + 1 ≡ length node.keys = length-keys kind bytes node refl in
     let few : i < length node.keys = omega (arith, count, more, low) in
-    let is : slice_index_or node.keys i [] ≡ key_in kind bytes i = key_got node.keys i (key_in kind bytes i) [] few (key_is kind bytes node refl i few) in
+    let is : slice_index_or node.keys i [] ≡ key_in kind bytes i = got_is node.keys i (key_in kind bytes i) [] few (key_is kind bytes node refl i few) in
     (there, (refl, (i, omega (arith, count, low), λ key. wrong (subst (IsChunkKey shape.sizes shape.bytes) (sym is) key))))
 
 -- a leaf of its form breaks no rule of it

@@ -1,7 +1,8 @@
 -- A walk goes further through the children of a node, one by one.
 use Rattle.std.proofs.Common.{◌≡◌, ◌≢◌, ℕ, suc, ◌+◌, ◌-◌, ◌<◌, ◌≤◌, inl, inr, List, [], ◌∷◌, ◌++◌, length, slice_get, Some, refl, sym, ap, ◌∙◌, subst, append_assoc, length-append, arith}
-use Rattle.std.specs.Prelude.{false, unwrap_or, slice_index_or}
+use Rattle.std.specs.Prelude.{false, slice_index_or}
 use Rattle.std.specs.List.{AllByRecursion}
+use Rattle.std.proofs.lemmas.Option.{same_Some}
 use Rattle.h5_bytes.specs.Blocks.{holds, cover, Separate}
 use Rattle.h5_bytes.specs.declared.Block.{Block}
 use Rattle.h5_bytes.proofs.BlockLaws.{all_append, holds_in}
@@ -28,9 +29,6 @@ use Rattle.h5_btree.proofs.WalkLaws.Steps.{leaf_fault, key_fault, node_fault, ch
 pub all_weaker : (P Q : ℕ → Type 0) (ys : List Named) → ((g : ℕ) → P g → Q g) → AllByRecursion (λ (y : Named). P y.field) ys → AllByRecursion (λ (y : Named). Q y.field) ys
 all_weaker P Q [] f all = tt
 all_weaker P Q (y ∷ ys) f all = (f y.field all.0, all_weaker P Q ys f all.1)
-
-same_some : (x y : ℕ) → Some x ≡ Some y → x ≡ y
-same_some x y e = ap (λ o. unwrap_or o x) e
 
 module _ (image : List ℕ) (form : TreeForm) where
   -- a place below a row is one below a longer row
@@ -66,7 +64,7 @@ module _ (image : List ℕ) (form : TreeForm) where
       let j = length row in
       let here = met.met j low in
       let same : child_in (kind_of image form) (node_bytes image (kind_of image form) at) j ≡ child
-      = same_some _ _ (sym (child_is (kind_of image form) (node_bytes image (kind_of image form) at) node (sym met.read) j low) ∙ got) in
+      = same_Some _ _ (sym (child_is (kind_of image form) (node_bytes image (kind_of image form) at) node (sym met.read) j low) ∙ got) in
       subst (λ (c : ℕ). IsMet image mid (f.new ++ followed) (naming_of (child_place image form at j) (child_role form root heap level) c depth)) same
       (met_further old mid followed (IsPlaceBelow image form level at row) (child_field image form root heap depth level at j) f (λ p. omega (arith, taken.claimed p)) here
       (next_apart level at j row old mid taken (omega arith) here.stands))

@@ -1,6 +1,5 @@
 -- A row whose nodes name their neighbours, from left to right.
-use Rattle.std.proofs.Common.{◌≡◌, ◌≢◌, ℕ, zero, suc, ◌+◌, ◌<◌, ◌≤◌, ◌⊎◌, inl, inr, List, [], ◌∷◌, ◌++◌, length, take, drop, get_or, refl, sym, ap, ◌∙◌, subst, arith, add-one, drop-cons}
-use Rattle.std.specs.List.{AllByRecursion}
+use Rattle.std.proofs.Common.{◌≡◌, ◌≢◌, ℕ, ◌+◌, ◌<◌, ◌≤◌, ◌⊎◌, inl, inr, List, [], ◌∷◌, ◌++◌, length, take, drop, get_or, refl, sym, ap, ◌∙◌, subst, add-one, drop-cons}
 use Rattle.std.proofs.Math.Seq.{take-suc}
 use Rattle.std.proofs.lemmas.List.{take-append-drop, append-nil, drop_all}
 use Rattle.h5_bytes.specs.Bytes.{undefined_address}
@@ -8,12 +7,6 @@ use Rattle.h5_model.specs.Format.Rows.{Reading, IsRow, next_row, first_or_undefi
 use Rattle.h5_model.specs.Faults.TreeFaults.{last_or_undefined}
 use Rattle.h5_btree.specs.Walk.Rows.{IsMisnamed}
 use Rattle.h5_btree.proofs.LeafLaws.{next_row-append}
-
--- what holds of all holds of element k
-pub each_of : (P : ℕ → Type 0) (xs : List ℕ) (k d : ℕ) → AllByRecursion P xs → k < length xs → P (get_or xs k d)
-each_of P [] k d all low = absurd (omega (arith, low))
-each_of P (x ∷ xs) zero d all low = all.0
-each_of P (x ∷ xs) (suc k) d all low = each_of P xs k d all.1 (omega (arith, low))
 
 pub first_there : (xs : List ℕ) (n d : ℕ) → n < length xs → first_or_undefined (drop n xs) ≡ get_or xs n d
 first_there xs n d low = ap first_or_undefined (drop-cons xs n d low)

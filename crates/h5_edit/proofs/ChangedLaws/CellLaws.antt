@@ -3,27 +3,25 @@ use Rattle.std.proofs.Common.{◌≡◌, ◌≢◌, ℕ, ◌*◌, List, [], leng
 use Rattle.std.specs.Prelude.{◌&&◌, is_some, nat_lt}
 use Rattle.std.specs.FinMap.{empty}
 use Rattle.std.proofs.lemmas.List.FromFn.{length-map-range_with_len}
-use Rattle.std.proofs.lemmas.Option.{option_and_then_some}
 use Rattle.h5_bytes.specs.declared.Block.{Block}
 use Rattle.h5_layout.specs.HeldChunks.{HeldCells, held_cells, held_chunks}
-use Rattle.h5_model.specs.Format.MessageTypes.{datatype_kind}
 use Rattle.h5_model.specs.Edits.Refusal.{is_chunked}
 use Rattle.h5_model.specs.Format.Fixed.{Fixed, IsFixed}
 use Rattle.h5_model.specs.Format.Layout.{Layout, InMessage, InBlock, InChunks}
-use Rattle.h5_model.specs.Format.Messages.{Message, first_body}
+use Rattle.h5_model.specs.Format.Messages.{Message}
 use Rattle.h5_model.specs.Format.Plain.{cells_bytes}
-use Rattle.h5_model.specs.Format.Described.{storage_of, Described, HasArray, described_dataset}
+use Rattle.h5_model.specs.Format.Described.{storage_of, Described, described_dataset}
 use Rattle.h5_model.specs.Scripts.Answers.{stored_values}
 use Rattle.h5_model.specs.Tree.Objects.{Dataset, Contiguous, Chunked}
 use Rattle.h5_model.specs.Tree.Places.{cells}
 use Rattle.h5_model.proofs.StoredValues.{stored-cells_bytes}
+use Rattle.h5_layout.proofs.StorableLaws.{fixed_told}
 use Rattle.h5_query.specs.Data.{AreDataRead, data_blocks, stored_chunks}
 use Rattle.h5_query.specs.Kept.{array_dataset}
 use Rattle.h5_query.specs.Opened.Judged.{IsArrayList}
 use Rattle.h5_query.specs.Stored.{AreFilled, AreStored}
 use Rattle.h5_query.specs.Told.{array_told, layout_told, type_told}
 use Rattle.h5_query.proofs.DataLaws.{data_there}
-use Rattle.h5_query.proofs.FillLaws.{type_sound}
 use Rattle.h5_repack.specs.Blocks.ArrayHeader.{storage_by}
 use Rattle.h5_repack.specs.Blocks.Written.{AreHeldOf, chunks_of}
 use Rattle.h5_repack.specs.Bodies.Headers.{AreStoredFor}
@@ -35,9 +33,6 @@ use Rattle.h5_repack.proofs.ChunkLaws.HeldCells.{held_cells_are, held_cells_stor
 use Rattle.h5_repack.proofs.ChunkLaws.StoredFor.{unchunked_stored}
 use Rattle.h5_edit.specs.Changed.Cells.{AreCellsKept, IsUnchunkedLayout}
 use Rattle.h5_edit.specs.Fits.Laws.{AreBytes}
-
-type_read : (ms : List Message) (a : Described) → HasArray ms a → IsFixed a.fixed
-type_read ms a has = option_and_then_some _ (first_body datatype_kind ms) a.fixed has.type (λ body there is. type_sound body a.fixed is)
 
 -- bytes of so many cells are those of the values that they store
 pub bytes_of_stored : (t : Fixed) (count : ℕ) (bytes : List ℕ) → IsFixed t → AreBytes bytes → length bytes ≡ count * t.size → bytes ≡ cells_bytes t (stored_values t bytes)
@@ -105,7 +100,7 @@ module _ (image : List ℕ) (ms : List Message) (is : IsArrayList ms) (read : Ar
 
   module _ (bytes : List ℕ) (low : AreBytes bytes) (stored : AreStored bare bytes) where
     bytes_are : bytes ≡ cells_bytes bare.fixed bare.cells
-    bytes_are = bytes_of_stored a.fixed (cells a.sizes) bytes (type_read ms a is.array) low stored.0 ∙ ap (cells_bytes a.fixed) (sym stored.1)
+    bytes_are = bytes_of_stored a.fixed (cells a.sizes) bytes (fixed_told ms a is.array) low stored.0 ∙ ap (cells_bytes a.fixed) (sym stored.1)
 
   counted : length d.cells ≡ cells d.sizes
   counted = length-map-range_with_len _ 0 (cells a.sizes)

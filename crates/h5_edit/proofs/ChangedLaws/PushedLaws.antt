@@ -1,10 +1,10 @@
 -- Messages that are appended one by one.
-use Rattle.std.proofs.Common.{◌≡◌, ℕ, suc, ◌+◌, ◌<◌, ◌≤◌, List, [], ◌∷◌, ◌++◌, length, drop, get_or, sym, ap, ◌∙◌, subst, arith, append_assoc, length-append}
+use Rattle.std.proofs.Common.{◌≡◌, ℕ, ◌+◌, ◌<◌, List, [], ◌∷◌, ◌++◌, length, drop, get_or, sym, ap, ◌∙◌, subst, append_assoc}
 use Rattle.std.proofs.lemmas.List.{drop_more}
 use Rattle.std.specs.List.{AllByRecursion}
 use Rattle.h5_repack.specs.Blocks.Others.{OthersBytes}
 use Rattle.h5_repack.specs.Blocks.Written.{AreOthers}
-use Rattle.h5_edit.specs.Changed.Appended.{Appends, HasPlaces, IsPushing}
+use Rattle.h5_edit.specs.Changed.Appended.{Appends, IsPushing}
 
 -- ---- lists
 
@@ -30,14 +30,3 @@ pushing_step old now new m rest later all so is one = record {
 
 pub pushing_same : (old now : OthersBytes) (rest later all : List (ℕ × List ℕ)) → IsPushing old now rest all → rest ≡ later → IsPushing old now later all
 pushing_same old now rest later all so is = subst (λ ms. IsPushing old now ms all) is so
-
--- ---- how many there are
-
-pub pushing_few : (old now : OthersBytes) (m : ℕ × List ℕ) (rest later all : List (ℕ × List ℕ)) (n : ℕ) → HasPlaces old n → length all ≤ n
-    → IsPushing old now rest all → rest ≡ m ∷ later → now.count < 65536
-pushing_few old now m rest later all n places room so is =
-    let now_are = so.appended places.begun places.are in
-    let counted : now.count ≡ length places.begun + length so.pushed = now_are.count_is ∙ length-append places.begun so.pushed in
-    let whole : length all ≡ length so.pushed + length rest = ap length so.split ∙ length-append so.pushed rest in
-    let some : length rest ≡ suc (length later) = ap length is in
-    omega (arith, counted, whole, some, room, places.few)

@@ -1,14 +1,13 @@
 -- A new array can be written in the plain layout (File Format Specification 3.0, sections IV.A.2.b, IV.A.2.f and IV.A.2.i).
-use Rattle.std.proofs.Common.{◌≡◌, ℕ, zero, suc, ◌+◌, ◌*◌, ◌^◌, ◌≤◌, Bool, List, [], ◌∷◌, length, replicate, Option, Some, None, ℤ, true, false, refl, ap, arith}
+use Rattle.std.proofs.Common.{◌≡◌, ℕ, ◌+◌, ◌*◌, ◌^◌, ◌≤◌, Bool, List, [], ◌∷◌, length, Option, Some, None, true, false, refl, ap, arith}
 use Rattle.std.specs.Prelude.{nat_lt, nat_le, ◌==◌, ◌||◌}
 use Rattle.std.specs.List.{AllZip, list_any}
 use Rattle.std.proofs.lemmas.Bool.Decides.{nat_tests}
 use Rattle.std.proofs.lemmas.List.{length-replicate}
 use Rattle.std.proofs.lemmas.Slice.Zip.{AllZip-long}
 use Rattle.std.proofs.lemmas.Bool.{and_parts, or_parts, not-false}
-use Rattle.h5_model.specs.Format.Fixed.{Fixed, IsFixed, fits}
+use Rattle.h5_model.specs.Format.Fixed.{IsFixed, fits}
 use Rattle.h5_model.specs.Tree.Places.{cells, extent_cells}
-use Rattle.h5_model.specs.Tree.Sound.{AreOf}
 use Rattle.h5_model.specs.Tree.Objects.{Tree, Array, Dataset, Contiguous, Chunked}
 use Rattle.h5_model.specs.Edits.Applied.{new_dataset, new_object, new_storage}
 use Rattle.h5_model.specs.Edits.Refusal.{refusal_of, rules_of, are_maxima, is_store, are_chunk_sizes, is_chunk_size, chunk_is_large, compact_is_large}
@@ -17,7 +16,7 @@ use Rattle.h5_model.specs.declared.dataset.Store.{Store}
 use Rattle.h5_model.specs.declared.dataset.Store.TheVariants as store
 use Rattle.h5_model.specs.declared.edits.Edit.TheVariants.{CreateDataset}
 use Rattle.h5_model.proofs.RefusalLaws.{none_holds}
-use Rattle.h5_model.proofs.EditLaws.{length-are_chunk_sizes, length-are_maxima}
+use Rattle.h5_model.proofs.EditLaws.{length-are_chunk_sizes, length-are_maxima, AreOf-replicate}
 use Rattle.h5_repack.specs.Bodies.Bodies.{others_of}
 use Rattle.h5_repack.specs.Image.Plain.{IsPlain}
 use Rattle.h5_repack.specs.Bodies.Sound.{IsBound, IsPlainArray, IsPlainStorage}
@@ -73,10 +72,6 @@ store_sizes sizes maxima (store.Chunked chunk) ranked bounded shaped =
 
 -- ---- what is written
 
-same_values : (t : Fixed) (v : ℤ) → fits t v ≡ true → (n : ℕ) → AreOf t (replicate n v)
-same_values t v fit zero = tt
-same_values t v fit (suc n) = (fit, same_values t v fit n)
-
 module _ (spec : Spec) (is : IsSoundSpec spec) where
   plain_storage : (s : Store (List ℕ)) → is_store s spec.dims spec.maxima ≡ true → chunk_is_large s (spec.fixed).size ≡ false → compact_is_large s (cells spec.dims * (spec.fixed).size) ≡ false
       → IsPlainStorage (new_dataset spec) (new_storage spec.dims s)
@@ -107,7 +102,7 @@ module _ (spec : Spec) (is : IsSoundSpec spec) where
     sound = record {
       counted = length-replicate (cells spec.dims) spec.fill;
       fill = is.of_type;
-      values = same_values spec.fixed spec.fill is.of_type (cells spec.dims);
+      values = AreOf-replicate spec.fixed (cells spec.dims) spec.fill is.of_type;
       bounded = AllZip-long IsBound spec.dims spec.maxima bounds;
       boxed = boxed spec.store is.shaped;
     };

@@ -26,7 +26,7 @@ use Rattle.h5_model.specs.Format.Reads.{HasDataset}
 use Rattle.h5_model.specs.Format.Described.{IsChunkSmall, IsFill, storage_of}
 use Rattle.h5_model.specs.Tree.Sound.{AreOf, IsDataset}
 use Rattle.h5_model.specs.Tree.Objects.{Dataset, Chunked, Contiguous}
-use Rattle.h5_model.proofs.StoredValues.{fits_value_at}
+use Rattle.h5_model.proofs.StoredValues.{fits_value_at, AreOf-map}
 use Rattle.h5_query.proofs.FillLaws.{type_sound, fill_fits, old_fill_fits}
 use Rattle.h5_repack.specs.Bodies.Sound.{IsBound, IsPlainArray, IsPlainStorage}
 use Rattle.h5_edit.specs.Fits.Laws.{AreBytes}
@@ -83,10 +83,6 @@ no_fill : (value : List ℕ → Option ℤ) (kind : ℕ) (ms : List Message) (fi
 no_fill value kind ms fill none is = subst (λ (o : Option (List ℕ)). IsFill value o fill) (none_first kind ms none) is
 
 -- ---- the cells
-
-values_of : (t : Fixed) (f : ℕ → ℤ) → ((k : ℕ) → fits t (f k) ≡ true) → (ks : List ℕ) → AreOf t (map f ks)
-values_of t f each [] = tt
-values_of t f each (k ∷ ks) = (each k, values_of t f each ks)
 
 -- data in a message are bytes
 abbrev AreDataLow : Layout → Type 0
@@ -249,7 +245,7 @@ module _ (image : List ℕ) (low : AreBytes image) (ms : List Message) (bodies :
     counted = ap length has.cells ∙ length-map-range_with_len _ 0 (cells d.sizes);
     fill = fill_is;
     values = subst (AreOf d.fixed) (sym has.cells)
-        (values_of d.fixed _ (λ place. cell_fits image low d.fixed d.fill d.sizes has.layout has.chunks sound fill_is (data_low has.layout laid) (index_of d.sizes place))
+        (AreOf-map d.fixed _ (λ place. cell_fits image low d.fixed d.fill d.sizes has.layout has.chunks sound fill_is (data_low has.layout laid) (index_of d.sizes place))
         (range_with_len 0 (cells d.sizes)));
     bounded = AllZip-long IsBound d.sizes d.maxima bounds;
     boxed = boxed;

@@ -1,18 +1,19 @@
 -- The hard links that lead to an array are those that its header counts.
-use Rattle.std.proofs.Common.{◌≡◌, ◌≢◌, ℕ, ◌+◌, ◌≤◌, ◌<◌, List, length, refl, sym, ap, ◌∙◌, subst, true, false, Option, Some, None, IsSome, arith}
+use Rattle.std.proofs.Common.{◌≡◌, ◌≢◌, ℕ, ◌+◌, ◌≤◌, ◌<◌, List, length, refl, sym, ap, ◌∙◌, subst, true, false, Some, None, arith}
 use Rattle.std.specs.Prelude.{◌==◌, nat_le, if◌then◌else◌}
 use Rattle.std.specs.FinMap.{entries}
 use Rattle.std.proofs.lemmas.Bool.Decides.{nat_tests}
 use Rattle.h5_model.specs.Format.Messages.{prefix_at, reference_count}
 use Rattle.h5_model.specs.Format.Reads.{Placed, IsCounted}
 use Rattle.h5_model.specs.Edits.Refusal.{first_holding}
-use Rattle.h5_model.specs.Tree.Objects.{Tree, Links, links_of, hard_links}
+use Rattle.h5_model.specs.Tree.Objects.{Tree, links_of, hard_links}
 use Rattle.h5_model.specs.declared.edit_fault.EditFault.TheVariants as fault
 use Rattle.h5_laws.proofs.Lists.{In, in_all, from_map}
 use Rattle.h5_laws.proofs.Maps.{entry_of_get}
 use Rattle.h5_header.specs.Listed.{messages_in}
 use Rattle.h5_header.proofs.WalkLaws.ListLaws.{prefix_there}
 use Rattle.h5_model.specs.Format.Addresses.{SymbolTable}
+use Rattle.h5_laws.proofs.SoundLaws.Linked.{none_some}
 use Rattle.h5_query.specs.OpenedObjectType.{OpenedObject}
 use Rattle.h5_query.specs.OpenedContentType.TheVariants as content
 use Rattle.h5_query.specs.Opened.Sound.{IsSound, IsObjectOf}
@@ -28,10 +29,6 @@ counted_at image tree header number x numbered placed counted other =
     let count : reference_count (prefix_at image x.header) ≡ hard_links tree x.number + 0 = counted.counted ∙ ap (λ b. hard_links tree x.number + (if b then 1 else 0)) below in
     let whole : reference_count (prefix_at image x.header) ≡ hard_links tree x.number = omega (arith, count) in
     ap (λ h. reference_count (prefix_at image h)) (sym placed) ∙ whole ∙ ap (hard_links tree) numbered
-
-no_links : (o : Option Links) → o ≡ None → IsSome o → ⊥
-no_links None is some = absurd (cc)
-no_links (Some links) is some = absurd (cc)
 
 module _ (f : FileState) (number : ℕ) (o : OpenedObject) (of : IsObjectOf f number o) where
   abbrev T : Tree
@@ -51,7 +48,7 @@ module _ (f : FileState) (number : ℕ) (o : OpenedObject) (of : IsObjectOf f nu
     below_root : number ≢ 0
     below_root zero_number =
         let none : links_of T 0 ≡ None = subst (λ (n : ℕ). links_of T n ≡ None) zero_number (array_no_group f number o of is) in
-        no_links (links_of T 0) none sound.reads.holds.root_group
+        none_some (links_of T 0) none sound.reads.holds.root_group
 
     pub links_counted : reference_count (prefix_at f.image o.messages.header) ≡ hard_links T number
     links_counted =

@@ -1,13 +1,8 @@
 -- What the exit of a `?` returns.
 use Rattle.std.proofs.Common.{◌≡◌, sym, subst}
-use Rattle.std.specs.Prelude.{IfOk, IsErrAnd, MatchResult, Result, Ok, Err}
+use Rattle.std.specs.Prelude.{IsErrAnd, MatchResult, Result, Ok, Err}
 
 -- the error of the call as it is
 pub passed_on : {T E : Type 0} (P : T → Type 0) (Q : E → Type 0) (r : Result T E) (e : E) → IsErrAnd r (λ y. y ≡ e) → Q e → MatchResult r P Q
 passed_on P Q (Ok x) e passed refused = absurd passed
 passed_on P Q (Err y) e passed refused = subst Q (sym passed) refused
-
--- what holds anyhow holds of an Ok
-pub if_ok : {T E : Type 0} {P : Type 0} (r : Result T E) → P → IfOk r (λ _. P)
-if_ok (Ok x) holds = holds
-if_ok (Err e) holds = tt

@@ -1,8 +1,7 @@
 -- Why a write is refused, or that it is not: by its path, its selection and its values.
-use Rattle.std.proofs.Common.{◌≡◌, ◌≢◌, ℕ, ◌-◌, ◌^◌, min, ◌≤◌, List, [], ◌∷◌, ◌++◌, length, refl, sym, ap, ◌∙◌, Bool, true, false, not, Option, Some, None, arith}
+use Rattle.std.proofs.Common.{◌≡◌, ℕ, ◌-◌, ◌^◌, min, ◌≤◌, List, [], ◌∷◌, ◌++◌, length, refl, sym, ap, ◌∙◌, Bool, false, not, Option, Some, None, arith}
 use Rattle.std.proofs.Math.Bool.{or-false}
-use Rattle.std.proofs.lemmas.Bool.Decides.{nat_tests}
-use Rattle.std.specs.Prelude.{ℤ, ◌==◌, if◌then◌else◌}
+use Rattle.std.specs.Prelude.{ℤ, ◌==◌}
 use Rattle.std.specs.List.{list_all, list_any}
 use Rattle.std.specs.Option.{option_map_or}
 use Rattle.h5_model.specs.Edits.Refusal.{refusal_of, first_holding}
@@ -52,10 +51,6 @@ module _ (tree : Tree) (next : ℕ) (path : List ℕ) (hyper : Hyper) (values : 
 
 -- ---- how many cells
 
--- of an array that is no larger than arrays may be, so few are selected that a number of 64 bits tells how many
-pub exact_count : (count many n : ℕ) → many ≤ 2 ^ 40 → count ≡ min many (2 ^ 64 - 1) → count ≢ n → n ≢ many
-exact_count count many n few is other same = other (let exact : min many (2 ^ 64 - 1) ≡ many = omega arith in is ∙ exact ∙ sym same)
-
 pub same_count : (count many n : ℕ) → many ≤ 2 ^ 40 → count ≡ min many (2 ^ 64 - 1) → count ≡ n → n ≡ many
 same_count count many n few is same = let exact : min many (2 ^ 64 - 1) ≡ many = omega arith in sym same ∙ is ∙ exact
 
@@ -67,20 +62,3 @@ module _ (sizes : List ℕ) (fixed : Fixed) (hyper : Hyper) (values : List ℤ) 
 
   pub slab_refused : (e : EditFault) → first_holding (hyper_rules sizes hyper) ≡ Some e → first_left ≡ Some e
   slab_refused e h = first-found (hyper_rules sizes hyper) (value_rules fixed hyper values) e h
-
-  module _ (selects : first_holding (hyper_rules sizes hyper) ≡ None) where
-    by_values : (counted fitting : Bool) → (length values == selected_cells (axes_of hyper)) ≡ counted → list_all (fits fixed) values ≡ fitting
-        → first_left ≡ (if not counted then Some fault.ValueCount else (if not fitting then Some fault.ValueRange else None))
-    by_values counted fitting count fit =
-        first-behind (hyper_rules sizes hyper) (value_rules fixed hyper values) selects
-        ∙ (λ i. first_holding ((fault.ValueCount, not (count i)) ∷ (fault.ValueRange, not (fit i)) ∷ []))
-
-    pub count_refused : length values ≢ selected_cells (axes_of hyper) → first_left ≡ Some fault.ValueCount
-    count_refused other = by_values false (list_all (fits fixed) values) (grind (arith, nat_tests)) refl
-
-    module _ (counted : length values ≡ selected_cells (axes_of hyper)) where
-      pub range_refused : list_all (fits fixed) values ≡ false → first_left ≡ Some fault.ValueRange
-      range_refused other = by_values true false (grind (arith, nat_tests)) other
-
-      pub cells_allowed : list_all (fits fixed) values ≡ true → first_left ≡ None
-      cells_allowed fit = by_values true true (grind (arith, nat_tests)) fit

@@ -2,7 +2,7 @@
 -- IV.A.2).
 use Rattle.std.specs.Prelude.{◌≡◌, ℕ, ◌+◌, ◌≤◌, List, ◌++◌, map, length}
 use Rattle.std.specs.List.{filter}
-use Rattle.h5_model.specs.Format.Messages.{Message}
+use Rattle.h5_model.specs.Format.Messages.{Message, most_messages}
 use Rattle.h5_model.specs.Format.Reads.{is_kept, kept_of}
 use Rattle.h5_model.specs.Tree.Objects.{Attribute, Kept}
 use Rattle.h5_repack.specs.Bodies.Bodies.{kept_message, attribute_message}
@@ -17,7 +17,7 @@ Appends old new ms = (before : List (ℕ × List ℕ)) → AreOthers before old 
 pub record HasPlaces (o : OthersBytes) (more : ℕ) : Type 0 where
   pub begun : List (ℕ × List ℕ)
   pub are : AreOthers begun o
-  pub few : length begun + more ≤ 65535
+  pub few : length begun + more ≤ most_messages
 
 -- the kept messages of a header
 abbrev pub kept_in : List Message → List Kept

@@ -5,6 +5,7 @@ use Rattle.std.specs.FinMap.{empty}
 use Rattle.std.specs.List.{list_any}
 use Rattle.h5_layout.specs.HeldChunks.{held_cells, held_chunks}
 use Rattle.h5_model.specs.Format.Layout.{Layout, InMessage, InBlock, InChunks}
+use Rattle.h5_model.specs.Format.Limits.{most_dimensions}
 use Rattle.h5_model.specs.Format.Messages.{Message}
 use Rattle.h5_model.specs.Format.Described.{Described, described_dataset}
 use Rattle.h5_model.specs.Tree.Objects.{Dataset, Chunked}
@@ -44,7 +45,7 @@ AreChunksKept image ms d content = (chunk : List ℕ) → d.storage ≡ Chunked 
 
 -- chunk sizes that can be named
 abbrev pub HasChunkSizes : Store (List ℕ) → Type 0
-HasChunkSizes (store.Chunked chunk) = (length chunk ≤ 32) × (list_any (λ n. n == 0) chunk ≡ false)
+HasChunkSizes (store.Chunked chunk) = (length chunk ≤ most_dimensions) × (list_any (λ n. n == 0) chunk ≡ false)
 HasChunkSizes _ = Unit {0}
 
 -- a layout of cells none of which stands anywhere yet; a message with room for any compact cells

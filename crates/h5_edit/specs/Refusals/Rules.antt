@@ -1,9 +1,10 @@
 -- The rules of the paths of an edit by their faults, and the rules that a target, an attribute or an array alone decides.
-use Rattle.std.specs.Prelude.{◌≡◌, ℕ, ℤ, ◌*◌, ◌^◌, ◌==◌, ◌&&◌, ◌||◌, Bool, false, not, nat_lt, nat_le, if◌then◌else◌, is_none, is_some, Option, Some, None, List, [], ◌∷◌, length}
+use Rattle.std.specs.Prelude.{◌≡◌, ℕ, ℤ, ◌*◌, ◌==◌, ◌&&◌, ◌||◌, Bool, false, not, nat_lt, nat_le, if◌then◌else◌, is_none, is_some, Option, Some, None, List, [], ◌∷◌, length}
 use Rattle.std.specs.List.{list_all}
 use Rattle.std.specs.Option.{option_map_or}
 use Rattle.h5_model.specs.Edits.EditFaults.{fault_number}
 use Rattle.h5_model.specs.Format.Fixed.{Fixed, fits}
+use Rattle.h5_model.specs.Format.Limits.{most_cells, most_dimensions, most_hard_links}
 use Rattle.h5_model.specs.Tree.Places.{cells, extent_cells}
 use Rattle.h5_model.specs.Format.Sizes.{attribute_size}
 use Rattle.h5_model.specs.Tree.Objects.{Tree, ToObject, links_of, hard_links}
@@ -90,15 +91,15 @@ pub record IsObject (f : FileState) (path : List ℕ) (o : ObjectAt) : Type 0 wh
 abbrev pub target_rules : Tree → ℕ → List (EditFault × Bool)
 target_rules tree number =
     (fault.GroupLink, is_some (links_of tree number))
-    ∷ (fault.TooManyLinks, nat_le 65535 (hard_links tree number))
+    ∷ (fault.TooManyLinks, nat_le most_hard_links (hard_links tree number))
     ∷ []
 
 -- a new attribute (section IV.A.2.m)
 abbrev pub own_rules : AttrSpec → List (EditFault × Bool)
 own_rules a =
     (fault.NameTooLong, nat_lt 1023 (length a.name))
-    ∷ (fault.BadSpec, nat_lt 32 (length a.dims) || is_no_text a.name)
-    ∷ (fault.TooManyCells, nat_lt (2 ^ 40) (extent_cells a.dims))
+    ∷ (fault.BadSpec, nat_lt most_dimensions (length a.dims) || is_no_text a.name)
+    ∷ (fault.TooManyCells, nat_lt most_cells (extent_cells a.dims))
     ∷ (fault.ValueCount, not (length a.values == cells a.dims))
     ∷ (fault.ValueRange, not (list_all (fits a.fixed) a.values))
     ∷ (fault.AttributeTooLarge, nat_lt 65528 (attribute_size (length a.name) a.dims (a.fixed).size))
@@ -107,10 +108,10 @@ own_rules a =
 -- a new array
 abbrev pub spec_rules : Spec → List (EditFault × Bool)
 spec_rules s =
-    (fault.BadSpec, nat_lt 32 (length s.dims) || not (are_maxima s.dims s.maxima && is_store s.store s.dims s.maxima))
+    (fault.BadSpec, nat_lt most_dimensions (length s.dims) || not (are_maxima s.dims s.maxima && is_store s.store s.dims s.maxima))
     ∷ (fault.ChunkTooLarge, chunk_is_large s.store (s.fixed).size)
     ∷ (fault.CompactTooLarge, compact_is_large s.store (cells s.dims * (s.fixed).size))
-    ∷ (fault.TooManyCells, nat_lt (2 ^ 40) (extent_cells s.dims))
+    ∷ (fault.TooManyCells, nat_lt most_cells (extent_cells s.dims))
     ∷ (fault.ValueRange, not (fits s.fixed s.fill))
     ∷ []
 

@@ -9,6 +9,7 @@ use Rattle.h5_model.specs.Format.Superblock.{leaf_k}
 use Rattle.h5_model.specs.Format.Symbols.{Entry, Target, link_of, symbols_at}
 use Rattle.h5_model.specs.Format.Rows.{Node, Reading, leaves}
 use Rattle.h5_model.specs.Format.Links.{Ascend, Before}
+use Rattle.h5_laws.proofs.Ascending.{ascend_tail}
 use Rattle.h5_btree.specs.Order.{IsKnownFrom}
 use Rattle.h5_btree.specs.Rising.{FallFrom, IsAbove, RiseFrom, last_value}
 use Rattle.h5_btree.proofs.LeafLaws.{leaves-append}
@@ -32,13 +33,9 @@ fall_here segment before es k e low there (Some last) is below = (k, e, text_at 
 
 -- ---- parts
 
-behind_first : (x : List ℕ × Target) (xs : List (List ℕ × Target)) → Ascend (x ∷ xs) → Ascend xs
-behind_first x [] rise = tt
-behind_first x (y ∷ xs) rise = rise.1
-
 two_parts : (xs ys : List (List ℕ × Target)) → Ascend (xs ++ ys) → Ascend xs × Ascend ys
 two_parts [] ys rise = (tt, rise)
-two_parts (x ∷ []) ys rise = (tt, behind_first x ys rise)
+two_parts (x ∷ []) ys rise = (tt, ascend_tail x ys rise)
 two_parts (x ∷ y ∷ xs) ys rise = let rest = two_parts (y ∷ xs) ys rise.1 in ((rise.0, rest.0), rest.1)
 
 module _ (image segment : List ℕ) where

@@ -1,9 +1,9 @@
 -- Names that ascend are above a bound exactly where the first one is, and none is above a bound exactly where the last one is not. They
 -- stand in a row of symbol nodes, of which some may be empty.
-use Rattle.std.proofs.Common.{◌≡◌, ℕ, ◌+◌, ◌<◌, ◌≤◌, List, [], ◌∷◌, ◌++◌, length, take, drop, get_or, refl, sym, ap, ◌∙◌, subst, arith, append-nil, append_assoc}
+use Rattle.std.proofs.Common.{◌≡◌, ℕ, ◌+◌, ◌<◌, ◌≤◌, List, [], ◌∷◌, ◌++◌, length, take, drop, get_or, sym, ap, ◌∙◌, subst, arith, append-nil, append_assoc}
 use Rattle.std.specs.Prelude.{◌↔◌, map}
 use Rattle.std.specs.List.{AllByRecursion, flat_map}
-use Rattle.std.proofs.lemmas.List.{take_more, take_all, take-append-drop, drop_more}
+use Rattle.std.proofs.lemmas.List.{take_more, take_all, take-append-drop, drop_more, nil_from_length}
 use Rattle.std.proofs.lemmas.Grind.{flat_map-append}
 use Rattle.h5_model.specs.Format.Symbols.{Entry, link_of}
 use Rattle.h5_model.specs.Format.Links.{Ascend, Before, NotAfter, Symbols, names_in}
@@ -58,10 +58,6 @@ last_of_list {X} xs k x last is =
     let end : length xs ≤ k + 1 = omega arith in
     sym (take_all (k + 1) xs end) ∙ take_more xs k x low ∙ ap (λ (z : X). take k xs ++ z ∷ []) is
 
-none_of_list : {X : Type 0} (xs : List X) → length xs ≡ 0 → xs ≡ []
-none_of_list [] none = refl
-none_of_list (x ∷ xs) none = absurd (omega (arith, none))
-
 -- ---- a row of symbol nodes, at one of which these entries stand
 
 module _ (S : Symbols) (segment : List ℕ) (row : List ℕ) (i at : ℕ) (low : i < length row) (is : get_or row i at ≡ at) (es : List Entry) (stand : es ≡ S at) where
@@ -87,10 +83,10 @@ module _ (S : Symbols) (segment : List ℕ) (row : List ℕ) (i at : ℕ) (low :
       ap (flat_map S) (take_more row i at low ∙ ap (λ (n : ℕ). take i row ++ n ∷ []) is)
       ∙ flat_map-append S (take i row) (at ∷ [])
       ∙ ap (λ (fs : List Entry). fs ++ (S at ++ [])) first
-      ∙ append-nil (S at) ∙ sym stand ∙ none_of_list es none
+      ∙ append-nil (S at) ∙ sym stand ∙ nil_from_length es none
 
   pub none_before : length es ≡ 0 → after ≡ [] → flat_map S (drop i row) ≡ []
-  none_before none last = behind ∙ ap (λ (fs : List Entry). fs ++ after) (none_of_list es none) ∙ last
+  none_before none last = behind ∙ ap (λ (fs : List Entry). fs ++ after) (nil_from_length es none) ∙ last
 
   module _ (e : Entry) (rise : Rises segment (flat_map S row)) (bound : List ℕ) where
     -- the first of them, with none before it

@@ -29,12 +29,13 @@ use Rattle.h5_heap.specs.Writing.Written.{written_entry, written_entries, placed
 use Rattle.h5_heap.specs.Writing.Laws.{IsEntryLow, IsPlainHeap}
 use Rattle.h5_heap.proofs.WriteLaws.Lengths.{length-heap_bytes}
 use Rattle.h5_heap.proofs.WriteLaws.HeapReads.{heap_reads, entries_low}
+use Rattle.h5_btree.proofs.KeyedKeys.{all_mapped, all_unmapped}
 use Rattle.h5_group.specs.Writing.Written.{last_name_offset, children_of, heap_place, symbols_place, symbol_nodes, links_bytes, links_length}
 use Rattle.h5_group.specs.Writing.Laws.{ArePlainLinks, IsPlainGroup, LinksRead}
 use Rattle.h5_group.proofs.WriteLaws.SymbolNodes.{Placed}
 use Rattle.h5_group.proofs.WriteLaws.Runs.{IsRun, joined, runs_joined, runs_pieces}
 use Rattle.h5_group.proofs.WriteLaws.SymbolPlaces.{AreThere, Says, addresses, nodes_bytes, one_more, are_there, nodes_run, all_formed, all_said, said_alone, all_entries}
-use Rattle.h5_group.proofs.WriteLaws.NameTrees.{all_mapped, all_unmapped, lasts_fit, lasts_of, names_ordered, offsets_named}
+use Rattle.h5_group.proofs.WriteLaws.NameTrees.{lasts_fit, lasts_of, names_ordered, offsets_named}
 use Rattle.h5_group.proofs.WriteLaws.Order.{Rises, ordered, are_named, rises_all}
 use Rattle.h5_group.proofs.WriteLaws.Lengths.{the_runs, the_children, runs_counted, level_low, tree_long, links_length_is}
 

@@ -1,17 +1,15 @@
 -- The tree of a group in the plain layout: its keys are offsets of names, and it is ordered where the names below its children are (File
 -- Format Specification 3.0, section III.A.1).
-use Rattle.std.proofs.Common.{◌≡◌, ℕ, ◌+◌, ◌^◌, ◌<◌, List, [], ◌∷◌, length, map, refl, sym, ap, ◌∙◌, subst, arith, append-nil}
+use Rattle.std.proofs.Common.{◌≡◌, ℕ, ◌+◌, ◌^◌, ◌<◌, List, [], ◌∷◌, length, map, refl, sym, ap, ◌∙◌, subst, arith}
 use Rattle.std.specs.List.{AllByRecursion, Contains}
 use Rattle.std.proofs.lemmas.List.Elements.{All-from_recursion, All-contains}
 use Rattle.std.proofs.lemmas.Simd.{map-map}
-use Rattle.h5_bytes.specs.Bytes.{number_at}
 use Rattle.h5_bytes.specs.Numbers.{word}
 use Rattle.h5_bytes.specs.Texts.{text_at}
 use Rattle.h5_bytes.proofs.BlockLaws.{all_append, all_so}
 use Rattle.h5_model.specs.Format.Links.{IsOrdered, Symbols, key_offsets, names_in, offset_in}
 use Rattle.h5_model.specs.Format.Nodes.{group_kind, reading_of}
 use Rattle.h5_model.specs.Format.Rows.{Reading}
-use Rattle.h5_model.proofs.NumberLaws.{reads_back}
 use Rattle.h5_laws.specs.Ladders.{IsLadder, IsOrderedBy}
 use Rattle.h5_laws.specs.NameLadders.{key_text, name_lists, name_sides}
 use Rattle.h5_laws.proofs.NameLadders.{ladder_texts, name_order, names_by}
@@ -19,14 +17,8 @@ use Rattle.h5_btree.specs.declared.write.child.Child.{Child}
 use Rattle.h5_btree.specs.Writing.Laws.{HasPlainNodes, IsBeside, lists_beside}
 use Rattle.h5_btree.specs.Writing.Written.{AllFit, keys_of, places_of}
 use Rattle.h5_btree.proofs.WriteLaws.NodeReads.{one_more}
-
-pub all_mapped : {X Y : Type 0} (P : Y → Type 0) (f : X → Y) (xs : List X) → AllByRecursion (λ x. P (f x)) xs → AllByRecursion P (map f xs)
-all_mapped P f [] all = tt
-all_mapped P f (x ∷ xs) all = (all.0, all_mapped P f xs all.1)
-
-pub all_unmapped : {X Y : Type 0} (P : Y → Type 0) (f : X → Y) (xs : List X) → AllByRecursion P (map f xs) → AllByRecursion (λ x. P (f x)) xs
-all_unmapped P f [] all = tt
-all_unmapped P f (x ∷ xs) all = (all.0, all_unmapped P f xs all.1)
+use Rattle.h5_btree.proofs.KeyedKeys.{all_mapped}
+use Rattle.h5_group.proofs.NameKeys.{offset_is}
 
 -- ---- keys
 
@@ -38,9 +30,6 @@ lasts_of children = map (λ (c : Child ℕ). c.key) children
 pub lasts_fit : (k : ℕ) (children : List (Child ℕ)) → AllFit (group_kind k) word children
 lasts_fit k [] = tt
 lasts_fit k (c ∷ children) = (refl, lasts_fit k children)
-
-offset_is : (n : ℕ) → n < 2 ^ 64 → offset_in (word n) ≡ n
-offset_is n low = ap (λ bytes. number_at bytes 0 8) (sym (append-nil (word n))) ∙ reads_back 8 n [] (omega arith)
 
 -- ---- names
 

@@ -17,13 +17,9 @@ use Rattle.h5_group.proofs.WriteLaws.NameTrees.{AreOrdered}
 use Rattle.h5_group.proofs.WriteLaws.SymbolNodes.{Placed}
 use Rattle.h5_group.proofs.WriteLaws.Runs.{IsRun, joined}
 use Rattle.h5_group.proofs.WriteLaws.SymbolPlaces.{Says}
+use Rattle.h5_group.proofs.EntryOrder.{above_empty}
 
 -- ---- the order of names
-
--- the empty name is before any that a link can have
-empty_before : (name : List ℕ) → is_name name ≡ true → Before [] name
-empty_before [] is = absurd (cc)
-empty_before (c ∷ cs) is = refl
 
 cons_same : {X : Type 0} (x y : X) (xs ys : List X) → x ∷ xs ≡ y ∷ ys → (x ≡ y) × (xs ≡ ys)
 cons_same x y xs ys same = (cc, cc)
@@ -125,4 +121,4 @@ module _ (segment : List ℕ) where
       → AllByRecursion (λ (l : List ℕ × Leads). is_name l.0 ≡ true) links → Rises segment 0 (links_with_offsets at links)
   rises_all at [] none named ascend names = tt
   rises_all at (l ∷ links) none named ascend names = rises_from 0 at (l ∷ links) named ascend
-      (λ k more same. subst (λ n. Before n k.0) (sym none) (subst (λ (j : List ℕ × Leads). Before [] j.0) (cons_same l k links more same).0 (empty_before l.0 names.0)))
+      (λ k more same. subst (λ n. Before n k.0) (sym none) (subst (λ (j : List ℕ × Leads). Before [] j.0) (cons_same l k links more same).0 (above_empty l.0 names.0)))

@@ -5,6 +5,7 @@ use Rattle.std.specs.List.{AllByRecursion, flat_map}
 use Rattle.std.proofs.Math.Nat.{div-eq_of_lt-le}
 use Rattle.std.proofs.lemmas.List.{take_at, drop_at}
 use Rattle.h5_model.specs.Format.PlainLength.{rows_of}
+use Rattle.h5_model.proofs.Members.{all_both}
 use Rattle.h5_btree.specs.Writing.Written.{chunks}
 use Rattle.h5_btree.proofs.WriteLaws.Pieces.{cut_one, flat-cut, short-cut, filled-cut, length-cut, chunks_more}
 use Rattle.h5_group.specs.Writing.Written.{runs_of}
@@ -18,10 +19,6 @@ joined runs = flat_map (λ (run : List Placed). run) runs
 abbrev pub IsRun : ℕ → List Placed → Type 0
 IsRun leaf run = (1 ≤ length run) × (length run ≤ 2 * leaf)
 
-both : {X : Type 0} (P Q : X → Type 0) (xs : List X) → AllByRecursion P xs → AllByRecursion Q xs → AllByRecursion (λ x. P x × Q x) xs
-both P Q [] first second = tt
-both P Q (x ∷ xs) first second = ((first.0, second.0), both P Q xs first.1 second.1)
-
 rows_none : (m : ℕ) → 1 ≤ m → rows_of m 0 ≡ 0
 rows_none m some = div-eq_of_lt-le m (omega arith) (omega arith)
 
@@ -33,7 +30,7 @@ module _ (leaf : ℕ) where
   module _ (low : 1 ≤ leaf) where
     pub runs_pieces : (links : List Placed) → AllByRecursion (IsRun leaf) (runs_of leaf links)
     runs_pieces [] = tt
-    runs_pieces (l ∷ links) = both (λ (run : List Placed). 1 ≤ length run) (λ (run : List Placed). length run ≤ 2 * leaf) (chunks (2 * leaf) (l ∷ links))
+    runs_pieces (l ∷ links) = all_both (λ (run : List Placed). 1 ≤ length run) (λ (run : List Placed). length run ≤ 2 * leaf) (chunks (2 * leaf) (l ∷ links))
         (filled-cut (2 * leaf) (length (l ∷ links)) (l ∷ links) (omega arith) (omega arith))
         (short-cut (2 * leaf) (length (l ∷ links)) (l ∷ links) (omega arith) (omega arith))
 

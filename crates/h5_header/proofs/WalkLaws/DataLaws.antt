@@ -1,6 +1,6 @@
 -- The block that a contiguous layout names.
 use Rattle.std.proofs.Common.{◌≡◌, ℕ, ◌+◌, ◌*◌, ◌<◌, ◌≤◌, inr, List, [], ◌∷◌, length, refl, sym, ◌∙◌, ap, subst, arith, Option, Some, None, Bool, true, false, cond}
-use Rattle.std.specs.Prelude.{◌==◌, ◌&&◌, nat_le, if◌then◌else◌, option_and_then, slice_range}
+use Rattle.std.specs.Prelude.{◌==◌, ◌&&◌, nat_le, if◌then◌else◌, option_and_then}
 use Rattle.std.specs.List.{AllByRecursion, find}
 use Rattle.std.proofs.lemmas.Option.{same_Some}
 use Rattle.std.proofs.lemmas.Bool.Decides.{nat_tests}
@@ -14,8 +14,9 @@ use Rattle.h5_model.specs.Format.Messages.{Message, HasMessages, first_body}
 use Rattle.h5_model.specs.Format.Fixed.{Fixed}
 use Rattle.h5_model.specs.Format.Extent.{Extent}
 use Rattle.h5_model.specs.Tree.Places.{cells}
-use Rattle.h5_model.specs.Format.Layout.{InMessage, InBlock, InChunks, layout_of, compact_layout, contiguous_layout, chunked_layout}
+use Rattle.h5_model.specs.Format.Layout.{InBlock, InChunks, layout_of, compact_layout, contiguous_layout, chunked_layout}
 use Rattle.h5_model.specs.Format.Reached.{naming_of, ObjectHeader, Data, Reached, by_block, AllMessages, extent_among, type_among, layout_among, length_of, size_at}
+use Rattle.h5_model.proofs.BodyLaws.{no_compact}
 use Rattle.h5_header.proofs.WalkLaws.MessagePlaces.{IsPlacedMessage, messages_placed}
 use Rattle.h5_header.proofs.WalkLaws.ListLaws.{all_messages}
 
@@ -41,12 +42,6 @@ contiguous_is need body b is = go (nat_le 18 (length body)) refl (number_at body
       (grind (arith, nat_tests, long), let at : block (number_at body 2 8) (number_at body 10 8) ≡ b = cc in sym at)
   go true long false false e = absurd (cc)
   go false short y z e = absurd (cc)
-
-no_compact : (need : ℕ) (body : List ℕ) (b : Block) → compact_layout need body ≡ Some (InBlock (Some b)) → ⊥
-no_compact need body b is = go (nat_le 4 (length body) && nat_le (4 + number_at body 2 2) (length body) && nat_le need (number_at body 2 2)) is where
-  go : (x : Bool) → (if x then Some (InMessage (slice_range body 4 (4 + need))) else None) ≡ Some (InBlock (Some b)) → ⊥
-  go true e = let no : InMessage (slice_range body 4 (4 + need)) ≡ InBlock (Some b) = same_Some (InMessage (slice_range body 4 (4 + need))) (InBlock (Some b)) e in cc
-  go false e = cc
 
 no_chunked : (rank size : ℕ) (body : List ℕ) (b : Block) (l : Bool) (x : List ℕ) (r : Option ℕ) → (if l then Some (InChunks x r) else None) ≡ Some (InBlock (Some b)) → ⊥
 no_chunked rank size body b true x r e = let no : InChunks x r ≡ InBlock (Some b) = same_Some (InChunks x r) (InBlock (Some b)) e in cc

@@ -10,10 +10,11 @@ use Rattle.h5_model.specs.Format.Reached.{Named, naming_of, ObjectHeader, Contin
 use Rattle.h5_model.specs.Faults.Breaches.{is_header, IsOverlap}
 use Rattle.h5_model.specs.declared.open_fault.Cause.{Cause}
 use Rattle.h5_model.specs.declared.open_fault.Cause.TheVariants.{Truncated, Overlap, MissingMessage, LinkCount, GroupLinkedTwice, TooLarge, NoMemory}
+use Rattle.h5_model.proofs.Members.{all_both}
 use Rattle.h5_space.specs.Claimed.{Shares}
 use Rattle.h5_header.specs.Refused.{NamesBlock, header_block, IsHeaderRefused}
 use Rattle.h5_header.specs.Walk.Walked.{IsWalked, Breaches}
-use Rattle.h5_header.proofs.WalkLaws.WalkedLaws.{IsOther, overlap_of, not_followed, meet_of, some_length, both_of}
+use Rattle.h5_header.proofs.WalkLaws.WalkedLaws.{IsOther, overlap_of, not_followed, meet_of, some_length}
 
 module _ (image : List ℕ) (held' : List Block) (followed : List Named) (walked : IsWalked image held' followed)
     (field header depth : ℕ) (reached : Reached image (naming_of field ObjectHeader header depth))
@@ -49,7 +50,7 @@ module _ (image : List ℕ) (held' : List Block) (followed : List Named) (walked
       none = let same : at + 8 - 8 ≡ at = omega arith in rw same fresh
 
       z_others : AllByRecursion (IsOther z) followed
-      z_others = both_of (λ y. y.field ≢ at + 8) (λ y. y.at ≡ b.at → IsTrue (not (false && is_header y.role))) followed
+      z_others = all_both (λ y. y.field ≢ at + 8) (λ y. y.at ≡ b.at → IsTrue (not (false && is_header y.role))) followed
           (not_followed image held' followed walked (at + 8) (omega arith) none) (all_single followed) where
             all_single : (ys : List Named) → AllByRecursion (λ y. y.at ≡ b.at → IsTrue (not (false && is_header y.role))) ys
             all_single [] = tt

@@ -8,7 +8,7 @@ use Rattle.h5_model.specs.declared.edits.Edit.TheVariants.{Unlink}
 use Rattle.h5_model.proofs.PathLaws.{beside, locate-beside}
 use Rattle.h5_model.specs.Tree.Objects.{Tree, Links, Link, ToObject, links_of, link_in, only_reached}
 use Rattle.h5_laws.specs.Trees.Unlinked.{tree_left, without_link}
-use Rattle.h5_laws.proofs.SoundLaws.LinksThere.{GroupAt, group_of, link_is, links_are}
+use Rattle.h5_laws.proofs.SoundLaws.LinksThere.{GroupAt, group_of, link_is}
 
 -- what stands at a path stands in the group before its last name
 there_beside : (tree : Tree) (p : ℕ × List ℕ) (link : Link) → beside tree p ≡ Here link → (g : GroupAt tree p.0) × (get g.links p.1 ≡ Some link)
@@ -40,10 +40,6 @@ module _ (tree : Tree) (path : List ℕ) (parent : ℕ) (name : List ℕ) (found
   module _ (link : Link) (here : location_of tree path ≡ Here link) where
     there : (g : GroupAt tree parent) × (get g.links name ≡ Some link)
     there = there_beside tree (parent, name) link (sym (located_beside tree path (parent, name) found) ∙ here)
-
-    -- the link stands in its group
-    pub unlinked_there : (links : Links) × (links_of tree parent ≡ Some links) × (get links name ≡ Some link)
-    unlinked_there = let at = there in ((at.0).links, links_are tree parent at.0, at.1)
 
     pub unlinked_is : link_in tree parent name ≡ Some link
     unlinked_is = let at = there in link_is tree parent at.0 name ∙ at.1

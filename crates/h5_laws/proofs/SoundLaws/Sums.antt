@@ -12,9 +12,9 @@ use Rattle.std.specs.FinMap.Entries.{below_all, by_order}
 use Rattle.std.proofs.lemmas.Bool.{cases_lt}
 use Rattle.std.proofs.lemmas.List.Sums.{sum_by-cons}
 use Rattle.h5_model.proofs.ReachLaws.{halves, below_entry}
+use Rattle.h5_model.proofs.TextOrder.{is_less}
 use Rattle.h5_laws.proofs.Lists.{In}
 use Rattle.h5_laws.proofs.Maps.{true_of, to_entry, get_of_entry}
-use Rattle.h5_laws.proofs.Ascending.{less_of}
 use Rattle.h5_laws.proofs.SoundLaws.Inserted.{insert_other, put_again, removed_here}
 
 abbrev pub weight : {X : Type 0} → (X → ℕ) → Option X → ℕ
@@ -26,7 +26,7 @@ module _ {K X : Type 0} {R : K → K → Ordering} (o : IsTotalOrder R) where
   lower x k [] low below = refl
   lower x k (e ∷ es) low below =
       let split : T (is_lt (R x e.0)) × T (below_all R x es) = halves _ _ below in
-      ap (λ r. cond (is_eq r) (Some e.1) (find R k es)) (o.trans k x e.0 low (less_of _ (true_of _ split.0))) ∙ lower x k es low split.1
+      ap (λ r. cond (is_eq r) (Some e.1) (find R k es)) (o.trans k x e.0 low (is_less _ (true_of _ split.0))) ∙ lower x k es low split.1
 
   -- the key of an entry is not that of a later one
   above : (e : K × X) (es : List (K × X)) (k : K) (v : X) → T (below_all R e.0 es) → In (k, v) es → k ≡ e.0 → ⊥

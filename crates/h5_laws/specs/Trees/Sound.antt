@@ -2,6 +2,7 @@
 -- sections III.B, III.C and IV.A.2.r).
 use Rattle.std.specs.Prelude.{◌≡◌, ℕ, ◌+◌, ◌≤◌, ◌==◌, true, false, IsSome, Some, if◌then◌else◌, List, length}
 use Rattle.std.specs.FinMap.{get}
+use Rattle.h5_model.specs.Format.Limits.{most_hard_links}
 use Rattle.h5_model.specs.Tree.Paths.{is_name}
 use Rattle.h5_model.specs.Edits.Refusal.{has_zero}
 use Rattle.h5_model.specs.Tree.Objects.{Tree, ToObject, Soft, follow, hard_links, link_in, links_of}
@@ -16,4 +17,4 @@ pub record IsSoundTree (tree : Tree) : Type 0 where
   pub reached : (number : ℕ) → IsSome (get tree number) → (path : List (List ℕ)) × (follow tree (ToObject 0) path ≡ Some (ToObject number))
   pub shallow : (path : List (List ℕ)) → IsSome (follow tree (ToObject 0) path) → length path ≤ 64
   pub once : (number : ℕ) → IsSome (links_of tree number) → hard_links tree number + (if number == 0 then 1 else 0) ≡ 1
-  pub few : (number : ℕ) → IsSome (get tree number) → hard_links tree number ≤ 65535
+  pub few : (number : ℕ) → IsSome (get tree number) → hard_links tree number ≤ most_hard_links

@@ -1,6 +1,7 @@
 -- When an edit is refused for the image: what the image says decides, beside the tree.
 use Rattle.std.specs.Prelude.{ℕ, ◌+◌, ◌<◌, ◌&&◌, Bool, true, false, not, Option, Some, None, IsTrue, IsFalse, nat_lt, is_none, if◌then◌else◌, List, [], ◌∷◌, length}
 use Rattle.std.specs.Option.{option_map_or}
+use Rattle.h5_model.specs.Format.Messages.{most_messages}
 use Rattle.h5_model.specs.Format.Limits.{most_bytes}
 use Rattle.h5_model.specs.Tree.Objects.{Tree, Dataset, Storage, Chunked}
 use Rattle.h5_model.specs.Tree.Paths.{dataset_at}
@@ -42,7 +43,7 @@ must_add r _ = false
 
 -- the header's total is 16 bits wide, and a Continuation may come with the message
 abbrev pub is_header_full : Facts → Edit → Bool
-is_header_full f edit = must_add f.room edit && nat_lt 65535 (f.total + 2)
+is_header_full f edit = must_add f.room edit && nat_lt most_messages (f.total + 2)
 
 -- the image would have more than `most_bytes`
 abbrev pub is_image_full : Facts → Tree → Edit → Bool

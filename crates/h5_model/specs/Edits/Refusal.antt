@@ -1,10 +1,10 @@
 -- When an edit is refused: the lowest rule that holds. Beside these rules stand the image's and memory's (ImageAnswers).
-use Rattle.std.specs.Prelude.{ℕ, ◌*◌, ◌^◌, ◌==◌, ◌&&◌, ◌||◌, Bool, true, false, not, nat_lt, nat_le, if◌then◌else◌, Option, Some, None, List, [], ◌∷◌, length, is_some, is_none}
+use Rattle.std.specs.Prelude.{ℕ, ◌*◌, ◌==◌, ◌&&◌, ◌||◌, Bool, true, false, not, nat_lt, nat_le, if◌then◌else◌, Option, Some, None, List, [], ◌∷◌, length, is_some, is_none}
 use Rattle.std.specs.FinMap.{get, contains_key}
 use Rattle.std.specs.List.{list_any, list_all}
 use Rattle.std.specs.Option.{option_map_or, option_and_then}
 use Rattle.h5_bytes.specs.Bytes.{undefined_address}
-use Rattle.h5_model.specs.Format.Limits.{most_dimensions, most_names, most_cells, most_hard_links}
+use Rattle.h5_model.specs.Format.Limits.{most_cells, most_chunk_bytes, most_dimensions, most_hard_links, most_names}
 use Rattle.h5_model.specs.Format.Fixed.{fits}
 use Rattle.h5_model.specs.Tree.Places.{cells, extent_cells}
 use Rattle.h5_model.specs.Views.Selection.{Slab, axes_of, has_rank, has_no_stride, overlaps, is_within, selected_cells}
@@ -186,7 +186,7 @@ is_above tree _ = false
 -- ---- limits
 
 abbrev pub chunk_is_large : Store (List ℕ) → ℕ → Bool
-chunk_is_large (store.Chunked chunk) size = nat_lt (2 ^ 30) (cells chunk * size)
+chunk_is_large (store.Chunked chunk) size = nat_lt most_chunk_bytes (cells chunk * size)
 chunk_is_large _ size = false
 
 abbrev pub has_large_chunk : Edit → Bool

@@ -1,10 +1,10 @@
 -- Rules that an object header breaks (File Format Specification 3.0, sections IV.A.1.a and IV.A.2).
-use Rattle.std.specs.Prelude.{◌≡◌, ◌≢◌, ℕ, ◌+◌, ◌*◌, ◌^◌, ◌%◌, ◌<◌, ◌==◌, ◌||◌, ◌⊎◌, Bool, IsTrue, not, bit_and, Option, Some, None, List, [], ◌∷◌, map, length}
+use Rattle.std.specs.Prelude.{◌≡◌, ◌≢◌, ℕ, ◌+◌, ◌*◌, ◌%◌, ◌<◌, ◌==◌, ◌||◌, ◌⊎◌, Bool, IsTrue, not, bit_and, Option, Some, None, List, [], ◌∷◌, map, length}
 use Rattle.std.specs.Ordering.{nat_cmp, eq_by_cmp}
 use Rattle.std.specs.Cmp.Lexicographic.{slice_cmp}
 use Rattle.std.specs.List.{list_any, filter, filter_map, Contains, IsDistinct}
 use Rattle.h5_bytes.specs.Bytes.{byte_at}
-use Rattle.h5_model.specs.Format.Limits.{most_cells}
+use Rattle.h5_model.specs.Format.Limits.{most_cells, most_chunk_bytes}
 use Rattle.h5_model.specs.Format.MessageTypes.{nil_kind, dataspace_kind, link_info_kind, datatype_kind, old_fill_value_kind, fill_value_kind, link_kind, external_files_kind, data_layout_kind, group_info_kind, filter_pipeline_kind, attribute_kind, comment_kind, old_modification_time_kind, continuation_kind, symbol_table_kind, modification_time_kind}
 use Rattle.h5_model.specs.Format.Messages.{Message, prefix_at, total_in, count_of}
 use Rattle.h5_model.specs.Format.Addresses.{symbol_table_of}
@@ -66,7 +66,7 @@ IsLarge ms =
     SomeBody dataspace_kind ms (λ body. (e : Extent) × (extent_of body ≡ Some e) × (most_cells < extent_cells e.sizes))
     ⊎ (SomeBody attribute_kind ms (λ body. (a : List ℕ × Attribute) × (attribute_of body ≡ Some a) × (most_cells < extent_cells (a.1).sizes))
     ⊎ ((t : Fixed) × (sizes : List ℕ) × (root : Option ℕ) × (type_among ms ≡ Some t)
-    × (layout_among ms ≡ Some (InChunks sizes root)) × (2 ^ 30 < cells sizes * t.size)))
+    × (layout_among ms ≡ Some (InChunks sizes root)) × (most_chunk_bytes < cells sizes * t.size)))
 
 -- a rule on all messages of a header
 abbrev pub ListBreach : List ℕ → ℕ → List Message → Cause → Type 0

@@ -1,6 +1,6 @@
 -- An array as the messages of its object header describe it (File Format Specification 3.0, section IV.A.2).
-use Rattle.std.specs.Prelude.{◌≡◌, ℕ, ◌*◌, ◌^◌, ◌≤◌, ◌&&◌, nat_lt, is_some, IsSome, ℤ, Option, Some, None, List, option_and_then}
-use Rattle.h5_model.specs.Format.Limits.{most_cells}
+use Rattle.std.specs.Prelude.{◌≡◌, ℕ, ◌*◌, ◌≤◌, ◌&&◌, nat_lt, is_some, IsSome, ℤ, Option, Some, None, List, option_and_then}
+use Rattle.h5_model.specs.Format.Limits.{most_cells, most_chunk_bytes}
 use Rattle.h5_model.specs.Format.MessageTypes.{dataspace_kind, datatype_kind, old_fill_value_kind, fill_value_kind, data_layout_kind}
 use Rattle.h5_model.specs.Format.Messages.{Message, count_of, first_body}
 use Rattle.h5_model.specs.Format.Fixed.{Fixed}
@@ -46,7 +46,7 @@ pub record HasFill (messages : List Message) (t : Fixed) (fill : ℤ) : Type 0 w
 
 -- a chunk has at most 2^30 bytes
 abbrev pub IsChunkSmall : Fixed → Layout → Type 0
-IsChunkSmall t (InChunks chunk_sizes root) = cells chunk_sizes * t.size ≤ 2 ^ 30
+IsChunkSmall t (InChunks chunk_sizes root) = cells chunk_sizes * t.size ≤ most_chunk_bytes
 IsChunkSmall t _ = Unit {0}
 
 -- The messages of a header describe this array.

@@ -9,6 +9,10 @@ most_dimensions = 32
 abbrev pub most_cells : ℕ
 most_cells = 2 ^ 40
 
+-- the bytes of a chunk
+abbrev pub most_chunk_bytes : ℕ
+most_chunk_bytes = 2 ^ 30
+
 -- the names of a path
 abbrev pub most_names : ℕ
 most_names = 64

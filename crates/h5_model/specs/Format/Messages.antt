@@ -23,6 +23,10 @@ pub record IsMessage (block_at : ℕ) (bytes : List ℕ) (at : ℕ) (m : Message
   pub padded : number_at bytes (at + 2) 2 % 8 ≡ 0
   pub own : bit_and (byte_at bytes (at + 4)) 2 ≡ 0
 
+-- the most messages that a header has: its prefix counts them in two bytes
+abbrev pub most_messages : ℕ
+most_messages = 65535
+
 -- these messages fill a block's bytes, one after another from this place on
 abbrev pub Fills : ℕ → List ℕ → ℕ → List Message → Type 0
 Fills block_at bytes at [] = at ≡ length bytes

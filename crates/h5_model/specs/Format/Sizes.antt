@@ -4,6 +4,7 @@ use Rattle.std.specs.Prelude.{ℕ, ◌+◌, ◌*◌, Bool, true, not, nat_lt, if
 use Rattle.std.specs.FinMap.{entries, len}
 use Rattle.std.specs.Option.{option_map_or}
 use Rattle.h5_bytes.specs.Texts.{pad8}
+use Rattle.h5_model.specs.Format.Messages.{most_messages}
 use Rattle.h5_model.specs.Tree.Places.{cells}
 use Rattle.h5_model.specs.Tree.Objects.{Object, Content, Group, Array, Storage, Compact, Contiguous, Chunked, Attribute, Kept, are_sizes}
 
@@ -61,10 +62,10 @@ layout_size sizes (Chunked chunk) size = 11 + 4 * (length chunk + 1)
 
 -- ---- headers
 
--- Dataspace, datatype, fill and layout. The fill is left out where a header with so many other messages would have more than 65535.
+-- Dataspace, datatype, fill and layout. The fill is left out where a header with so many other messages would have too many.
 abbrev pub array_messages_size : ℕ → List ℕ → List (Option ℕ) → Storage → ℕ → ℕ
 array_messages_size others sizes maxima storage size =
-    message_size (extent_size sizes maxima storage) + message_size 12 + (if nat_lt 65535 (4 + others) then 0 else message_size (8 + size))
+    message_size (extent_size sizes maxima storage) + message_size 12 + (if nat_lt most_messages (4 + others) then 0 else message_size (8 + size))
     + message_size (layout_size sizes storage size)
 
 -- the messages of the content: a Symbol Table, or those of an array

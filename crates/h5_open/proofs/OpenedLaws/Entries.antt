@@ -11,13 +11,14 @@ use Rattle.h5_model.specs.Format.Addresses.{SymbolTable}
 use Rattle.h5_model.specs.Format.Symbols.{Target}
 use Rattle.h5_model.specs.Format.Links.{Before, Ascend}
 use Rattle.h5_model.specs.Tree.Objects.{Link, Object, Tree}
+use Rattle.h5_model.proofs.TextOrder.{is_less}
 use Rattle.h5_group.specs.Told.{links_told}
 use Rattle.h5_group.specs.Links.{IsGroupRead}
 use Rattle.h5_open.specs.declared.opened.object.OpenedObject.{OpenedObject}
-use Rattle.h5_open.specs.Opened.Objects.{header_of, headers, numbered_from, objects_of, slots_of, standing, link_to, links_by, object_in, table_of, tree_of}
+use Rattle.h5_open.specs.Opened.Objects.{header_of, headers, numbered_from, slots_of, standing, link_to, links_by, object_in, table_of, tree_of}
 use Rattle.h5_laws.proofs.Lists.{In, in_map, from_map}
 use Rattle.h5_laws.proofs.Maps.{found_value, get_of_entry}
-use Rattle.h5_laws.proofs.Ascending.{less_of, before_trans}
+use Rattle.h5_laws.proofs.Ascending.{before_trans}
 use Rattle.h5_laws.proofs.Numbered.{joined, less_holds}
 use Rattle.h5_open.proofs.OpenedLaws.Made.{entries_made, entries_numbered, entries_standing, get_numbered, get_standing}
 
@@ -60,12 +61,6 @@ module _ (objects : List OpenedObject) where
   dense_told f n [] = refl
   dense_told {X = X} f n (o ∷ os) = ap (λ (es : List (ℕ × X)). (n, f o) ∷ es) (dense_told f (n + 1) os)
 
-  pub objects_dense : objects_of (slots_of objects) ≡ objects
-  objects_dense = go objects where
-    go : (os : List OpenedObject) → objects_of (slots_of os) ≡ os
-    go [] = refl
-    go (o ∷ os) = ap (λ (xs : List OpenedObject). o ∷ xs) (go os)
-
   pub table_dense : table_of (slots_of objects) ≡ from_entries (numbered_from 0 (headers objects))
   table_dense = ap (λ (es : List (ℕ × ℕ)). from_entries es) (dense_told header_of 0 objects)
 
@@ -94,9 +89,9 @@ abbrev pub named_links : FinMap nat_cmp ℕ → List (List ℕ × Target) → Li
 named_links table found = map (λ (l : List ℕ × Target). (l.0, link_to table l.1)) found
 
 below_names : (table : FinMap nat_cmp ℕ) (x : List ℕ) (b : List ℕ × Target) (more : List (List ℕ × Target)) → Before x b.0 → Ascend (b ∷ more) → T (below_all (slice_cmp nat_cmp) x (named_links table (b ∷ more)))
-below_names table x b [] h rise = joined _ _ (less_holds (slice_cmp nat_cmp x b.0) (less_of (slice_cmp nat_cmp x b.0) h)) tt
+below_names table x b [] h rise = joined _ _ (less_holds (slice_cmp nat_cmp x b.0) (is_less (slice_cmp nat_cmp x b.0) h)) tt
 below_names table x b (c ∷ more) h rise =
-    joined _ _ (less_holds (slice_cmp nat_cmp x b.0) (less_of (slice_cmp nat_cmp x b.0) h)) (below_names table x c more (before_trans x b.0 c.0 h rise.0) rise.1)
+    joined _ _ (less_holds (slice_cmp nat_cmp x b.0) (is_less (slice_cmp nat_cmp x b.0) h)) (below_names table x c more (before_trans x b.0 c.0 h rise.0) rise.1)
 
 sorted_names : (table : FinMap nat_cmp ℕ) (found : List (List ℕ × Target)) → Ascend found → T (is_sorted (slice_cmp nat_cmp) (named_links table found))
 sorted_names table [] rise = tt

@@ -9,9 +9,9 @@ use Rattle.std.specs.FinMap.{find, get, entries, len, put, is_sorted, from_entri
 use Rattle.std.specs.FinMap.Entries.{below_all, by_order}
 use Rattle.h5_model.proofs.MapSteps.{entries-empty}
 use Rattle.h5_model.proofs.ReachLaws.{halves}
+use Rattle.h5_model.proofs.TextOrder.{is_less}
 use Rattle.h5_laws.specs.Numbered.{numbered_from}
 use Rattle.h5_laws.proofs.Maps.{true_of}
-use Rattle.h5_laws.proofs.Ascending.{less_of}
 use Rattle.h5_laws.proofs.Numbered.{joined, less_holds, sorted_numbered, found_numbered}
 use Rattle.h5_open.specs.Opened.Objects.{standing}
 
@@ -20,7 +20,7 @@ use Rattle.h5_open.specs.Opened.Objects.{standing}
 put_first : {K X : Type 0} (R : K → K → Ordering) (k : K) (v : X) (es : List (K × X)) → T (below_all R k es) → put R k v es ≡ (k, v) ∷ es
 put_first R k v [] h = refl
 put_first R k v (e ∷ es) h =
-    let less : R k e.0 ≡ Less = less_of (R k e.0) (true_of (is_lt (R k e.0)) (halves (is_lt (R k e.0)) (below_all R k es) h).0) in
+    let less : R k e.0 ≡ Less = is_less (R k e.0) (true_of (is_lt (R k e.0)) (halves (is_lt (R k e.0)) (below_all R k es) h).0) in
     ap (λ (r : Ordering). by_order r ((k, v) ∷ e ∷ es) ((e.0, v) ∷ es) (e ∷ put R k v es)) less
 
 pub entries_made : {K X : Type 0} {R : K → K → Ordering} → IsTotalOrder R → (es : List (K × X)) → T (is_sorted R es) → entries (from_entries {R = R} es) ≡ es

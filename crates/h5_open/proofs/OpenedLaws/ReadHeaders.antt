@@ -9,7 +9,7 @@ use Rattle.std.specs.FinMap.Entries.{below_all}
 use Rattle.h5_model.specs.Format.Reads.{Placed, Holds, Reads}
 use Rattle.h5_model.specs.Tree.Objects.{Tree}
 use Rattle.h5_model.proofs.ReachLaws.{halves}
-use Rattle.h5_laws.proofs.Ascending.{less_of}
+use Rattle.h5_model.proofs.TextOrder.{is_less}
 use Rattle.h5_laws.proofs.Lists.{In, in_map, from_map}
 use Rattle.h5_laws.proofs.Maps.{entry_of_get, get_of_entry, true_of}
 use Rattle.h5_laws.proofs.Pigeonhole.{Apart, no_longer}
@@ -30,7 +30,7 @@ module _ (table : FinMap nat_cmp ℕ) where
 below_in : (n : ℕ) (es : List (ℕ × ℕ)) (m h : ℕ) → T (below_all nat_cmp n es) → In (m, h) es → n < m
 below_in n [] m h low there = absurd there
 below_in n (e ∷ es) m h low (inl same) =
-    let less = less_of (nat_cmp n e.0) (true_of (is_lt (nat_cmp n e.0)) (halves (is_lt (nat_cmp n e.0)) (below_all nat_cmp n es) low).0) in
+    let less = is_less (nat_cmp n e.0) (true_of (is_lt (nat_cmp n e.0)) (halves (is_lt (nat_cmp n e.0)) (below_all nat_cmp n es) low).0) in
     subst (λ (k : ℕ). n < k) (ap (λ (x : ℕ × ℕ). x.0) same) (ranked n e.0 Less (sym less))
 below_in n (e ∷ es) m h low (inr there) = below_in n es m h (halves (is_lt (nat_cmp n e.0)) (below_all nat_cmp n es) low).1 there
 

@@ -2,6 +2,7 @@
 -- section IV.A.1.a).
 use Rattle.std.specs.Prelude.{◌≡◌, ◌≢◌, ℕ, ◌+◌, ◌<◌, ◌≤◌, Some, List, length, slice_get, slice_index}
 use Rattle.std.specs.List.{Contains}
+use Rattle.h5_model.specs.Format.Limits.{most_hard_links}
 use Rattle.h5_model.specs.Format.Messages.{prefix_at, reference_count}
 use Rattle.h5_model.specs.Format.Symbols.{Target}
 use Rattle.h5_model.specs.declared.open_fault.Cause.{Cause}
@@ -15,7 +16,7 @@ use Rattle.h5_open.specs.Counted.Links.{leading, all_links}
 -- and one to a group.
 pub record IsCount (image : List ℕ) (objects : List OpenedObject) (waiting : List (List ℕ × Target)) (o : OpenedObject) (count : ℕ) : Type 0 where
   pub exact : count + leading o.messages.header waiting ≡ leading o.messages.header (all_links image objects)
-  pub limit : count ≤ 65535
+  pub limit : count ≤ most_hard_links
   pub once : IsGroupContent o.content → count ≤ 1
 
 -- The links of these objects were followed and counted, those aside that wait. Each that was followed leads to one of the objects.
@@ -27,12 +28,12 @@ pub record AreCounted (image : List ℕ) (objects : List OpenedObject) (counts :
 -- one link more may lead to an object to which so many do
 pub record MayBeLinked (o : OpenedObject) (count : ℕ) : Type 0 where
   pub array : IsGroupContent o.content → ⊥
-  pub limit : count < 65535
+  pub limit : count < most_hard_links
 
 -- or why it may not
 abbrev pub IsLinkedFully : OpenedObject → ℕ → Cause → Type 0
 IsLinkedFully o count GroupLinkedTwice = IsGroupContent o.content
-IsLinkedFully o count TooLarge = 65535 ≤ count
+IsLinkedFully o count TooLarge = most_hard_links ≤ count
 IsLinkedFully o count cause = ⊥
 
 pub record IsRefusedAgain (o : OpenedObject) (count : ℕ) (cause : Cause) (address : ℕ) : Type 0 where

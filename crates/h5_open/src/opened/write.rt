@@ -42,17 +42,18 @@ impl Opened {
     ///
     /// These are the caller's conditions: the object with the number is an array, it has the cells of these runs, no run
     /// is empty, the cells are stored, there is one value for each, and the values are of its type.
-    pub fn write_cells(&mut self, number: u32, runs: CellRuns, values: &Buffer<'_>)
+    pub fn write_cells(&mut self, number: u32, runs: CellRuns<'_>, values: &Buffer<'_>)
         requires run { (d : Dataset) × AreRunsStored self.old number runs values.now d }
         ensures changed { self.new ≡ record self.old {
           image = self.new.image;
-          tree = with_object self.old.tree number (with_dataset (with_places (places_in runs) values.now));
+          tree = with_object self.old.tree number
+              (with_dataset (with_places (places_in runs.entry) values.now));
         } }
         ensures k { k_values self.new.image ≡ k_values self.old.image }
         ensures sound { IsSound self.new }
         ensures whole { IsWholeFile self.old → IsWholeFile self.new }
         ensures in_place { IsChangedInPlace self.old self.new
-            (with_object self.old.tree number (with_dataset (with_places (places_in runs) values.now)))
+            (with_object self.old.tree number (with_dataset (with_places (places_in runs.entry) values.now)))
             self.old.next (number ∷ []) 0 }
         ensures stored { (p : ℕ) → IsCellStored self.old number p → IsCellStored self.new number p }
         ensures local { (a : Described) (there : IsArrayThere self.old number a)
@@ -93,13 +94,19 @@ impl Opened {
 /// in their order. The array's header is read once, and what is kept of the objects stays right.
 ///
 /// These are the caller's conditions: the index is the image's, and those of `Opened::write_cells`.
-fn write_runs(image: &mut Image, index: &Index, number: u32, runs: CellRuns, values: &Buffer<'_>)
+fn write_runs(
+    image: &mut Image,
+    index: &Index,
+    number: u32,
+    runs: CellRuns<'_>,
+    values: &Buffer<'_>,
+)
     requires opened { IsOpened image.old index.now.objects.items index.now.numbers }
     requires run { (d : Dataset)
         × AreRunsStored (opened_state image.old index.now.objects.items) number runs values.now d }
     ensures opened { IsOpened image.new index.now.objects.items index.now.numbers }
     ensures written { AreWrittenAt (opened_state image.old index.now.objects.items)
-        number (places_in runs) values.now (opened_state image.new index.now.objects.items) }
+        number (places_in runs.entry) values.now (opened_state image.new index.now.objects.items) }
 {
     let object = index.objects[number as usize].as_ref().unwrap();
     let mut places = CellPlaces::new(&HeaderRef::new(image, &object.messages));

@@ -1,5 +1,5 @@
 -- An attribute of the plain layout is read back from its message (File Format Specification 3.0, section IV.A.2.m).
-use Rattle.std.proofs.Common.{◌≡◌, ℕ, ◌+◌, ◌-◌, ◌*◌, ◌%◌, ◌^◌, ◌<◌, ◌≤◌, List, [], ◌∷◌, length, length-append, map, replicate, refl, sym, ap, ◌∙◌, subst, arith, true, false, ℤ, Option, Some, None}
+use Rattle.std.proofs.Common.{◌≡◌, ℕ, ◌+◌, ◌-◌, ◌*◌, ◌%◌, ◌^◌, ◌<◌, ◌≤◌, List, [], ◌∷◌, length, length-append, map, replicate, refl, sym, ap, ◌∙◌, subst, arith, false, ℤ, Option, Some, None}
 use Rattle.std.proofs.lemmas.List.{length-replicate}
 use Rattle.std.specs.Prelude.{T, unwrap_or}
 use Rattle.std.specs.Option.{option_map_or}
@@ -7,14 +7,13 @@ use Rattle.std.specs.Ordering.{nat_cmp, eq_by_cmp, is_lt, is_eq}
 use Rattle.std.specs.declared.cmp.Ordering.{Ordering}
 use Rattle.std.specs.declared.cmp.Ordering.TheVariants.{Less, Equal, Greater}
 use Rattle.std.specs.Cmp.Lexicographic.{slice_cmp, nat_list_cmp_total}
-use Rattle.std.specs.List.{AllByRecursion, IsDistinct, list_all}
+use Rattle.std.specs.List.{AllByRecursion, IsDistinct}
 use Rattle.std.specs.FinMap.{entries, from_entries, entries_sorted, is_sorted, same_map, get-entries, get-from_entries, nat_cmp-IsAntisymmetric, slice_cmp-IsAntisymmetric}
 use Rattle.std.specs.FinMap.Entries.{below_all}
 use Rattle.h5_bytes.specs.Texts.{pad8}
-use Rattle.h5_model.specs.Format.Fixed.{Fixed, fits}
+use Rattle.h5_model.specs.Format.Fixed.{Fixed}
 use Rattle.h5_model.specs.Tree.Places.{cells, extent_cells}
 use Rattle.h5_model.specs.Format.Sizes.{attribute_size}
-use Rattle.h5_model.specs.Tree.Sound.{AreOf}
 use Rattle.h5_model.specs.Tree.Objects.{Attribute, Attributes}
 use Rattle.h5_model.specs.Format.AttributeBody.{attribute_of}
 use Rattle.h5_model.proofs.PlainMessages.{IsPlain}
@@ -25,6 +24,7 @@ use Rattle.h5_msg.proofs.DataspaceLaws.{Small, small_from}
 use Rattle.h5_model.proofs.PlainValues.{length-cells_bytes}
 use Rattle.h5_msg.proofs.AttributeBack.{attribute_back}
 use Rattle.h5_layout.proofs.ExtentBounds.{sizes_below}
+use Rattle.h5_layout.proofs.BufferLaws.{all_fit}
 use Rattle.h5_repack.specs.Bodies.Bodies.{attribute_body, attribute_message}
 use Rattle.h5_repack.specs.Bodies.Sound.{IsPlainAttribute, IsPlainBody}
 
@@ -36,10 +36,6 @@ all_small (d ∷ ds) all = (omega (arith, all.0), all_small ds all.1)
 
 pub sizes_small : (sizes : List ℕ) → extent_cells sizes ≤ 2 ^ 40 → Small sizes
 sizes_small sizes few = small_from sizes (all_small sizes (sizes_below sizes (2 ^ 40) few))
-
-pub all_fit : (t : Fixed) (values : List ℤ) → AreOf t values → list_all (fits t) values ≡ true
-all_fit t [] all = refl
-all_fit t (v ∷ vs) all = rw (all.0, all_fit t vs all.1) refl
 
 -- ---- the body of one attribute
 

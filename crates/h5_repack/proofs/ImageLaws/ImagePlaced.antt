@@ -1,5 +1,5 @@
 -- The objects of a plain image in the order of their numbers, and that their blocks hold each byte behind the superblock once.
-use Rattle.std.proofs.Common.{◌≡◌, ℕ, ◌+◌, ◌-◌, ◌≤◌, List, [], ◌∷◌, map, refl, sym, ap, ap₂, ◌∙◌, subst, arith, inl, inr, Bool, Some}
+use Rattle.std.proofs.Common.{◌≡◌, ℕ, ◌+◌, ◌-◌, ◌≤◌, List, [], ◌∷◌, map, refl, sym, ap, ap₂, ◌∙◌, subst, inl, inr, Bool, Some}
 use Rattle.std.specs.Prelude.{T, ◌&&◌}
 use Rattle.std.specs.Ordering.{nat_cmp, is_lt}
 use Rattle.std.specs.Cmp.{nat_cmp_total}
@@ -22,10 +22,7 @@ use Rattle.h5_repack.proofs.ImageLaws.Sorted.{same_sorted}
 use Rattle.h5_repack.proofs.ImageLaws.Totals.{total}
 use Rattle.h5_model.specs.declared.k_values.KValues.{KValues}
 use Rattle.h5_model.specs.Format.Plain.{plain_superblock_length}
-
-inside_more : (m n : ℕ) (bs : List Block) → m ≤ n → Inside m bs → Inside n bs
-inside_more m n [] low inside = tt
-inside_more m n (b ∷ bs) low inside = (omega (arith, inside.0, low), inside_more m n bs low inside.1)
+use Rattle.h5_model.proofs.Frames.{inside_longer}
 
 module _ (image : List ℕ) (k : KValues) (counts : ℕ → ℕ) (tree : Tree) (order : Objects) where
   abbrev AreLocated : Objects → Type 0
@@ -55,7 +52,7 @@ module _ (image : List ℕ) (k : KValues) (counts : ℕ → ℕ) (tree : Tree) (
   all_inside [] all = tt
   all_inside (e ∷ es) all =
       all_append (λ (b : Block). b.at + b.len ≤ image_end k counts order) ((all.0).stands).blocks (flat_map (λ (x : Placed). x.blocks) (placed_of es all.1))
-      (inside_more ((all.0).place + object_length k (counts e.0) e.1) (image_end k counts order) ((all.0).stands).blocks (all.0).low ((all.0).stands).within)
+      (inside_longer ((all.0).place + object_length k (counts e.0) e.1) (image_end k counts order) (all.0).low ((all.0).stands).blocks ((all.0).stands).within)
       (all_inside es all.1)
 
   -- ---- the table

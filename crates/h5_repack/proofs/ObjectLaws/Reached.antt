@@ -5,13 +5,11 @@ use Rattle.std.specs.FinMap.{get}
 use Rattle.std.specs.List.{Contains}
 use Rattle.std.specs.Option.{option_and_then}
 use Rattle.h5_model.specs.Tree.Objects.{Tree, ToObject, Soft, follow, link_in}
+use Rattle.h5_model.proofs.ReachLaws.{same_object}
 use Rattle.h5_laws.specs.Trees.Sound.{IsSoundTree}
 use Rattle.h5_repack.specs.Objects.Order.{AreMet}
 use Rattle.h5_laws.proofs.Lists.{contains_in}
 use Rattle.h5_laws.proofs.AllReached.{soft_leads}
-
-same_object : (a b : ℕ) → Some (ToObject a) ≡ Some (ToObject b) → a ≡ b
-same_object a b e = cc
 
 -- with an object, each to which a path leads from it
 along : (tree : Tree) (order : List ℕ) → AreMet tree order → (path : List (List ℕ)) (from number : ℕ)

@@ -10,6 +10,7 @@ use Rattle.h5_bytes.proofs.BlockLaws.{held, holds-le}
 use Rattle.h5_model.specs.Format.Superblock.{superblock_length}
 use Rattle.h5_model.specs.Format.Reached.{Named, block_of, length_of}
 use Rattle.h5_model.specs.Faults.Breaches.{is_header, IsOverlap, Meets}
+use Rattle.h5_model.proofs.Members.{all_both}
 use Rattle.h5_space.specs.Claimed.{Shares}
 use Rattle.h5_space.specs.Walk.Walked.{IsFollowed, IsWalked}
 
@@ -41,15 +42,11 @@ meet_of image p x y here there one = go (y.at == x.at) refl where
 abbrev pub IsOther : Named → Named → Type 0
 IsOther x y = (y.field ≢ x.field) × (y.at ≡ x.at → IsTrue (not (is_header x.role && is_header y.role)))
 
-pub both_of : {A : Type 0} (P Q : A → Type 0) (xs : List A) → AllByRecursion P xs → AllByRecursion Q xs → AllByRecursion (λ x. P x × Q x) xs
-both_of P Q [] all also = tt
-both_of P Q (x ∷ xs) all also = ((all.0, also.0), both_of P Q xs all.1 also.1)
-
 module _ (image : List ℕ) (held' : List Block) (followed : List Named) (walked : IsWalked image held' followed) where
   pub overlap_of : (x : Named) → AllByRecursion (IsOther x) followed → Shares held' x.at (length_of image x) → IsOverlap image x
   overlap_of x others (p, here, taken) =
       let long = some_length p x.at (length_of image x) here in
-      let all = both_of (IsFollowed image held') (IsOther x) followed walked.all others in
+      let all = all_both (IsFollowed image held') (IsOther x) followed walked.all others in
       elim (cases_lt 0 (holds p 0 (superblock_length image))) [
         | inl first ↦
             let under = held p 0 (superblock_length image) (omega (arith, first)) in

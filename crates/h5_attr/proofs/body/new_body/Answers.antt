@@ -1,6 +1,7 @@
 use Rattle.std.proofs.Common.{ap, arith, length}
 use Rattle.h5_model.specs.Tree.Places.{cells}
-use Rattle.h5_msg.proofs.AttributeLaws.{cells_few, size_positive}
+use Rattle.h5_model.proofs.PlainValues.{size-low}
+use Rattle.h5_msg.proofs.AttributeLaws.{cells_few}
 use Rattle.h5_attr.proofs.body.new_body.Goals as goal
 
 pub attribute_length-size-requires-clause-values : goal.attribute_length-size-requires-clause-values
@@ -10,5 +11,5 @@ attribute_length-size-requires-clause-values c =
       arith,
       ap length c.as_slice-values.ensures,
       c.requires.counted,
-      cells_few 0 (cells attr.dims) (attr.fixed).size 65528 (size_positive attr.fixed c.requires.typed) (omega (arith, c.requires.room)),
+      cells_few 0 (cells attr.dims) (attr.fixed).size 65528 (size-low attr.fixed c.requires.typed) (omega (arith, c.requires.room)),
     )

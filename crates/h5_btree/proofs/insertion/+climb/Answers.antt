@@ -1,13 +1,13 @@
 use Rattle.std.proofs.Common.{◌≡◌, ◌≢◌, inr, ℕ, suc, ◌+◌, ◌*◌, ◌^◌, ◌<◌, ◌≤◌, List, [], ◌∷◌, length, take, drop, refl, sym, ap, ◌∙◌, subst, arith, rules, add-one}
 use Rattle.std.specs.List.{AllByRecursion}
 use Rattle.std.proofs.lemmas.List.{nil_from_length}
+use Rattle.h5_bytes.proofs.BlockLaws.{all_so}
 use Rattle.h5_model.specs.Format.Rows.{Node}
 use Rattle.h5_model.specs.Format.Nodes.{node_at, node_bytes, node_length}
 use Rattle.h5_btree.specs.Insertion.{IsClimbing, IsFullWay, IsPutAlong, Owns}
 use Rattle.h5_btree.specs.declared.way.Step.{Step}
 use Rattle.h5_btree.proofs.NodeLaws.{length-children}
 use Rattle.h5_btree.proofs.ClimbStands.{own_p, inside_p, form_p, entry_p}
-use Rattle.h5_btree.proofs.WaySteps.{all_map}
 use Rattle.h5_btree.proofs.InsertionEnds.{put_filled, at_root, put_back, may_raise, root_low, one_level, next_low, keys_left, bytes_left, short_left}
 use Rattle.h5_btree.proofs.InsertionAlong.{keeps_then, full_before, owns_more, owns_new, above_apart, above_keep, filled_others, comes_in, written_in, risen, halves_stay, along_before, stays}
 use Rattle.h5_btree.proofs.insertion.+climb.Goals as goal
@@ -249,8 +249,8 @@ returns-clause-along t c =
     let apart = above_apart h.start c.args.image.now c.args.kind h.root h.level c.args.node (c.in-Some.next.now ∷ c.in-Some.higher.now) c.args.j c.args.child h.list h.owned h.own now in
     let stay = stays h.start c.args.image.now c.split-new.new.image c.args.kind h.root h.level c.args.node c.in-Some.next.now c.in-Some.higher.now c.args.j c.args.child h.list h.owned h.own c.split-new.result now others in
     let mine = own_p h.start c.args.image.now c.args.kind h.root h.level c.args.node c.args.above.now c.args.j c.args.child h.list h.owned h.own h.climbs in
-    let not_p = all_map (λ (step : Step). Owns h.own step.node × (step.node ≢ c.args.node)) (λ (step : Step). c.args.node ≢ step.node) (λ step known e. known.1 (sym e)) (c.in-Some.next.now ∷ c.in-Some.higher.now) apart in
-    let not_q = all_map (λ (step : Step). Owns h.own step.node × (step.node ≢ c.args.node)) (λ (step : Step). c.split-new.result ≢ step.node) (λ step known e. (others step.node known.0).0 (sym e)) (c.in-Some.next.now ∷ c.in-Some.higher.now) apart in
+    let not_p = all_so (λ (step : Step). Owns h.own step.node × (step.node ≢ c.args.node)) (λ (step : Step). c.args.node ≢ step.node) (c.in-Some.next.now ∷ c.in-Some.higher.now) (λ step known e. known.1 (sym e)) apart in
+    let not_q = all_so (λ (step : Step). Owns h.own step.node × (step.node ≢ c.args.node)) (λ (step : Step). c.split-new.result ≢ step.node) (c.in-Some.next.now ∷ c.in-Some.higher.now) (λ step known e. (others step.node known.0).0 (sym e)) apart in
     let keep_p = c.climb.ensures.others h.start h.root (suc h.level) h.list h.owned (c.split-new.result ∷ h.own) next c.args.node (owns_more c.split-new.result c.args.node h.own mine) not_p.0 not_p.1 in
     let keep_q = c.climb.ensures.others h.start h.root (suc h.level) h.list h.owned (c.split-new.result ∷ h.own) next c.split-new.result (owns_new c.split-new.result h.own) not_q.0 not_q.1 in
     subst (λ (ws : List Step). IsPutAlong c.args.image.now.bytes c.climb.new.image.bytes c.args.kind c.args.node ws c.args.j c.args.keys.now c.args.child) (sym c.in-Some.ensures.cases.0)

@@ -1,10 +1,11 @@
 use Rattle.std.proofs.Common.{◌≡◌, ℕ, ◌*◌, List, length, take, get_or, refl, sym, ap, ◌∙◌, arith, subst, add-one}
 use Rattle.h5_model.specs.Format.Rows.{Node}
 use Rattle.h5_model.specs.Format.Nodes.{node_at, node_bytes}
+use Rattle.h5_space.proofs.AddressLaws.{all_at}
 use Rattle.h5_btree.specs.Insertion.{IsFullWay}
 use Rattle.h5_btree.specs.declared.way.Step.{Step}
 use Rattle.h5_btree.proofs.NodeLaws.{length-children}
-use Rattle.h5_btree.proofs.WaySteps.{IsStep, all_at, all_more, way_there}
+use Rattle.h5_btree.proofs.WaySteps.{IsStep, all_more, way_there}
 use Rattle.h5_btree.proofs.way.is_full_way.Goals as goal
 use Rattle.h5_btree.proofs.way.is_full_way.Goals.{After-bytes}
 
@@ -17,7 +18,7 @@ here c =
     let e = c.requires.ends in
     let way = c.steps-step-items.ensures.steps in
     let all = way_there c.args.image.now c.args.kind e.0 e.1 c.args.way.now e.2 e.3 e.4 e.5 in
-    all_at (IsStep c.args.image.now c.args.kind) c.steps-step-items.result.now c.loop-step.step-index none c.loop-step-test.true (rw way all)
+    all_at (IsStep c.args.image.now c.args.kind) c.steps-step-items.result.now c.loop-step.step-index none (rw way all) c.loop-step-test.true
 
 pub node_there-requires-clause-inside : goal.node_there-requires-clause-inside
 node_there-requires-clause-inside c = rw c.bytes.ensures ((here c).0)

@@ -3,11 +3,11 @@ use Rattle.std.specs.Prelude.{nat_le}
 use Rattle.std.specs.List.{AllByRecursion}
 use Rattle.std.proofs.lemmas.List.{take_all}
 use Rattle.h5_model.specs.Format.Nodes.{node_at}
+use Rattle.h5_space.proofs.AddressLaws.{all_at}
 use Rattle.h5_btree.specs.Held.{IsStepThere}
 use Rattle.h5_btree.specs.Widened.{end_at, ends_along}
 use Rattle.h5_btree.specs.declared.way.Step.{Step}
 use Rattle.h5_btree.specs.declared.widening.End.{End}
-use Rattle.h5_btree.proofs.WaySteps.{all_at}
 use Rattle.h5_btree.proofs.HeldKeys.{way_steps}
 use Rattle.h5_btree.proofs.WideningLaws.{length-ends_along, ends_more}
 use Rattle.h5_btree.proofs.widening.ends_to_widen.Goals as goal
@@ -21,7 +21,7 @@ ends_at-requires g c =
     let kind = g.S.Sought.tree_kind c.args.sought.now in
     let all = subst (AllByRecursion (IsStepThere c.args.image.now.bytes kind)) (sym c.steps-step-items.ensures.steps)
     (way_steps c.args.image.now kind e.0 e.1 c.args.way.now e.2 e.3 e.4 e.5) in
-    let here = all_at (IsStepThere c.args.image.now.bytes kind) c.steps-step-items.result.now c.loop-level.level none c.loop-level-test.true all in
+    let here = all_at (IsStepThere c.args.image.now.bytes kind) c.steps-step-items.result.now c.loop-level.level none all c.loop-level-test.true in
     rw c.bytes.ensures here
 
 pub loop-level-preserved : goal.loop-level-preserved

@@ -2,11 +2,11 @@ use Rattle.std.proofs.Common.{◌≡◌, ◌≢◌, ◌<◌, List, length, get_o
 use Rattle.std.specs.Prelude.{slice_index_or, false}
 use Rattle.std.proofs.lemmas.List.{get_or_default}
 use Rattle.h5_model.specs.Format.Nodes.{node_at}
+use Rattle.h5_space.proofs.AddressLaws.{all_at}
 use Rattle.h5_btree.specs.Rewritten.{IsRewritten}
 use Rattle.h5_btree.specs.Widened.{widened_node}
 use Rattle.h5_btree.specs.declared.way.Step.{Step}
 use Rattle.h5_btree.specs.declared.widening.End.{End}
-use Rattle.h5_btree.proofs.WaySteps.{all_at}
 use Rattle.h5_btree.proofs.WideningLaws.{both_ends, widened_on, widened_start, written_other}
 use Rattle.h5_btree.proofs.widening.widen.Goals as goal
 use Rattle.h5_btree.proofs.widening.widen.Goals.{After-widen_end-in-loop-level}
@@ -68,6 +68,6 @@ loop-level-preserved c =
           c.args.ends.now c.loop-level.level step_none end_none c.args.low.now c.args.high.now on within (both c) inv.widened);
       others = λ root height k owned list e n listed apart.
           written_other c.loop-level.image c.args.kind root height c.args.way.now owned list k (inv.tree root height k owned list e) c.widen_end-in-loop-level.new.image
-          c.loop-level.level step_none on _ (both c) n listed (all_at (λ (step : Step). n ≢ step.node) c.args.way.now c.loop-level.level step_none on apart)
+          c.loop-level.level step_none on _ (both c) n listed (all_at (λ (step : Step). n ≢ step.node) c.args.way.now c.loop-level.level step_none apart on)
           ∙ inv.others root height k owned list e n listed apart;
     }

@@ -1,11 +1,11 @@
 use Rattle.std.proofs.Common.{◌≡◌, ◌+◌, ◌-◌, ◌*◌, ◌^◌, ◌<◌, ◌++◌, [], ◌∷◌, ℕ, ℤ, List, take, set, length, drop, get_or, ap, sym, ◌∙◌, arith, rules}
-use Rattle.std.proofs.lemmas.List.{length-set}
+use Rattle.std.proofs.lemmas.List.{length-set, take_more_set}
 use Rattle.h5_model.specs.declared.hyperslab.Axis.{Axis}
 use Rattle.h5_model.specs.Views.Selection.{Slab}
 use Rattle.h5_shape.specs.declared.parts.Span.{Span}
 use Rattle.h5_shape.specs.InBox.{number_along}
 use Rattle.h5_file.specs.Patched.{writes_in, with_writes}
-use Rattle.h5_file.proofs.Writes.{first_span, spans_left, width_low, room_behind, place_low, one_more, front_more, front_back}
+use Rattle.h5_file.proofs.Writes.{first_span, spans_left, width_low, room_behind, place_low, one_more, front_back}
 use Rattle.h5_file.proofs.patch.+patch_from.Goals as goal
 
 abbrev no_span : Span
@@ -69,7 +69,7 @@ loop-t-preserved t c =
     let a : Axis = c.in-Some.axis in
     let d = c.args.array.now in
     let front : take (c.args.k + 1) (set c.loop-t.index c.args.k c.number_at.result) ≡ take c.args.k c.args.index.now ++ number_along a c.loop-t.t ∷ []
-    = front_more c.loop-t.index c.args.k c.number_at.result there ∙ (λ i. c.loop-t.invariant.index i ++ c.number_at.ensures i ∷ []) in
+    = take_more_set c.loop-t.index c.args.k c.number_at.result there ∙ (λ i. c.loop-t.invariant.index i ++ c.number_at.ensures i ∷ []) in
     let g : ℕ → List (ℕ × ℤ) = λ u. writes_in d c.rest-inner.result (take (length c.args.spans.now - 1) (drop 1 c.args.spans.now))
     (c.args.place * (a.count * a.block) + u) (take c.args.k c.args.index.now ++ number_along a u ∷ []) in
     record {

@@ -7,9 +7,9 @@ use Rattle.h5_file.proofs.selected.gather.Given as goal
 abbrev pub invariant-loop-piece : goal.invariant-loop-piece
 invariant-loop-piece l = record {
   values : List ℤ;
-  parts : selected_values l.array l.slab ≡ values ++ l.piece-iterator.values;
-  fixed : l.piece-iterator.fixed ≡ l.array.fixed;
-  fill : l.piece-iterator.fill ≡ l.array.fill;
-  place : l.at ≡ length values * l.array.fixed.size;
-  written : take l.at l.room ≡ cells_bytes l.array.fixed values;
+  parts : selected_values l.fn.array l.fn.slab ≡ values ++ l.piece-iterator.values;
+  fixed : l.piece-iterator.fixed ≡ l.fn.array.fixed;
+  fill : l.piece-iterator.fill ≡ l.fn.array.fill;
+  place : l.at ≡ length values * l.fn.array.fixed.size;
+  written : take l.at l.room ≡ cells_bytes l.fn.array.fixed values;
 }

@@ -1,10 +1,11 @@
 use Rattle.std.proofs.Common.{◌≡◌, sym, ◌∙◌, subst}
+use Rattle.std.proofs.lemmas.Option.{same_Some}
 use Rattle.h5_model.specs.Tree.Objects.{Dataset}
 use Rattle.h5_model.specs.Tree.Sound.{IsDataset}
 use Rattle.h5_file.specs.OpenViews.{AreViewsFollowed}
 use Rattle.h5_file.specs.Touched.{HasBoxes}
 use Rattle.h5_file.proofs.ArrayFacts.{IsArraySound, array_sound}
-use Rattle.h5_file.proofs.EditedViews.{same_array, views_ready}
+use Rattle.h5_file.proofs.EditedViews.{views_ready}
 use Rattle.h5_file.proofs.FollowedViews.{followed_same}
 use Rattle.h5_file.proofs.views.follow_all.Goals as goal
 use Rattle.h5_file.proofs.views.follow_all.Goals.{In-Some}
@@ -24,7 +25,7 @@ follow_each-requires-clause-fit c = views_ready c.args.file.now.tree c.args.file
 
 pub returns-clause-followed : goal.returns-clause-followed
 returns-clause-followed c = λ d there.
-    let same : c.in-Some.array ≡ d = same_array (sym c.in-Some.ensures ∙ there) in
+    let same : c.in-Some.array ≡ d = same_Some _ _ (sym c.in-Some.ensures ∙ there) in
     subst (λ (d : Dataset). AreViewsFollowed c.args.number.0 d c.args.touched.now c.args.views.now c.follow_each.result c.follow_each.new.views) same c.follow_each.ensures
 
 pub returns-clause-same : goal.returns-clause-same
@@ -33,5 +34,5 @@ returns-clause-same c = followed_same c.args.number.0 c.in-Some.array c.args.tou
 pub returns-clause-sound : goal.returns-clause-sound
 returns-clause-sound c = λ d there.
     let s = sound (goal.at.returns-clause-sound c).In-Some in
-    let same : c.in-Some.array ≡ d = same_array (sym c.in-Some.ensures ∙ there) in
+    let same : c.in-Some.array ≡ d = same_Some _ _ (sym c.in-Some.ensures ∙ there) in
     subst (λ (d : Dataset). IsDataset d × HasBoxes d) same (s.dataset, s.boxes)

@@ -6,10 +6,11 @@ use Rattle.std.specs.Prelude.{min}
 use Rattle.h5_bytes.specs.Bytes.{number_at}
 use Rattle.h5_bytes.proofs.BlockLaws.{all_append}
 use Rattle.h5_model.specs.Format.Chunks.{offsets_in}
+use Rattle.h5_chunks.proofs.ReachLaws.{offsets_long}
 use Rattle.h5_layout.specs.Kept.{slices_kept}
 use Rattle.h5_layout.specs.Spans.{IsKeptSpan, span_sizes, span_slices}
 use Rattle.h5_layout.specs.declared.corner.Span.{Span}
-use Rattle.h5_layout.proofs.KeptLaws.{get_or-slices, length-offsets_in, length-slices}
+use Rattle.h5_layout.proofs.KeptLaws.{get_or-slices, length-slices}
 use Rattle.h5_layout.proofs.corner.write_spans.Goals as goal
 
 pub loop-d-preserved : goal.loop-d-preserved
@@ -22,7 +23,7 @@ loop-d-preserved c =
     let x : Span = record { size = get_or chunk d 0; kept = c.min.result } in
     let offsets : List ℕ = offsets_in (length chunk) key in
     let slices : List ℕ = slices_kept kept chunk offsets in
-    let ranks : length offsets ≡ length chunk = length-offsets_in (length chunk) key in
+    let ranks : length offsets ≡ length chunk = offsets_long (length chunk) key in
     let room : d < length c.loop-d.spans = omega (arith, c.loop-d-test.true, c.loop-d.auto.spans) in
     let low : d < length chunk = omega (arith, c.loop-d-test.true, c.requires.room) in
     let under : d < length slices = omega (arith, low, length-slices kept chunk offsets c.requires.rank ranks) in
@@ -48,6 +49,6 @@ returns-clause-slices c =
     let offsets : List ℕ = offsets_in (length chunk) c.args.key.now in
     let slices : List ℕ = slices_kept kept chunk offsets in
     let d : ℕ = c.loop-d.d in
-    let long : length slices ≡ length chunk = length-slices kept chunk offsets c.requires.rank (length-offsets_in (length chunk) c.args.key.now) in
+    let long : length slices ≡ length chunk = length-slices kept chunk offsets c.requires.rank (offsets_long (length chunk) c.args.key.now) in
     ap span_slices (sym (take_all d c.loop-d.spans (omega (arith, c.loop-d-test.false, c.loop-d.auto.spans)))) ∙ c.loop-d.invariant.slices
     ∙ take_all d slices (omega (arith, c.loop-d-test.false, long, c.requires.room))

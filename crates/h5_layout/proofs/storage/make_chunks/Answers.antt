@@ -11,6 +11,7 @@ use Rattle.h5_model.specs.Format.Layout.{InChunks, Layout}
 use Rattle.h5_model.specs.Format.Reached.{Shape}
 use Rattle.h5_model.specs.Format.Described.{Described}
 use Rattle.h5_model.specs.Tree.Places.{cells}
+use Rattle.h5_space.proofs.RunEdits.{on_ok_then}
 use Rattle.h5_chunks.specs.Told.{chunks_told}
 use Rattle.h5_layout.specs.ArrayChunks.{ArrayChunks, IsInChunksOf}
 use Rattle.h5_layout.specs.ArrayEdits.{described_in}
@@ -20,7 +21,7 @@ use Rattle.h5_layout.specs.Filled.{AreToStore, FillsChunk, HasFilledChunks, cell
 use Rattle.h5_layout.specs.NewTrees.{IsTreeMade}
 use Rattle.h5_layout.specs.Storage.{IsDeepIn, IsFullInNewTree, IsFullInTurn, chunks_room, chunks_room_in}
 use Rattle.h5_layout.specs.declared.copied.CellsToFill.{CellsToFill}
-use Rattle.h5_layout.proofs.FilledLaws.{then_at, then_ok}
+use Rattle.h5_layout.proofs.FilledLaws.{then_at}
 use Rattle.h5_layout.proofs.NewTreeLaws.{chunks_apart}
 use Rattle.h5_layout.proofs.RoomLaws.{is_array}
 use Rattle.h5_layout.proofs.StorableLaws.{storable_told}
@@ -120,7 +121,7 @@ returns-in-Some-clause-made c =
     let root = c.in-Some.root in
     let all = c.args.new.now.offsets in
     let kept : List ℕ = cells_of_fill (cells_to d).fixed (cells_to d).fill (cells_to d).count in
-    then_ok c.add_chunks.result c.add_chunks.ensures.stored (λ filled slab missing.
+    on_ok_then c.add_chunks.result c.add_chunks.ensures.stored (λ filled slab missing.
     chunks_made old new c.args.messages.now c.requires.array (k d).chunk root (laid d (Some root) c.in-Some.is) c.cells-cells.ensures.sound.sizes (sound d) (of_type d) c.args.new.now
     (subst (λ (bs : List ℕ). HasFilledChunks old new (form d) root bs all) (bytes d) (subst (λ (s : Shape). HasFilledChunks old new s root kept all) (shape d) filled)) slab missing (k d))
 

@@ -2,6 +2,7 @@ use Rattle.std.proofs.Common.{ℕ, List, sym, subst}
 use Rattle.std.proofs.lemmas.Result.{IfOk-weaker}
 use Rattle.h5_model.specs.Views.Selection.{Slab}
 use Rattle.h5_model.specs.Format.Described.{Described}
+use Rattle.h5_space.proofs.RunEdits.{on_ok_then}
 use Rattle.h5_layout.specs.ArrayChunks.{IsInChunksOf}
 use Rattle.h5_layout.specs.ArrayEdits.{described_in}
 use Rattle.h5_layout.specs.Lacking.{IsMissing}
@@ -9,14 +10,13 @@ use Rattle.h5_layout.specs.NewChunks.{AreMissing}
 use Rattle.h5_layout.specs.RunStorage.{IsMadeAt}
 use Rattle.h5_layout.specs.Storage.{IsDeepFor, IsStorageMade}
 use Rattle.h5_layout.specs.declared.lacking.Missing.{Missing}
-use Rattle.h5_layout.proofs.FilledLaws.{then_ok}
 use Rattle.h5_layout.proofs.LackingLaws.{chunks_missing, lacking_some}
 use Rattle.h5_layout.proofs.storage.make_storage.Goals as goal
 use Rattle.h5_layout.proofs.storage.make_storage.Goals.{In-Chunks}
 
 pub returns-in-Block-clause-made : goal.returns-in-Block-clause-made
 returns-in-Block-clause-made c =
-    then_ok c.make_block.result c.make_block.ensures.made (λ made slab is.
+    on_ok_then c.make_block.result c.make_block.ensures.made (λ made slab is.
     subst (IsStorageMade c.args.image.now c.make_block.new.image c.args.messages.now slab) (sym c.in-Block.is) (made slab))
 
 -- the chunks that are missing are those of the array
@@ -39,7 +39,7 @@ make_chunks-requires-clause-missing c = (c.requires.missing.0, (missed (goal.at.
 pub returns-in-Chunks-clause-made : goal.returns-in-Chunks-clause-made
 returns-in-Chunks-clause-made c =
     let d = (goal.at.returns-in-Chunks-clause-made c).In-Chunks in
-    then_ok c.make_chunks.result c.make_chunks.ensures.made (λ made slab is.
+    on_ok_then c.make_chunks.result c.make_chunks.ensures.made (λ made slab is.
     subst (IsStorageMade c.args.image.now c.make_chunks.new.image c.args.messages.now slab) (sym c.in-Chunks.is) (made slab (missed d slab is).0))
 
 pub returns-in-Chunks-clause-deep : goal.returns-in-Chunks-clause-deep

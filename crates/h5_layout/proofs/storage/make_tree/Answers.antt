@@ -6,6 +6,7 @@ use Rattle.h5_model.specs.Format.Reached.{Shape}
 use Rattle.h5_model.specs.Format.Superblock.{chunk_k, k_values}
 use Rattle.h5_model.proofs.KLaws.{same_chunk}
 use Rattle.h5_space.specs.Space.{Space}
+use Rattle.h5_space.proofs.RunEdits.{on_ok_then}
 use Rattle.h5_chunks.specs.Bushy.{IsBushy, is_low_level}
 use Rattle.h5_chunks.specs.Edited.{chunk_node_length, store_room}
 use Rattle.h5_chunks.specs.InsertFaultType.{InsertFault}
@@ -13,7 +14,7 @@ use Rattle.h5_chunks.specs.Told.{chunks_told}
 use Rattle.h5_layout.specs.NewTrees.{IsTreeNamed}
 use Rattle.h5_layout.specs.Storage.{HasStoredMore, IsFullInNewTree, IsFullInTurn}
 use Rattle.h5_chunks.proofs.BushyTrees.{bushy_empty, empty_level}
-use Rattle.h5_layout.proofs.FilledLaws.{never_refused, store_room_same, then_at, then_ok}
+use Rattle.h5_layout.proofs.FilledLaws.{never_refused, store_room_same, then_at}
 use Rattle.h5_layout.proofs.RoomChanged.{named_from}
 use Rattle.h5_layout.proofs.storage.make_tree.Goals as goal
 use Rattle.h5_layout.proofs.storage.make_tree.Goals.{After-store_all}
@@ -80,7 +81,7 @@ returns-clause-made c =
 pub returns-clause-spends : goal.returns-clause-spends
 returns-clause-spends c =
     let d = (goal.at.returns-clause-spends c).After-store_all in
-    then_ok c.store_all.result c.store_all.ensures.spends (λ spent.
+    on_ok_then c.store_all.result c.store_all.ensures.spends (λ spent.
     let first = c.name_tree-root.ensures.spends.grown in
     let second = spent.grown in
     let same = ap (λ (x : Space). length x.bytes) c.in_default.ensures.ok in

@@ -1,4 +1,4 @@
-use Rattle.std.proofs.Common.{◌≡◌, ◌+◌, ◌^◌, ◌∷◌, true, length, drop, get_or, arith}
+use Rattle.std.proofs.Common.{◌≡◌, ◌+◌, ◌^◌, ◌∷◌, true, drop, get_or, arith}
 use Rattle.std.proofs.lemmas.List.{drop_more}
 use Rattle.h5_shape.specs.InnerRuns.{selects_along}
 use Rattle.h5_shape.proofs.InnerSteps.{axis_here, split_axis, none_inner, none_joined, run_around, inner_small, around_small, innermost}

@@ -1,4 +1,4 @@
-use Rattle.std.proofs.Common.{◌≡◌, true, length, List, ℕ, ap, arith, ◌∙◌}
+use Rattle.std.proofs.Common.{◌≡◌, true, length, List, ℕ, ap, arith}
 use Rattle.h5_model.specs.Views.Selection.{has_rank}
 use Rattle.h5_shape.proofs.OneRunLaws.{one-run_from, one-run_inner}
 use Rattle.h5_shape.proofs.single_run.one_run.Goals as goal

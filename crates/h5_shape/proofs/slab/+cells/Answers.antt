@@ -1,4 +1,4 @@
-use Rattle.std.proofs.Common.{◌≡◌, ◌-◌, ◌^◌, ◌*◌, ap, ◌∙◌}
+use Rattle.std.proofs.Common.{◌≡◌, ◌-◌, ◌^◌, ◌*◌, ◌∙◌}
 use Rattle.std.specs.Prelude.{min}
 use Rattle.h5_model.specs.Views.Selection.{selected_cells}
 use Rattle.h5_shape.proofs.Products.{min_product}

@@ -1,7 +1,8 @@
 use Rattle.std.proofs.Common.{◌≡◌, ◌+◌, ◌<◌, inl, inr, length, get_or, drop, refl, sym, ap, ◌∙◌, arith}
 use Rattle.h5_model.specs.Format.Rows.{Node, first_or_undefined}
+use Rattle.h5_space.proofs.AddressLaws.{all_at}
 use Rattle.h5_btree.specs.Walk.Below.{reading_in, IsStanding}
-use Rattle.h5_btree.proofs.WalkLaws.Neighbours.{each_of, last_taken, row_step, misnamed_at}
+use Rattle.h5_btree.proofs.WalkLaws.Neighbours.{last_taken, row_step, misnamed_at}
 use Rattle.h5_btree.proofs.walk.rows.check_siblings.Goals as goal
 use Rattle.h5_btree.proofs.walk.rows.check_siblings.Goals.{then-left-via-then-left, then-left-via-else-left+then-right}
 
@@ -32,5 +33,5 @@ loop-k-preserved g c =
     record {
       before = sym (last_taken row k 0 low);
       rows = λ level stand is. c.loop-k.invariant.rows level stand
-          (row_step V level c.loop-k.left row k 0 low (each_of (IsStanding c.args.image.now.bytes (g.T.Trees.form c.args.over.now) level) row k 0 stand low).high left right is);
+          (row_step V level c.loop-k.left row k 0 low (all_at (IsStanding c.args.image.now.bytes (g.T.Trees.form c.args.over.now) level) row k 0 stand low).high left right is);
     }

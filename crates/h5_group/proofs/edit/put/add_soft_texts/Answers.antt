@@ -1,8 +1,9 @@
 use Rattle.std.proofs.Common.{[], ◌∷◌, ℕ, List, sym, ◌∙◌, subst, arith}
 use Rattle.std.specs.List.{Contains}
 use Rattle.h5_model.specs.Format.Heap.{segment_of}
+use Rattle.h5_heap.proofs.TakenLaws.{contains_head}
 use Rattle.h5_group.specs.Edited.{HasGroupMoved}
-use Rattle.h5_group.proofs.EditSteps.{first_spare, moved_then}
+use Rattle.h5_group.proofs.EditSteps.{moved_then}
 use Rattle.h5_group.proofs.PutTexts.{no_zero, nodes_then, spare_low, symbols_told, text_back, text_link}
 use Rattle.h5_group.proofs.edit.put.add_soft_texts.Goals as goal
 
@@ -39,7 +40,7 @@ returns-clause-link c =
     let g = c.requires.group in
     let m = c.add_text-behind.ensures.added g.0 [] g.1 g.2 in
     let low = spare_low c.add_text-behind.new.image c.args.table c.add_text-behind.result g.0 [] m.blocks m.group in
-    let kept = c.add_text-offset.ensures.kept g.0 (c.add_text-behind.result ∷ []) m.blocks m.group c.add_text-behind.result (first_spare c.add_text-behind.result []) in
+    let kept = c.add_text-offset.ensures.kept g.0 (c.add_text-behind.result ∷ []) m.blocks m.group c.add_text-behind.result (contains_head c.add_text-behind.result []) in
     text_link (segment_of c.add_text-offset.new.image.bytes c.args.table.heap) c.args.name.now c.args.text.now c.add_text-offset.result c.add_text-behind.result
     (omega (arith, low, c.add_text-behind.ensures.spends.grown, c.requires.small)) c.add_text-offset.ensures.text (kept ∙ c.add_text-behind.ensures.text)
 

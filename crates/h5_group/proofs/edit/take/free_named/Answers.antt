@@ -1,5 +1,6 @@
 use Rattle.std.proofs.Common.{◌∷◌}
-use Rattle.h5_group.proofs.EditSteps.{first_spare, moved_then}
+use Rattle.h5_heap.proofs.TakenLaws.{contains_head}
+use Rattle.h5_group.proofs.EditSteps.{moved_then}
 use Rattle.h5_group.proofs.ExactTrees.{texts_keys_kept}
 use Rattle.h5_group.proofs.Freed.{released_from}
 use Rattle.h5_group.proofs.KeptWays.{ways_then}
@@ -8,12 +9,12 @@ use Rattle.h5_group.proofs.edit.take.free_named.Goals as goal
 pub free_text-requires : goal.free_text-requires
 free_text-requires c =
     let (links, spare, blocks, g) = c.requires.group in
-    let r = c.retire_name.ensures.retired links (c.args.offset ∷ spare) blocks g (first_spare c.args.offset spare) in
+    let r = c.retire_name.ensures.retired links (c.args.offset ∷ spare) blocks g (contains_head c.args.offset spare) in
     record { group = (links, spare, r.0.blocks, r.0.group, r.1) }
 
 pub returns-clause-freed : goal.returns-clause-freed
 returns-clause-freed c links spare blocks g =
-    let r = c.retire_name.ensures.retired links (c.args.offset ∷ spare) blocks g (first_spare c.args.offset spare) in
+    let r = c.retire_name.ensures.retired links (c.args.offset ∷ spare) blocks g (contains_head c.args.offset spare) in
     moved_then c.args.image.now c.retire_name.new.image c.free_text.new.image c.args.table blocks links links (c.args.offset ∷ spare) spare r.0
     (c.free_text.ensures.freed links spare r.0.blocks r.0.group r.1)
 
@@ -25,7 +26,7 @@ returns-clause-released c =
 pub returns-clause-exact : goal.returns-clause-exact
 returns-clause-exact c = λ but.
     let (links, spare, blocks, g) = c.requires.group in
-    let r = c.retire_name.ensures.retired links (c.args.offset ∷ spare) blocks g (first_spare c.args.offset spare) in
+    let r = c.retire_name.ensures.retired links (c.args.offset ∷ spare) blocks g (contains_head c.args.offset spare) in
     let m = c.free_text.ensures.freed links spare r.0.blocks r.0.group r.1 in
     texts_keys_kept c.retire_name.new.image c.free_text.new.image c.args.table links (c.args.offset ∷ spare) r.0.blocks r.0.group m.k
     (c.free_text.ensures.nodes links spare r.0.blocks r.0.group r.1) c.free_text.ensures.ways.entries (λ key. ⊥) (c.retire_name.ensures.exact but)

@@ -4,13 +4,14 @@ use Rattle.h5_bytes.specs.declared.Block.{Block}
 use Rattle.h5_model.specs.Format.Addresses.{SymbolTable}
 use Rattle.h5_model.specs.Format.Symbols.{Target}
 use Rattle.h5_space.specs.Space.{Space}
+use Rattle.h5_heap.proofs.TakenLaws.{contains_head}
 use Rattle.h5_btree.specs.declared.way.Step.{Step}
 use Rattle.h5_snod.specs.declared.entry.SymbolEntry.{SymbolEntry}
 use Rattle.h5_snod.specs.declared.entry.SymbolTarget.TheVariants as target
 use Rattle.h5_group.specs.Edited.{IsGroupIn}
 use Rattle.h5_group.specs.Exact.{AreKeysLooked}
 use Rattle.h5_group.specs.Removal.{offsets_named}
-use Rattle.h5_group.proofs.EditSteps.{first_spare, moved_then, soft_offsets}
+use Rattle.h5_group.proofs.EditSteps.{moved_then, soft_offsets}
 use Rattle.h5_group.proofs.Freed.{one_released, two_released}
 use Rattle.h5_group.proofs.FreedExact.{looked_so, more_but, text_looked_so}
 use Rattle.h5_group.proofs.KeptWays.{ways_then}
@@ -42,7 +43,7 @@ free_named-requires-in-Text-clause-looked c =
     let (links, spare, there, g) = c.requires.group in
     let m = c.free_named.ensures.freed links (c.from.result ∷ spare) there
     (two c.args.image.now c.args.table c.args.entry c.in-Text.text c.from.result c.in-Text.is c.from.ensures links spare there g) in
-    text_looked_so c.free_named.new.image c.args.table links (c.from.result ∷ spare) m.blocks m.group c.from.result (first_spare c.from.result spare) _ c.args.exact _
+    text_looked_so c.free_named.new.image c.args.table links (c.from.result ∷ spare) m.blocks m.group c.from.result (contains_head c.from.result spare) _ c.args.exact _
     c.look_along-in-Text.ensures (λ is. c.free_named.ensures.exact (c.requires.exact is).0)
 
 pub returns-in-Text-clause-freed : goal.returns-in-Text-clause-freed

@@ -3,7 +3,7 @@ use Rattle.std.specs.List.{AllByRecursion}
 use Rattle.h5_bytes.specs.Texts.{text_at}
 use Rattle.h5_bytes.proofs.BlockLaws.{all_so}
 use Rattle.h5_model.specs.Format.Links.{Before, NotAfter}
-use Rattle.h5_laws.proofs.KeyInserts.{all_both}
+use Rattle.h5_model.proofs.Members.{all_both}
 use Rattle.h5_group.specs.Order.Between.{LiesBetween, names_at}
 use Rattle.h5_group.proofs.OrderProofs.EntryNames.{lists_are}
 use Rattle.h5_group.proofs.order.keys.are_between.Goals as goal

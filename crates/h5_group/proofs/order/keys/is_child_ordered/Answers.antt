@@ -7,7 +7,7 @@ use Rattle.h5_model.specs.Format.Superblock.{leaf_k}
 use Rattle.h5_model.specs.Format.Symbols.{Entry, symbols_at}
 use Rattle.h5_model.specs.Format.Links.{Before, NotAfter, Symbols}
 use Rattle.h5_model.proofs.TextOrder.{before_le, not_after_trans}
-use Rattle.h5_laws.proofs.KeyInserts.{all_both}
+use Rattle.h5_model.proofs.Members.{all_both}
 use Rattle.h5_group.specs.Order.Between.{LiesBetween, name_of_entry, names_at}
 use Rattle.h5_group.proofs.OrderProofs.EntryNames.{entry_offset}
 use Rattle.h5_group.proofs.OrderProofs.NameEnds.{first_decides, first_named, last_decides}

@@ -1,12 +1,13 @@
 use Rattle.std.proofs.Common.{◌≡◌, ◌≤◌, ℕ, List, length, ap, sym, ◌∙◌, arith}
 use Rattle.h5_model.specs.Tree.Places.{cells}
 use Rattle.h5_model.specs.Tree.Objects.{Attribute}
-use Rattle.h5_msg.proofs.AttributeLaws.{cells_few, length-values, size_positive}
+use Rattle.h5_model.proofs.PlainValues.{size-low}
+use Rattle.h5_msg.proofs.AttributeLaws.{cells_few, length-values}
 use Rattle.h5_msg.proofs.attribute.AttributeBody.cells.Goals as goal
 
 exact : (c : goal.After-cells) → c.cells.result ≡ cells c.self.inside.extent.sizes
 exact c =
-    let some : 1 ≤ (c.self.inside.fixed).size = size_positive c.self.inside.fixed c.size-size.ensures.one_of in
+    let some : 1 ≤ (c.self.inside.fixed).size = size-low c.self.inside.fixed c.size-size.ensures.one_of in
     let few = cells_few c.self.inside.place (cells c.self.inside.extent.sizes) (c.self.inside.fixed).size (length c.self.inside.body.now) some c.self.invariant in
     omega (arith, few, c.self.told.0)
 

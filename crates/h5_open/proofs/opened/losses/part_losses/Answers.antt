@@ -19,9 +19,10 @@ use Rattle.h5_open.specs.Opened.Objects.{header_of, object_blocks, tree_of}
 use Rattle.h5_open.specs.SlotsInPlace.{blocks_at}
 use Rattle.h5_open.proofs.LostLaws.{in_get}
 use Rattle.h5_open.proofs.LostParted.{next_other, parted_empty, parted_put}
-use Rattle.h5_open.proofs.LostSlots.{linked_count, linked_there, slot_blocks_at, there_slot}
+use Rattle.h5_open.proofs.LostSlots.{linked_count, linked_there, there_slot}
 use Rattle.h5_open.proofs.OpenedLaws.Sounds.{object_of}
 use Rattle.h5_open.proofs.opened.losses.part_losses.Goals as goal
+use Rattle.h5_open.proofs.TouchedBlocks.{blocks_of_slot}
 
 pub loop-number-init : goal.loop-number-init
 loop-number-init c =
@@ -66,7 +67,7 @@ module _ (image : Space) (slots : List (Option OpenedObject)) (numbers : BTreeMa
         → AreLossesParted (hard_links (tree_of image.bytes slots)) (links_lost counts) (blocks_at image.bytes slots) (take (i + 1) items) new.gone.items new.less.items new.blocks.held
     next_parted old new count is so_far put =
         let left = reference_count (prefix_at image.bytes (header_of p)) - count in
-        let covers = λ (q : ℕ). put.covered q ∙ ap (λ (bs : List Block). cover q old.blocks.held + (if left == 0 then cover q bs else 0)) (sym (slot_blocks_at image.bytes slots number p at)) in
+        let covers = λ (q : ℕ). put.covered q ∙ ap (λ (bs : List Block). cover q old.blocks.held + (if left == 0 then cover q bs else 0)) (sym (blocks_of_slot image.bytes slots number p at)) in
         subst (λ (ns : List ℕ). AreLossesParted (hard_links (tree_of image.bytes slots)) (links_lost counts) (blocks_at image.bytes slots) ns new.gone.items new.less.items new.blocks.held)
         (sym (take_more items i 0 low))
         (parted_put (hard_links (tree_of image.bytes slots)) (links_lost counts) (blocks_at image.bytes slots) (take i items) old.gone.items old.less.items old.blocks.held so_far

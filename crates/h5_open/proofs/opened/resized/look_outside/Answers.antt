@@ -6,7 +6,7 @@ use Rattle.h5_layout.proofs.KeptLaws.{length-smaller}
 use Rattle.h5_layout.specs.ArrayEdits.{described_in}
 use Rattle.h5_layout.specs.Kept.{smaller_sizes}
 use Rattle.h5_layout.specs.Trimmed.{AreOutside}
-use Rattle.h5_open.proofs.ResizedCalls.{few_sizes}
+use Rattle.h5_layout.proofs.ExtentBounds.{few_sizes}
 use Rattle.h5_open.proofs.opened.resized.look_outside.Goals as goal
 
 -- there are as many sizes as a message has

@@ -7,7 +7,7 @@ use Rattle.h5_layout.specs.ArrayEdits.{described_in}
 use Rattle.h5_layout.specs.Resized.{IsLookedAt}
 use Rattle.h5_layout.specs.Told.{array_told}
 use Rattle.h5_layout.specs.declared.trimmed.Outside.{Outside}
-use Rattle.h5_open.proofs.ResizedCalls.{few_sizes}
+use Rattle.h5_layout.proofs.ExtentBounds.{few_sizes}
 use Rattle.h5_open.proofs.opened.resized.resize_object.Goals as goal
 
 pub bytes_for-requires-clause-few : goal.bytes_for-requires-clause-few

@@ -7,7 +7,7 @@ use Rattle.h5_model.specs.Format.Bodies.{attribute_bytes}
 use Rattle.h5_model.specs.Format.Fixed.{fits}
 use Rattle.h5_model.specs.Format.Plain.{message_bytes}
 use Rattle.h5_model.specs.Format.Sizes.{attribute_size}
-use Rattle.h5_repack.proofs.BodyLaws.HeaderAttributes.{all_fit}
+use Rattle.h5_layout.proofs.BufferLaws.{all_fit}
 use Rattle.h5_repack.proofs.BlockLaws.AttributeParts.{length-body}
 use Rattle.h5_repack.proofs.BlockLaws.Rooms.{length-lent, part_written}
 use Rattle.h5_repack.proofs.blocks.attribute.push_new_attribute.Goals as goal

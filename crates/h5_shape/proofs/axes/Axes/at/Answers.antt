@@ -1,4 +1,4 @@
-use Rattle.std.proofs.Common.{rules, ◌≡◌, ◌<◌, ◌∙◌, ap, length, List, ℕ, get_or, sym, arith}
+use Rattle.std.proofs.Common.{rules, ◌<◌, ◌∙◌, ap, length, get_or, sym, arith}
 use Rattle.h5_model.specs.Views.Selection.{Slab}
 use Rattle.h5_shape.proofs.AxesLaws.{are_long, axis_is}
 use Rattle.h5_shape.proofs.axes.Axes.at.Goals as goal

@@ -1,4 +1,4 @@
-use Rattle.std.proofs.Common.{◌≡◌, ◌∙◌, ap, length, List, ℕ}
+use Rattle.std.proofs.Common.{◌∙◌, ap, length, List, ℕ}
 use Rattle.h5_shape.proofs.AxesLaws.{are_long}
 use Rattle.h5_shape.proofs.axes.Axes.len.Goals as goal
 

@@ -1,23 +1,23 @@
-use Rattle.std.proofs.Common.{◌≡◌, ◌+◌, ◌-◌, ◌<◌, ◌++◌, ◌∷◌, length, take, false}
-use Rattle.h5_shape.specs.Loops.{spaced_places, nest_ahead, IsStanding}
-use Rattle.h5_shape.specs.Left.{cells_at}
+use Rattle.std.proofs.Common.{◌≡◌, ◌-◌, ◌<◌, ◌++◌, ◌∷◌, length, false}
+use Rattle.h5_shape.specs.SpacedPlaces.{spaced_places}
+use Rattle.h5_shape.specs.Rows.{IsWalk, cells_at, groups_ahead}
 use Rattle.h5_shape.proofs.runs.CellRunsIterator.next.Given as goal
 
 -- the run so far, and the cells that follow it
 abbrev pub invariant-loop-next : goal.invariant-loop-next
 invariant-loop-next l =
-    let was = l.initial.self-inside.nest in
-    let nest = l.self-inside.nest in
+    let was = l.initial.self-inside.walk in
+    let walk = l.self-inside.walk in
+    let first = l.initial.self-inside.place in
+    let long = was.rows.length in
     record {
-      depth : nest.depth ≡ was.depth;
-      long : nest.length ≡ was.length;
-      origin : nest.origin ≡ was.origin;
+      rows : walk.rows ≡ was.rows;
       done : l.self-inside.has_more ≡ false;
-      stands : IsStanding (take nest.depth nest.loops) l.self-inside.place;
-      some : l.initial.self-inside.place < l.end;
-      cells : cells_at was (l.initial.self-inside.place ∷ nest_ahead was)
-          ≡ spaced_places (l.end - l.initial.self-inside.place) 1 (was.origin + l.initial.self-inside.place) ++ cells_at was (nest_ahead nest);
+      walks : IsWalk walk;
+      some : first < l.end;
+      cells : cells_at long (first ∷ groups_ahead was first)
+          ≡ spaced_places (l.end - first) 1 first ++ cells_at long (groups_ahead walk l.self-inside.place);
     }
 
 abbrev pub decreases-loop-next : goal.decreases-loop-next
-decreases-loop-next l = length (nest_ahead l.self-inside.nest)
+decreases-loop-next l = length (groups_ahead l.self-inside.walk l.self-inside.place)

@@ -1,9 +1,10 @@
 use Rattle.std.proofs.Common.{◌+◌, ◌∙◌, replicate, to_z, of_z}
 use Rattle.std.specs.Int.{w128}
 use Rattle.std.proofs.lemmas.List.{length-replicate}
+use Rattle.std.proofs.lemmas.Grind.{replicate_next}
 use Rattle.h5_text.specs.Rows.{cells_from}
 use Rattle.h5_text.proofs.Appending.{appends_err}
-use Rattle.h5_text.proofs.RowLaws.{row_step, column_step, replicate_more}
+use Rattle.h5_text.proofs.RowLaws.{row_step, column_step}
 use Rattle.h5_text.proofs.rows.Rows.push_repeated.Goals as goal
 
 pub returns-in_err-push-clause-text : goal.returns-in_err-push-clause-text
@@ -20,7 +21,7 @@ loop-preserved c =
     record {
       text =
           row_step width column c.loop.self.width c.loop.self.column k (replicate k v) (replicate (k + 1) v) v c.args.out.now.items c.loop.out.items c.push.new.out.items
-          c.args.self.now.in_row c.loop.invariant.width c.loop.invariant.column (length-replicate k v) (replicate_more k v) c.loop.invariant.text c.in_ok-push.ensures.text;
+          c.args.self.now.in_row c.loop.invariant.width c.loop.invariant.column (length-replicate k v) (replicate_next k v) c.loop.invariant.text c.in_ok-push.ensures.text;
       width = c.in_ok-push.ensures.width ∙ c.loop.invariant.width;
       column = column_step width column c.loop.self.width c.loop.self.column c.push.new.self.column k c.loop.invariant.width c.loop.invariant.column c.in_ok-push.ensures.column;
     }

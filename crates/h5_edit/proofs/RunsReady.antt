@@ -38,22 +38,6 @@ module _ (f : FileState) (number : ℕ) (d : Dataset) (array : dataset_of f.tree
     stored = λ place at. stored d array place (subst (λ (ps : List ℕ). Contains ps place) places at);
   }
 
--- ---- of the array of a number
-
-module _ (f : FileState) (number : ℕ) (hyper : Hyper) (d : Dataset) (array : dataset_of f.tree number ≡ Some d) (a : Described) (there : IsArrayThere f number a) where
-  -- where no rule of a selection refuses it of the array, none does of its description
-  pub none_refused : first_holding (hyper_rules d.sizes hyper) ≡ None → (e : EditFault) → first_holding (hyper_rules a.sizes hyper) ≡ Some e → ⊥
-  none_refused selects e refused =
-      let some = subst (λ (sizes : List ℕ). first_holding (hyper_rules sizes hyper) ≡ Some e) (sizes_are f number a there d array) refused in
-      absurd (let never : None ≡ Some e = sym selects ∙ some in cc)
-
-  -- the runs of the one are those of the other
-  pub runs_there : (slab : Slab) → slab ≡ axes_of hyper → (runs : List CellRun) → places_in runs ≡ selection_of a.sizes slab → AreMaximal runs → cells a.sizes ≤ 2 ^ 40
-      → AreSelectedRuns d.sizes hyper runs
-  runs_there slab same runs places maximal few =
-      subst (λ (sizes : List ℕ). AreSelectedRuns sizes hyper runs) (sizes_are f number a there d array)
-      (record { places = places ∙ ap (selection_of a.sizes) same; maximal = maximal; few = few })
-
 -- what is asked of the runs of cells that are stored
 pub runs_ready : {f : FileState} {number : ℕ} {hyper : Hyper} {values : List ℤ} {d : Dataset} → AreSelectedReady f number hyper values d → (runs : List CellRun)
     → AreSelectedRuns d.sizes hyper runs → AreRunsStored f number runs values d
