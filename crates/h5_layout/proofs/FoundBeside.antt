@@ -1,13 +1,19 @@
 -- Chunks that stand beside one another along the last dimension, and were found.
-use Rattle.std.proofs.Common.{◌≡◌, ℕ, IfSome, None, Option, suc, ◌+◌, ◌-◌, ◌*◌, ◌/◌, ◌<◌, ◌≤◌, List, [], ◌∷◌, ◌++◌, length, get_or, set, take, replicate, Some, zero, refl, sym, ap, ◌∙◌, arith}
+use Rattle.std.proofs.Common.{◌≡◌, ℕ, IfSome, Option, suc, ◌+◌, ◌-◌, ◌*◌, ◌/◌, ◌%◌, ◌<◌, ◌≤◌, List, [], ◌∷◌, length, get_or, set, replicate, Some, zero, refl, sym, ap, ◌∙◌, subst, arith}
 use Rattle.std.specs.FinMap.{get}
 use Rattle.std.proofs.Math.Nat.{mul-le-mul_left}
-use Rattle.std.proofs.lemmas.List.{get_or-set_same, length-set, set-get_or, set-set, take_all, take_more, take_more_set}
+use Rattle.std.proofs.lemmas.List.{get_or-set_same, length-set, set-get_or, set-set}
 use Rattle.std.proofs.lemmas.Nat.{div-mul-add, le-div}
 use Rattle.h5_model.specs.Format.Chunks.{Chunks}
 use Rattle.h5_model.specs.Tree.Grid.{corner_of}
+use Rattle.h5_model.specs.Tree.Places.{cells, index_of}
+use Rattle.h5_shape.proofs.GridBoxes.{length-index_of}
 use Rattle.h5_shape.specs.InBox.{IsCorner}
-use Rattle.h5_layout.specs.FoundChunks.{AreChunksBeside, corner_beside}
+use Rattle.h5_layout.specs.FoundChunks.{AreChunksBeside, IsFirstCell, corner_beside, address_kept, only_chunk}
+use Rattle.h5_layout.specs.declared.beside.ChunkCorner.{ChunkCorner}
+use Rattle.h5_layout.specs.declared.beside.FoundChunks.{FoundChunks}
+use Rattle.h5_layout.proofs.BesideLaws.{last_of, some_last}
+use Rattle.h5_layout.proofs.IndexRows.{index_last, index_on, index_zero}
 
 -- ---- the first index of a chunk
 
@@ -60,28 +66,38 @@ steps i j c some first last up =
     let number : (j - i) / c ≡ b - a = ap (λ n. n / c) apart ∙ div-mul-add (b - a) c 0 some in
     ap (λ n. i + n * c) number ∙ omega (arith, first, last, split, spread)
 
--- a list of which all but the last number are those of another
-last_set : (xs ys : List ℕ) (last : ℕ) → length xs ≡ last + 1 → length ys ≡ last + 1 → take last xs ≡ take last ys → ys ≡ set xs last (get_or ys last 0)
-last_set xs ys last long as_long same =
-    sym (take_all (last + 1) ys (omega (arith, as_long)))
-    ∙ take_more ys last 0 (omega (arith, as_long))
-    ∙ ap (λ zs. zs ++ get_or ys last 0 ∷ []) (sym same)
-    ∙ sym (take_more_set xs last (get_or ys last 0) (omega (arith, long)))
-    ∙ take_all (last + 1) (set xs last (get_or ys last 0)) (omega (arith, long, length-set xs last (get_or ys last 0)))
-
-pub number_beside : (chunk first corner : List ℕ) (last : ℕ) → IsCorner chunk first → IsCorner chunk corner → length first ≡ last + 1 → take last first ≡ take last corner
-    → get_or first last 0 ≤ get_or corner last 0 → corner ≡ corner_beside chunk first ((get_or corner last 0 - get_or first last 0) / get_or chunk last 0)
-number_beside chunk first corner last is other long same up =
-    let as_long : length corner ≡ last + 1 = corner_long chunk corner other ∙ sym (corner_long chunk first is) ∙ long in
-    let i : ℕ = get_or first last 0 in
-    let j : ℕ = get_or corner last 0 in
+-- a chunk that begins some columns on in the same row of the array
+pub number_beside : (sizes chunk : List ℕ) (first corner : ChunkCorner) → length chunk ≡ length sizes → 0 < length sizes → 0 < cells sizes
+    → IsFirstCell sizes chunk first → IsFirstCell sizes chunk corner → first.place ≤ corner.place → first.column ≤ corner.column
+    → corner.place - first.place ≡ corner.column - first.column
+    → index_of sizes corner.place ≡ corner_beside chunk (index_of sizes first.place) ((corner.column - first.column) / get_or chunk (length sizes - 1) 0)
+number_beside sizes chunk first corner rank some more from to up columns_up same =
+    let last : ℕ = length sizes - 1 in
+    let p : ℕ = first.place in
+    let d : ℕ = corner.column - first.column in
     let c : ℕ = get_or chunk last 0 in
-    let from = corner_multiple chunk first last is (omega (arith, long)) in
-    let to = corner_multiple chunk corner last other (omega (arith, as_long)) in
-    let here : length first - 1 ≡ last = omega (arith, long) in
-    last_set first corner last long as_long same
-    ∙ ap (set first last) (sym (steps i j c from.0 from.1 to.1 up))
-    ∙ ap (λ n. set first n (get_or first n 0 + (j - i) / c * get_or chunk n 0)) (sym here)
+    let is : List ℕ = index_of sizes p in
+    let low : p < cells sizes = from.inside more in
+    let there : corner.place ≡ p + d = omega (arith, up, same) in
+    let end : p + d < cells sizes = omega (arith, there, to.inside more) in
+    let column : first.column ≡ p % last_of sizes = from.column ∙ index_last sizes p some low in
+    let other : corner.column ≡ (p + d) % last_of sizes = to.column ∙ ap (λ (q : ℕ). get_or (index_of sizes q) last 0) there ∙ index_last sizes (p + d) some end in
+    let wide : 0 < last_of sizes = some_last sizes p some low in
+    let inside : (p + d) % last_of sizes < last_of sizes = omega (arith, wide) in
+    let row : p % last_of sizes + d < last_of sizes = omega (arith, column, other, inside, columns_up) in
+    let long : length is ≡ length sizes = length-index_of sizes p in
+    let as_long : length (index_of sizes corner.place) ≡ length sizes = length-index_of sizes corner.place in
+    let here : length is - 1 ≡ last = omega (arith, long) in
+    let begin = corner_multiple chunk is last from.is (omega (arith, long, some)) in
+    let finish = corner_multiple chunk (index_of sizes corner.place) last to.is (omega (arith, as_long, some)) in
+    let first_rows : first.column / c * c ≡ first.column = ap (λ (n : ℕ). n / c * c) from.column ∙ begin.1 ∙ sym from.column in
+    let last_rows : corner.column / c * c ≡ corner.column = ap (λ (n : ℕ). n / c * c) to.column ∙ finish.1 ∙ sym to.column in
+    let sum : first.column + d / c * c ≡ corner.column = steps first.column corner.column c begin.0 first_rows last_rows columns_up in
+    let step : get_or is last 0 + d ≡ get_or is last 0 + d / c * c = omega (arith, sum, columns_up, from.column) in
+    ap (index_of sizes) there
+    ∙ index_on sizes p d some low row
+    ∙ ap (set is last) step
+    ∙ ap (λ (n : ℕ). set is n (get_or is n 0 + d / c * get_or chunk n 0)) (sym here)
 
 -- none behind itself
 pub beside_itself : (chunk corner : List ℕ) → corner_beside chunk corner 0 ≡ corner
@@ -117,33 +133,52 @@ beside_few chunk first k last long some =
 -- ---- what is kept of them
 
 -- an address that is kept with others
-kept_with : (P : ℕ → ℕ → Type 0) (at : List (Option ℕ)) (k a : ℕ) → ((j : ℕ) → IfSome (get_or at j None) (P j)) → P k a
-    → (j : ℕ) → IfSome (get_or (set at k (Some a)) j None) (P j)
-kept_with P [] k a are is j = tt
-kept_with P (x ∷ xs) zero a are is zero = is
-kept_with P (x ∷ xs) zero a are is (suc j) = are (suc j)
-kept_with P (x ∷ xs) (suc k) a are is zero = are zero
-kept_with P (x ∷ xs) (suc k) a are is (suc j) = kept_with (λ i. P (suc i)) xs k a (λ i. are (suc i)) is j
+pub kept_with : (P : ℕ → ℕ → Type 0) (at : List ℕ) (k kept : ℕ) → ((j : ℕ) → IfSome (address_kept (get_or at j 0)) (P j)) → IfSome (address_kept kept) (P k)
+    → (j : ℕ) → IfSome (address_kept (get_or (set at k kept) j 0)) (P j)
+kept_with P [] k kept are is j = tt
+kept_with P (x ∷ xs) zero kept are is zero = is
+kept_with P (x ∷ xs) zero kept are is (suc j) = are (suc j)
+kept_with P (x ∷ xs) (suc k) kept are is zero = are zero
+kept_with P (x ∷ xs) (suc k) kept are is (suc j) = kept_with (λ i. P (suc i)) xs k kept (λ i. are (suc i)) is j
 
 -- no address
-none_kept : (P : ℕ → ℕ → Type 0) (n j : ℕ) → IfSome (get_or (replicate n None) j None) (P j)
+none_kept : (P : ℕ → ℕ → Type 0) (n j : ℕ) → IfSome (address_kept (get_or (replicate n 0) j 0)) (P j)
 none_kept P zero j = tt
 none_kept P (suc n) zero = tt
 none_kept P (suc n) (suc j) = none_kept (λ i. P (suc i)) n j
 
+-- no number but one
+zeros : (n j x : ℕ) → get_or (replicate n x) j x ≡ x
+zeros zero j x = refl
+zeros (suc n) zero x = refl
+zeros (suc n) (suc j) x = zeros n j x
+
 -- none
-pub none_beside : (chunks : Chunks) (sizes : List ℕ) → ((d : ℕ) → d < length sizes → 1 ≤ get_or sizes d 0)
-    → AreChunksBeside chunks sizes (record { first = replicate (length sizes) 0; at = replicate 64 None })
-none_beside chunks sizes some = record {
-  first = corner_zeros sizes some;
-  at = none_kept (λ k at. get chunks (corner_beside sizes (replicate (length sizes) 0) k) ≡ Some at) 64;
+pub none_beside : (chunks : Chunks) (sizes chunk : List ℕ) → length chunk ≡ length sizes → ((d : ℕ) → d < length chunk → 1 ≤ get_or chunk d 0)
+    → AreChunksBeside chunks sizes chunk (record { first = record { place = 0; column = 0 }; at = replicate 64 0 })
+none_beside chunks sizes chunk rank some = record {
+  first = record {
+    inside = λ more. omega (arith, more);
+    is = subst (IsCorner chunk) (ap (λ (n : ℕ). replicate n 0) rank ∙ sym (index_zero sizes)) (corner_zeros chunk some);
+    column = sym (ap (λ (is : List ℕ). get_or is (length sizes - 1) 0) (index_zero sizes) ∙ zeros (length sizes) (length sizes - 1) 0);
+  };
+  at = none_kept (λ k at. get chunks (corner_beside chunk (index_of sizes 0) k) ≡ Some at) 64;
 }
 
+-- one more
+pub more_beside : (chunks : Chunks) (sizes chunk : List ℕ) (found : FoundChunks) (k kept at : ℕ) → AreChunksBeside chunks sizes chunk found → address_kept kept ≡ Some at
+    → get chunks (corner_beside chunk (index_of sizes found.first.place) k) ≡ Some at → AreChunksBeside chunks sizes chunk (record found { at = set found.at k kept })
+more_beside chunks sizes chunk found k kept at are is there =
+    let P : ℕ → ℕ → Type 0 = λ k a. get chunks (corner_beside chunk (index_of sizes found.first.place) k) ≡ Some a in
+    record { first = are.first; at = kept_with P found.at k kept are.at (subst (λ (o : Option ℕ). IfSome o (P k)) (sym is) there) }
+
 -- one alone
-pub one_beside : (chunks : Chunks) (sizes corner : List ℕ) (at : ℕ) → IsCorner sizes corner → get chunks corner ≡ Some at
-    → AreChunksBeside chunks sizes (record { first = corner; at = set (replicate 64 None) 0 (Some at) })
-one_beside chunks sizes corner at is found = record {
-  first = is;
-  at = kept_with (λ k a. get chunks (corner_beside sizes corner k) ≡ Some a) (replicate 64 None) 0 at
-      (none_kept (λ k a. get chunks (corner_beside sizes corner k) ≡ Some a) 64) (ap (get chunks) (beside_itself sizes corner) ∙ found);
-}
+pub one_beside : (chunks : Chunks) (sizes chunk : List ℕ) (corner : ChunkCorner) (kept at : ℕ) → IsFirstCell sizes chunk corner → address_kept kept ≡ Some at
+    → get chunks (index_of sizes corner.place) ≡ Some at → AreChunksBeside chunks sizes chunk (only_chunk corner kept)
+one_beside chunks sizes chunk corner kept at first is found =
+    let P : ℕ → ℕ → Type 0 = λ k a. get chunks (corner_beside chunk (index_of sizes corner.place) k) ≡ Some a in
+    record {
+      first = first;
+      at = kept_with P (replicate 64 0) 0 kept (none_kept P 64)
+          (subst (λ (o : Option ℕ). IfSome o (P 0)) (sym is) (ap (get chunks) (beside_itself chunk (index_of sizes corner.place)) ∙ found));
+    }

@@ -1,5 +1,8 @@
 -- A chunk that is stored lies in the image.
-use Rattle.std.proofs.Common.{◌≡◌, ℕ, suc, ◌+◌, ◌-◌, ◌*◌, ◌<◌, ◌≤◌, List, ◌∷◌, ◌++◌, length, map, Option, Some, None, IfSome, refl, sym, ◌∙◌, subst, arith, get_or, take, drop}
+use Rattle.std.proofs.Common.{◌≡◌, ℕ, suc, ◌+◌, ◌-◌, ◌*◌, ◌<◌, ◌≤◌, List, [], ◌∷◌, false, ◌++◌, length, map, Option, Some, None, IfSome, refl, sym, ◌∙◌, subst, arith, get_or, take, drop}
+use Rattle.std.specs.Prelude.{◌==◌}
+use Rattle.std.specs.List.{list_any}
+use Rattle.std.proofs.lemmas.Bool.Decides.{nat_tests}
 use Rattle.std.specs.FinMap.{entries, get, get-entries, nat_cmp-IsAntisymmetric, slice_cmp-IsAntisymmetric, values}
 use Rattle.std.proofs.Math.Nat.{mul-le-mul_right}
 use Rattle.std.proofs.lemmas.Slice.{first_rest}
@@ -54,6 +57,14 @@ bytes_behind d ds size most h small =
     let one : 1 * (cells ds * size) ≤ d * (cells ds * size) = mul-le-mul_right (cells ds * size) (h.some 0 (omega arith)) in
     let turned : d * (cells ds * size) ≡ cells (d ∷ ds) * size = omega arith in
     omega (arith, one, turned)
+
+-- no size is 0
+pub none_zero : (chunk : List ℕ) → ((d : ℕ) → d < length chunk → 1 ≤ get_or chunk d 0) → list_any (λ n. n == 0) chunk ≡ false
+none_zero [] some = refl
+none_zero (c ∷ cs) some =
+    let here : 1 ≤ c = some 0 (omega arith) in
+    let rest : list_any (λ n. n == 0) cs ≡ false = none_zero cs (λ d low. some (suc d) (omega (arith, low))) in
+    grind (arith, nat_tests, here, rest)
 
 -- ---- slices
 

@@ -20,6 +20,7 @@ pub mod StandsAt
 pub mod StandingLaws
 pub mod StandingWritten
 pub mod ZeroFill
+pub mod IndexRows
 pub mod FoundBeside
 pub mod NextLaws
 pub mod NextRows

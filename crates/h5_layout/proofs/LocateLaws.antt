@@ -5,7 +5,7 @@ use Rattle.std.proofs.lemmas.List.{drop_more, drop-set, length-drop}
 use Rattle.std.proofs.Math.Nat.{mod-eq_of_lt, mul-le-mul_right, div-div-eq-div-mul}
 use Rattle.h5_model.specs.Tree.Grid.{corner_of, inner_of}
 use Rattle.h5_model.specs.Tree.Places.{cells, extent_cells, place_of, index_of, IsInside}
-use Rattle.h5_model.proofs.PlaceLaws.{positive, place_below}
+use Rattle.h5_model.proofs.PlaceLaws.{inside-index, positive, place_below}
 use Rattle.h5_shape.proofs.GridBoxes.{length-index_of}
 
 -- ---- products
@@ -84,6 +84,17 @@ inner_inside (c ∷ cs) (i ∷ is) same some =
     let low : i % c < c = omega arith in
     (low, inner_inside cs is (omega arith) (some_tail c cs some))
 
+-- the first index of the chunk of an index inside is inside
+pub corner_inside : (sizes chunk index : List ℕ) → length chunk ≡ length sizes → IsInside sizes index → IsInside sizes (corner_of chunk index)
+corner_inside [] [] [] same inside = tt
+corner_inside [] [] (i ∷ is) same inside = absurd inside
+corner_inside [] (c ∷ cs) index same inside = absurd (omega (arith, same))
+corner_inside (d ∷ ds) [] index same inside = absurd (omega (arith, same))
+corner_inside (d ∷ ds) (c ∷ cs) [] same inside = absurd inside
+corner_inside (d ∷ ds) (c ∷ cs) (i ∷ is) same inside =
+    let back : i / c * c + i % c ≡ i = div-add-mod' i c in
+    (omega (arith, back, inside.0), corner_inside ds cs is (omega (arith, same)) inside.1)
+
 -- ---- the dimensions from the k-th on
 
 module _ (sizes chunk : List ℕ) (place : ℕ) where
@@ -95,6 +106,10 @@ module _ (sizes chunk : List ℕ) (place : ℕ) where
 
   abbrev pub inner_from : ℕ → ℕ
   inner_from k = place_of (drop k chunk) (inner_of (drop k chunk) (index_from k))
+
+  -- the place of the chunk's first cell
+  abbrev pub first_from : ℕ → ℕ
+  first_from k = place_of (drop k sizes) (corner_from k)
 
   -- the number of an index in dimension k
   abbrev pub number_in : ℕ → ℕ
@@ -118,6 +133,15 @@ module _ (sizes chunk : List ℕ) (place : ℕ) (same : length chunk ≡ length 
     pub inner_more : inner_from sizes chunk place k ≡ number_in sizes chunk place k % get_or chunk k 0 * cells (drop (k + 1) chunk) + inner_from sizes chunk place (k + 1)
     inner_more = ap₂ (λ cs is. place_of cs (inner_of cs is)) chunk_more index_more
 
+    pub first_more : first_from sizes chunk place k
+        ≡ number_in sizes chunk place k / get_or chunk k 0 * get_or chunk k 0 * cells (drop (k + 1) sizes) + first_from sizes chunk place (k + 1)
+    first_more = ap₂ place_of sizes_more corner_more
+
+    pub step_more : cells (drop (k + 1) sizes) * get_or sizes k 0 ≡ cells (drop k sizes)
+    step_more =
+        let turned : cells (drop (k + 1) sizes) * get_or sizes k 0 ≡ get_or sizes k 0 * cells (drop (k + 1) sizes) = omega arith in
+        turned ∙ sym (ap cells sizes_more)
+
     pub rest_more : place / cells (drop (k + 1) sizes) / get_or sizes k 0 ≡ place / cells (drop k sizes)
     rest_more =
         let turned : cells (drop (k + 1) sizes) * get_or sizes k 0 ≡ get_or sizes k 0 * cells (drop (k + 1) sizes) = omega arith in
@@ -133,22 +157,21 @@ module _ (sizes chunk : List ℕ) (place : ℕ) (same : length chunk ≡ length 
       let long : length (index_from sizes chunk place k) ≡ length (drop k chunk) = length-index_of (drop k sizes) (place % cells (drop k sizes)) ∙ omega (arith, length-drop k sizes, length-drop k chunk) in
       place_below (drop k chunk) (inner_of (drop k chunk) (index_from sizes chunk place k)) (inner_inside (drop k chunk) (index_from sizes chunk place k) long (some_drop k chunk more))
 
+  pub first_low : (k : ℕ) → first_from sizes chunk place k < cells (drop k sizes)
+  first_low k =
+      let more : 0 < cells (drop k sizes) = some_drop k sizes some in
+      let low : place % cells (drop k sizes) < cells (drop k sizes) = omega (arith, more) in
+      place_below (drop k sizes) (corner_from sizes chunk place k)
+      (corner_inside (drop k sizes) (drop k chunk) (index_from sizes chunk place k) (omega (arith, same, length-drop k sizes, length-drop k chunk))
+      (inside-index (drop k sizes) (place % cells (drop k sizes)) low))
+
   pub all_from : place < cells sizes → index_from sizes chunk place 0 ≡ index_of sizes place
   all_from below = ap (index_of sizes) (mod-eq_of_lt below)
-
--- what is written down for one dimension
-pub written_more : (corner : List ℕ) (k n c : ℕ) (rest : List ℕ) → k < length corner → drop (k + 1) corner ≡ rest
-    → drop k (set corner k (n - n % c)) ≡ n / c * c ∷ rest
-written_more corner k n c rest low is =
-    let corner_is : n - n % c ≡ n / c * c = omega (arith, div-add-mod' n c) in
-    drop-set corner k (n - n % c) low ∙ ap₂ (λ m ms. m ∷ ms) corner_is is
 
 -- ---- a step from dimension j to the one before it
 
 module _ (sizes chunk : List ℕ) (place : ℕ) (same : length chunk ≡ length sizes) (some : 0 < cells sizes) (more : 0 < cells chunk)
-    (j : ℕ) (up : 0 < j) (within : j ≤ length sizes) (rest stride inner : ℕ) (corner : List ℕ) (room : length corner ≡ length sizes)
-    (rest-is : rest ≡ place / cells (drop j sizes)) (stride-is : stride ≡ cells (drop j chunk)) (inner-is : inner ≡ inner_from sizes chunk place j)
-    (corner-is : drop j corner ≡ corner_from sizes chunk place j) where
+    (j : ℕ) (up : 0 < j) (within : j ≤ length sizes) (rest : ℕ) (rest-is : rest ≡ place / cells (drop j sizes)) where
   abbrev k : ℕ
   k = j - 1
 
@@ -167,38 +190,75 @@ module _ (sizes chunk : List ℕ) (place : ℕ) (same : length chunk ≡ length 
   rest_here : rest ≡ place / cells (drop (k + 1) sizes)
   rest_here = rest-is ∙ ap (λ n. place / cells (drop n sizes)) back
 
-  stride_here : stride ≡ cells (drop (k + 1) chunk)
-  stride_here = stride-is ∙ ap (λ n. cells (drop n chunk)) back
-
-  inner_here : inner ≡ inner_from sizes chunk place (k + 1)
-  inner_here = inner-is ∙ ap (inner_from sizes chunk place) back
-
-  corner_here : drop (k + 1) corner ≡ corner_from sizes chunk place (k + 1)
-  corner_here = ap (λ n. drop n corner) (sym back) ∙ corner-is ∙ ap (corner_from sizes chunk place) back
-
   number-is : number ≡ number_in sizes chunk place k
   number-is = ap (λ n. n % get_or sizes k 0) rest_here
 
   pub next_rest : rest / get_or sizes k 0 ≡ place / cells (drop k sizes)
   next_rest = ap (λ n. n / get_or sizes k 0) rest_here ∙ rest_more sizes chunk place same some more k low
 
-  pub next_stride : stride * box ≡ cells (drop k chunk)
-  next_stride = ap (λ n. n * box) stride_here ∙ stride_more sizes chunk place same some more k low
+  -- the place in the chunk
+  module _ (stride inner : ℕ) (stride-is : stride ≡ cells (drop j chunk)) (inner-is : inner ≡ inner_from sizes chunk place j) where
+    stride_here : stride ≡ cells (drop (k + 1) chunk)
+    stride_here = stride-is ∙ ap (λ n. cells (drop n chunk)) back
 
-  pub next_inner : inner + number % box * stride ≡ inner_from sizes chunk place k
-  next_inner =
-      let product : number % box * stride ≡ number_in sizes chunk place k % box * cells (drop (k + 1) chunk) = ap₂ (λ n s. n % box * s) number-is stride_here in
-      omega (arith, product, inner_here, inner_more sizes chunk place same some more k low)
+    inner_here : inner ≡ inner_from sizes chunk place (k + 1)
+    inner_here = inner-is ∙ ap (inner_from sizes chunk place) back
 
-  pub next_corner : drop k (set corner k (number - number % box)) ≡ corner_from sizes chunk place k
-  next_corner =
-      written_more corner k number box (corner_from sizes chunk place (k + 1)) (omega (arith, low, room)) corner_here
-      ∙ ap (λ n. n / box * box ∷ corner_from sizes chunk place (k + 1)) number-is
-      ∙ sym (corner_more sizes chunk place same some more k low)
+    pub next_stride : stride * box ≡ cells (drop k chunk)
+    next_stride = ap (λ n. n * box) stride_here ∙ stride_more sizes chunk place same some more k low
 
-  module _ (small : cells chunk ≤ 2 ^ 30) where
-    pub stride_small : stride * box ≤ 2 ^ 30
-    stride_small = omega (arith, next_stride, cells_drop k chunk more)
+    pub next_inner : inner + number % box * stride ≡ inner_from sizes chunk place k
+    next_inner =
+        let product : number % box * stride ≡ number_in sizes chunk place k % box * cells (drop (k + 1) chunk) = ap₂ (λ n s. n % box * s) number-is stride_here in
+        omega (arith, product, inner_here, inner_more sizes chunk place same some more k low)
 
-    pub inner_small : inner + number % box * stride ≤ 2 ^ 30
-    inner_small = omega (arith, next_inner, inner_low sizes chunk place same some more k, cells_drop k chunk more)
+    module _ (small : cells chunk ≤ 2 ^ 30) where
+      pub stride_small : stride * box ≤ 2 ^ 30
+      stride_small = omega (arith, next_stride, cells_drop k chunk more)
+
+      pub inner_small : inner + number % box * stride ≤ 2 ^ 30
+      inner_small = omega (arith, next_inner, inner_low sizes chunk place same some more k, cells_drop k chunk more)
+
+  -- the place of the chunk's first cell
+  module _ (step first : ℕ) (step-is : step ≡ cells (drop j sizes)) (first-is : first ≡ first_from sizes chunk place j) where
+    step_here : step ≡ cells (drop (k + 1) sizes)
+    step_here = step-is ∙ ap (λ n. cells (drop n sizes)) back
+
+    first_here : first ≡ first_from sizes chunk place (k + 1)
+    first_here = first-is ∙ ap (first_from sizes chunk place) back
+
+    pub next_step : step * get_or sizes k 0 ≡ cells (drop k sizes)
+    next_step = ap (λ n. n * get_or sizes k 0) step_here ∙ step_more sizes chunk place same some more k low
+
+    pub next_first : first + (number - number % box) * step ≡ first_from sizes chunk place k
+    next_first =
+        let corner : number - number % box ≡ number / box * box = omega (arith, div-add-mod' number box) in
+        let product : (number - number % box) * step ≡ number / box * box * step = ap (λ n. n * step) corner in
+        let moved : number / box * box * step ≡ number_in sizes chunk place k / box * box * cells (drop (k + 1) sizes)
+        = ap₂ (λ n s. n / box * box * s) number-is step_here in
+        omega (arith, product, moved, first_here, first_more sizes chunk place same some more k low)
+
+    module _ (few : cells sizes ≤ 2 ^ 40) where
+      pub step_few : step * get_or sizes k 0 ≤ 2 ^ 40
+      step_few = omega (arith, next_step, cells_drop k sizes some)
+
+      pub first_few : first + (number - number % box) * step ≤ 2 ^ 40
+      first_few = omega (arith, next_first, first_low sizes chunk place same some more k, cells_drop k sizes some)
+
+-- ---- the index alone
+
+module _ (sizes : List ℕ) (place : ℕ) (some : 0 < cells sizes) (j : ℕ) (up : 0 < j) (within : j ≤ length sizes) (rest : ℕ) (index : List ℕ) (room : length index ≡ length sizes)
+    (rest-is : rest ≡ place / cells (drop j sizes)) (index-is : drop j index ≡ index_from sizes sizes place j) where
+  pub written_rest : rest / get_or sizes (j - 1) 0 ≡ place / cells (drop (j - 1) sizes)
+  written_rest = next_rest sizes sizes place refl some some j up within rest rest-is
+
+  pub written_index : drop (j - 1) (set index (j - 1) (rest % get_or sizes (j - 1) 0)) ≡ index_from sizes sizes place (j - 1)
+  written_index =
+      let back : j ≡ j - 1 + 1 = omega (arith, up) in
+      let low : j - 1 < length sizes = omega (arith, up, within) in
+      let others : drop (j - 1 + 1) index ≡ index_from sizes sizes place (j - 1 + 1)
+      = ap (λ (n : ℕ). drop n index) (sym back) ∙ index-is ∙ ap (index_from sizes sizes place) back in
+      let here : rest % get_or sizes (j - 1) 0 ≡ number_in sizes sizes place (j - 1)
+      = ap (λ (n : ℕ). n % get_or sizes (j - 1) 0) (rest-is ∙ ap (λ (n : ℕ). place / cells (drop n sizes)) back) in
+      drop-set index (j - 1) (rest % get_or sizes (j - 1) 0) (omega (arith, low, room)) ∙ ap₂ (λ (n : ℕ) (ns : List ℕ). n ∷ ns) here others
+      ∙ sym (index_more sizes sizes place refl some some (j - 1) low)

@@ -91,6 +91,19 @@ corner_last (d ∷ e ∷ ds) (c ∷ k ∷ cs) p same some below =
 pub length-first : (sizes chunk : List ℕ) (p : ℕ) → length chunk ≡ length sizes → length (corner_of chunk (index_of sizes p)) ≡ length sizes
 length-first sizes chunk p same = length-corner chunk (index_of sizes p) (length-index_of sizes p ∙ sym same) ∙ same
 
+-- its last number
+pub corner_column : (sizes chunk : List ℕ) (p : ℕ) → length chunk ≡ length sizes → 0 < length sizes → p < cells sizes
+    → get_or (corner_of chunk (index_of sizes p)) (length sizes - 1) 0
+    ≡ p % get_or sizes (length sizes - 1) 0 / get_or chunk (length sizes - 1) 0 * get_or chunk (length sizes - 1) 0
+corner_column sizes chunk p same some below =
+    let long = length-first sizes chunk p same in
+    let row-is : get_or sizes (length sizes - 1) 0 ≡ last_of sizes = last-is sizes some in
+    let box-is : get_or chunk (length sizes - 1) 0 ≡ last_of chunk = ap (λ m. get_or chunk (m - 1) 0) (sym same) ∙ last-is chunk (omega (arith, same, some)) in
+    ap (λ m. get_or (corner_of chunk (index_of sizes p)) (m - 1) 0) (sym long)
+    ∙ last-is (corner_of chunk (index_of sizes p)) (omega (arith, long, some))
+    ∙ corner_last sizes chunk p same some below
+    ∙ sym (λ i. p % row-is i / box-is i * box-is i)
+
 module _ (sizes chunk : List ℕ) (p n : ℕ) (same : length chunk ≡ length sizes) (some : 0 < length sizes) (wide : 0 < get_or chunk (length sizes - 1) 0)
     (below : p < cells sizes) (all : n ≡ left_in_row sizes chunk p)
     (more : get_or (corner_of chunk (index_of sizes p)) (length sizes - 1) 0 + get_or chunk (length sizes - 1) 0 < get_or sizes (length sizes - 1) 0) where
@@ -107,12 +120,7 @@ module _ (sizes chunk : List ℕ) (p n : ℕ) (same : length chunk ≡ length si
   box-is = ap (λ m. get_or chunk (m - 1) 0) (sym same) ∙ last-is chunk (omega (arith, same, some))
 
   first-is : get_or (corner_of chunk (index_of sizes p)) (length sizes - 1) 0 ≡ p % d / k * k
-  first-is =
-      let long = length-first sizes chunk p same in
-      ap (λ m. get_or (corner_of chunk (index_of sizes p)) (m - 1) 0) (sym long)
-      ∙ last-is (corner_of chunk (index_of sizes p)) (omega (arith, long, some))
-      ∙ corner_last sizes chunk p same some below
-      ∙ sym (λ i. p % row-is i / box-is i * box-is i)
+  first-is = corner_column sizes chunk p same some below
 
   full : p % d % k + n ≡ k
   full =

@@ -1,5 +1,5 @@
 -- Where the cells of an array stand, by what is kept of its header and of its tree.
-use Rattle.std.proofs.Common.{◌≡◌, ℕ, false, ◌+◌, ◌*◌, ◌^◌, ◌≤◌, inl, inr, List, length, replicate, Option, Some, None, true, refl, sym, ap, ap₂, ◌∙◌, subst, arith}
+use Rattle.std.proofs.Common.{◌≡◌, ℕ, false, ◌+◌, ◌*◌, ◌^◌, ◌≤◌, inl, inr, List, length, Option, Some, None, true, refl, sym, ap, ap₂, ◌∙◌, subst, arith}
 use Rattle.std.specs.Prelude.{is_some, option_map}
 use Rattle.std.specs.FinMap.{get, get-empty}
 use Rattle.std.specs.Ordering.{nat_cmp}
@@ -21,7 +21,7 @@ use Rattle.h5_layout.specs.CellPlaces.{IsIndexOf, IsLineAt, IsUnstored}
 use Rattle.h5_layout.specs.ChunkCells.{AreBeside, chunk_of, place_in_chunk}
 use Rattle.h5_layout.specs.Compact.{IsRunAt}
 use Rattle.h5_layout.specs.Data.{AreDataRead, stored_chunks}
-use Rattle.h5_layout.specs.GridKept.{GridKept, grid_in}
+use Rattle.h5_layout.specs.GridKept.{GridKept, grid_in, no_row, no_chunk_found}
 use Rattle.h5_layout.specs.Standing.{IsStandingAt, address_at, address_of, is_stored_in}
 use Rattle.h5_layout.specs.Judged.{is_chunk_large}
 use Rattle.h5_layout.specs.Stored.{IsArray, has_room}
@@ -72,8 +72,8 @@ pub index_made : (image : List ℕ) (a : Described) → IsArray a → IsFixed a.
       sizes = sizes;
       shape = record { sizes = chunk; bytes = cells chunk * size };
       root = root;
-      cursor = record { tree = None; beside = record { first = replicate (length sizes) 0; at = replicate 64 None } };
-      row = record { start = 0; cells = 0; inner = 0; at = None; corner = replicate 32 0; number = None };
+      cursor = no_chunk_found;
+      row = no_row;
     })
 index_made image a sound fixed read chunk root laid chunks sizes same size wide =
     let rank : has_room a.sizes a.fixed.size (InChunks chunk (Some root)) ≡ true = subst (λ (l : Layout). has_room a.sizes a.fixed.size l ≡ true) laid sound.room in

@@ -65,13 +65,14 @@ module _ (old : List ℕ) (a : Described) (ms : List Message) (has : HasArray ms
               stored = subst (λ (s : Shape). AreChunksRead new s g.root) (sym of.shape) chunks;
             };
             cursor = subst (λ (s : Shape). IsCursor new s g.root g.cursor.tree) (sym of.shape) still;
-            beside = subst (λ (c : Chunks). AreChunksBeside c g.shape.sizes g.cursor.beside) (sym stored) of.kept.beside;
-            row = λ found.
-                let was_row = of.kept.row found in
+            beside = subst (λ (c : Chunks). AreChunksBeside c g.sizes g.shape.sizes g.cursor.beside) (sym stored) of.kept.beside;
+            row = λ some.
+                let was_row = of.kept.row some in
                 record {
                   beside = was_row.beside;
                   inner = was_row.inner;
                   at = was_row.at ∙ ap (λ (c : Chunks). get c (corner_of g.shape.sizes (index_of g.sizes g.row.start))) (sym stored);
+                  first = was_row.first;
                   corner = was_row.corner;
                   all = was_row.all;
                 };

@@ -1,13 +1,21 @@
 -- Stored chunks that stand beside one another, along the last dimension, and were found (File Format Specification 3.0, section III.A.1).
-use Rattle.std.specs.Prelude.{◌≡◌, ℕ, ◌+◌, ◌-◌, ◌*◌, IfSome, Option, None, Some, List, length, get_or, set}
+use Rattle.std.specs.Prelude.{◌≡◌, ℕ, ◌+◌, ◌-◌, ◌*◌, ◌<◌, ◌==◌, if◌then◌else◌, IfSome, Option, None, Some, List, length, get_or, replicate, set}
 use Rattle.std.specs.FinMap.{get}
 use Rattle.h5_model.specs.Format.Chunks.{Chunks}
+use Rattle.h5_model.specs.Tree.Places.{cells, index_of}
 use Rattle.h5_shape.specs.InBox.{IsCorner}
+use Rattle.h5_layout.specs.declared.beside.ChunkCorner.{ChunkCorner}
+use Rattle.h5_layout.specs.declared.beside.FoundChunks.{FoundChunks}
 
--- the first index of the first of them, and the address of each that is known
-pub record ChunksBeside : Type 0 where
-  pub first : List ℕ
-  pub at : List (Option ℕ)
+-- the address that is kept so, if one is: no chunk stands at 0, where the superblock is
+abbrev pub address_kept : ℕ → Option ℕ
+address_kept at = if at == 0 then None else Some at
+
+-- a chunk begins there in an array of these sizes: its first index has this place, and this last number
+pub record IsFirstCell (sizes chunk : List ℕ) (corner : ChunkCorner) : Type 0 where
+  pub inside : 0 < cells sizes → corner.place < cells sizes
+  pub is : IsCorner chunk (index_of sizes corner.place)
+  pub column : corner.column ≡ get_or (index_of sizes corner.place) (length sizes - 1) 0
 
 -- the first index of the chunk that stands so many chunks behind the one with this first index
 abbrev pub corner_beside : List ℕ → List ℕ → ℕ → List ℕ
@@ -18,7 +26,11 @@ corner_beside chunk corner k =
 abbrev pub IsNumberBeside : List ℕ → List ℕ → List ℕ → Option ℕ → Type 0
 IsNumberBeside chunk first corner number = IfSome number (λ k. corner ≡ corner_beside chunk first k)
 
--- these are stored at these addresses, among the chunks of an array, which have these sizes
-pub record AreChunksBeside (chunks : Chunks) (sizes : List ℕ) (found : ChunksBeside) : Type 0 where
-  pub first : IsCorner sizes found.first
-  pub at : (k : ℕ) → IfSome (get_or found.at k None) (λ at. get chunks (corner_beside sizes found.first k) ≡ Some at)
+-- these are stored at these addresses, among the chunks of an array of these sizes, in chunks of those
+pub record AreChunksBeside (chunks : Chunks) (sizes chunk : List ℕ) (found : FoundChunks) : Type 0 where
+  pub first : IsFirstCell sizes chunk found.first
+  pub at : (k : ℕ) → IfSome (address_kept (get_or found.at k 0)) (λ at. get chunks (corner_beside chunk (index_of sizes found.first.place) k) ≡ Some at)
+
+-- one chunk alone
+abbrev pub only_chunk : ChunkCorner → ℕ → FoundChunks
+only_chunk corner kept = record { first = corner; at = set (replicate 64 0) 0 kept }

@@ -1,26 +1,32 @@
 //! Chunks that stand beside one another, as they were found (File Format Specification 3.0, section III.A.1).
 
-ghost use Rattle.std.specs.Prelude.{◌≡◌, ℕ, ◌≤◌, IfSome, List, None, Some, length, replicate, set};
+ghost use Rattle.std.specs.Prelude.{◌≡◌, ℕ, IfSome, List, Some};
 ghost use Rattle.std.specs.FinMap.{get};
 ghost use Rattle.h5_model.specs.Format.Chunks.{Chunks};
-ghost use Rattle.h5_shape.specs.InBox.{IsCorner};
-ghost use Rattle.h5_layout.specs.FoundChunks.{AreChunksBeside, IsNumberBeside};
+ghost use Rattle.h5_model.specs.Tree.Places.{index_of};
+ghost use Rattle.h5_layout.specs.FoundChunks.{AreChunksBeside, IsFirstCell, IsNumberBeside, address_kept, only_chunk};
+ghost use Rattle.h5_layout.specs.GridKept.{no_chunk_found};
 
 use h5_chunks::ChunkCursor;
-use std::marker::Model;
 
 /// How many chunks beside one another are kept at most. Of a longer row of chunks it is the first ones.
 const MOST: usize = 64;
 
+/// The first cell of a chunk: its place in the array, and the last number of its index there, which tells the column.
+#[derive(Clone, Copy, Debug)]
+pub(crate) struct ChunkCorner {
+    pub(crate) place: u64,
+    pub(crate) column: u64,
+}
+
 /// Stored chunks that stand beside one another, along the last dimension, and were found.
 #[derive(Debug, Drop)]
 pub(crate) struct FoundChunks {
-    /// How many dimensions the array has.
-    rank: usize,
-    /// The first index of the first of them.
-    first: [u64; 32],
-    /// The address of each that was found, by how many chunks behind the first it stands.
-    at: [Option<u64>; 64],
+    /// Where the first of them begins.
+    pub(crate) first: ChunkCorner,
+    /// The address of each that was found, by how many chunks behind the first it stands, or 0: no chunk stands there. Four
+    /// bytes each, so that the whole is soon moved; one further away is not kept.
+    pub(crate) at: [u32; 64],
 }
 
 /// Where chunks of an array were found: the last one in its tree, and those beside one another.
@@ -33,126 +39,102 @@ pub(crate) struct RowCursor {
 }
 
 impl RowCursor {
-    /// None was found yet, of an array with so many dimensions.
-    pub(crate) fn new(rank: usize) -> Self
-        requires { rank ≤ 32 }
-        ensures { result
-            ≡ record { tree = None; beside = record { first = replicate rank 0; at = replicate 64 None } } }
+    /// None was found yet.
+    pub(crate) fn new() -> Self
+        ensures { result ≡ no_chunk_found }
     {
         RowCursor {
             tree: ChunkCursor::new(),
-            beside: FoundChunks::new(rank),
+            beside: FoundChunks {
+                first: ChunkCorner {
+                    place: 0,
+                    column: 0,
+                },
+                at: [0; MOST],
+            },
         }
     }
-}
-
-impl Model for FoundChunks {
-    ghost use Rattle.std.specs.Prelude.{◌≤◌, take};
-    ghost use Rattle.h5_layout.specs.FoundChunks.{ChunksBeside};
-
-    ghost Value = { ChunksBeside };
-
-    ghost view = { λ f. record { first = take f.rank f.first; at = f.at } };
-
-    ghost invariant = { λ f. f.rank ≤ 32 };
 }
 
 impl FoundChunks {
-    /// None yet, of an array with so many dimensions.
-    pub(crate) fn new(rank: usize) -> Self
-        requires { rank ≤ 32 }
-        ensures { result ≡ record { first = replicate rank 0; at = replicate 64 None } }
-    {
-        FoundChunks {
-            rank,
-            first: [0; 32],
-            at: [None; 64],
-        }
-    }
-
     /// The address of the chunk with this number, where it was found.
     #[inline(always)]
     pub(crate) fn address_of(&self, number: Option<u64>) -> Option<u64>
-        ensures { (chunks : Chunks) (sizes corner : List ℕ) → AreChunksBeside chunks sizes self.now
-            → IsNumberBeside sizes self.now.first corner number
+        ensures { (chunks : Chunks) (sizes chunk corner : List ℕ)
+            → AreChunksBeside chunks sizes chunk self.now
+            → IsNumberBeside chunk (index_of sizes self.now.first.place) corner number
             → IfSome result (λ at. get chunks corner ≡ Some at) }
     {
         let number = number?;
         if number >= MOST as u64 {
             return None;
         }
-        self.at[number as usize]
+        address(self.at[number as usize])
     }
 
-    /// Keeps the address of the chunk with this first index and number, which is none of them. Returns its number then.
-    pub(crate) fn put(&mut self, corner: &[u64], number: Option<u64>, at: u64) -> Option<u64>
-        requires { length corner.now ≡ length self.old.first }
-        ensures number { (sizes : List ℕ) → IsNumberBeside sizes self.old.first corner.now number
-            → IsNumberBeside sizes self.new.first corner.now result }
-        ensures beside { (chunks : Chunks) (sizes : List ℕ) → IsCorner sizes corner.now
-            → AreChunksBeside chunks sizes self.old → IsNumberBeside sizes self.old.first corner.now number
-            → get chunks corner.now ≡ Some at → AreChunksBeside chunks sizes self.new }
+    /// Keeps the address of the chunk that begins there and has this number, which is none of them. Returns its number
+    /// then.
+    pub(crate) fn put(&mut self, corner: ChunkCorner, number: Option<u64>, at: u64) -> Option<u64>
+        ensures number { (sizes chunk : List ℕ)
+            → IsNumberBeside chunk (index_of sizes self.old.first.place)
+            (index_of sizes corner.place) number
+            → IsNumberBeside chunk (index_of sizes self.new.first.place)
+            (index_of sizes corner.place) result }
+        ensures beside { (chunks : Chunks) (sizes chunk : List ℕ) → IsFirstCell sizes chunk corner
+            → AreChunksBeside chunks sizes chunk self.old
+            → IsNumberBeside chunk (index_of sizes self.old.first.place)
+            (index_of sizes corner.place) number
+            → get chunks (index_of sizes corner.place) ≡ Some at
+            → AreChunksBeside chunks sizes chunk self.new }
     {
+        let Some(kept) = kept_address(at) else {
+            return number;
+        };
         let Some(behind) = number else {
-            self.begin(corner, at);
+            self.begin(corner, kept);
             return Some(0);
         };
-        if self.at[0].is_some() && behind < MOST as u64 {
-            self.at[behind as usize] = Some(at);
+        if self.at[0] != 0 && behind < MOST as u64 {
+            self.at[behind as usize] = kept;
             return number;
         }
         // Of a longer row of chunks the first ones are kept.
-        if self.at[MOST - 1].is_some() {
+        if self.at[MOST - 1] != 0 {
             return number;
         }
         // None was found yet, or the row of chunks goes on far behind those that were.
-        self.begin(corner, at);
+        self.begin(corner, kept);
         Some(0)
     }
 
-    /// The number of the chunk with this first index: the one that is known, or else the one that is found.
-    #[inline(always)]
-    pub(crate) fn number_from(
-        &self,
-        chunk: &[u64],
-        corner: &[u64],
-        known: Option<u64>,
-    ) -> Option<u64>
-        requires first { IsCorner chunk.now self.now.first }
-        requires corner { IsCorner chunk.now corner.now }
-        requires known { IsNumberBeside chunk.now self.now.first corner.now known }
-        ensures { IsNumberBeside chunk.now self.now.first corner.now result }
+    /// Keeps this address alone, of the chunk that begins there.
+    fn begin(&mut self, corner: ChunkCorner, kept: u32)
+        ensures { self.new ≡ only_chunk corner kept }
     {
-        match known {
-            Some(number) => Some(number),
-            None => self.number_of(chunk, corner),
-        }
+        self.first = corner;
+        self.at = [0; MOST];
+        self.at[0] = kept;
     }
+}
 
-    /// How many chunks behind the first of them the one with this first index stands; `None` where it does not stand
-    /// beside them, or stands before the first.
-    fn number_of(&self, chunk: &[u64], corner: &[u64]) -> Option<u64>
-        requires first { IsCorner chunk.now self.now.first }
-        requires corner { IsCorner chunk.now corner.now }
-        ensures { IsNumberBeside chunk.now self.now.first corner.now result }
-    {
-        let last = self.rank.checked_sub(1)?;
-        if self.first[..last] != corner[..last] || corner[last] < self.first[last] {
-            return None;
-        }
-        Some((corner[last] - self.first[last]) / chunk[last])
+/// An address as it is kept, if it can be.
+#[inline(always)]
+fn kept_address(at: u64) -> Option<u32>
+    ensures { IfSome result (λ kept. address_kept kept ≡ Some at) }
+{
+    match u32::try_from(at) {
+        Ok(kept) if kept != 0 => Some(kept),
+        _ => None,
     }
+}
 
-    /// Keeps this address alone, of the chunk with this first index.
-    fn begin(&mut self, corner: &[u64], at: u64)
-        requires { length corner.now ≡ length self.old.first }
-        ensures { self.new ≡ record {
-          first = corner.now;
-          at = set (replicate 64 None) 0 (Some at);
-        } }
-    {
-        self.first[..self.rank].copy_from_slice(corner);
-        self.at = [None; 64];
-        self.at[0] = Some(at);
+/// The address that is kept, if one is.
+#[inline(always)]
+fn address(kept: u32) -> Option<u64>
+    ensures { result ≡ address_kept kept }
+{
+    if kept == 0 {
+        return None;
     }
+    Some(u64::from(kept))
 }

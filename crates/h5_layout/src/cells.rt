@@ -19,25 +19,25 @@ use std::marker::Model;
 
 /// Where the cells of an array stand.
 #[derive(Debug, Drop)]
-pub(crate) enum CellData<'a> {
+pub(crate) enum CellData<'a, 'r> {
     /// Nowhere: each reads the fill.
     Filled,
     /// One behind the other in these bytes.
     InLine(&'a [u8]),
     /// In chunks.
-    InChunks(ChunkGrid<'a>),
+    InChunks(ChunkGrid<'a, 'r>),
 }
 
 /// All cells of an array.
 #[derive(Debug, Drop)]
-pub(crate) struct StoredCells<'a> {
+pub(crate) struct StoredCells<'a, 'r> {
     fixed: Fixed,
     fill: i128,
     count: u64,
-    held: CellData<'a>,
+    held: CellData<'a, 'r>,
 }
 
-impl<'a> Model for StoredCells<'a> {
+impl<'a, 'r> Model for StoredCells<'a, 'r> {
     ghost use Rattle.std.specs.Prelude.{◌≤◌, ◌^◌};
     ghost use Rattle.h5_layout.specs.CellData.{HasCellRoom, all_cells};
     ghost use Rattle.h5_layout.specs.Pieces.{CellsLeft};
@@ -49,9 +49,9 @@ impl<'a> Model for StoredCells<'a> {
     ghost invariant = { λ s. (s.count ≤ 2 ^ 40) × HasCellRoom s.fixed s.count s.held };
 }
 
-impl<'a> StoredCells<'a> {
+impl<'a, 'r> StoredCells<'a, 'r> {
     /// The cells of this array, whose data stand in the image.
-    pub(crate) fn new(image: &'a Image, array: &ArrayRef<'a>) -> Self
+    pub(crate) fn new(image: &'a Image, array: &'r ArrayRef<'a>) -> Self
         requires { AreDataRead image.now.bytes array.now.fixed array.now.layout }
         ensures { result ≡ record {
           fixed = array.now.fixed;
@@ -94,7 +94,7 @@ impl<'a> StoredCells<'a> {
 }
 
 /// Where the cells of this array stand.
-fn data_of<'a>(image: &'a Image, array: &ArrayRef<'a>) -> CellData<'a>
+fn data_of<'a, 'r>(image: &'a Image, array: &'r ArrayRef<'a>) -> CellData<'a, 'r>
     requires { AreDataRead image.now.bytes array.now.fixed array.now.layout }
     ensures room { HasCellRoom array.now.fixed (cells_of array.now.sizes) result }
     ensures values { (fill : ℤ) (place : ℕ) → place < cells_of array.now.sizes

@@ -1,54 +1,67 @@
 //! The cells of an array in chunks (File Format Specification 3.0, section III.A.1).
 
-ghost use Rattle.std.specs.Prelude.{◌≡◌, ℕ, List, ◌+◌, ◌*◌, ◌^◌, ◌<◌, ◌≤◌, IfSome, IsTrue, length, option_map, take};
+ghost use Rattle.std.specs.Prelude.{◌≡◌, ℕ, List, ◌+◌, ◌-◌, ◌*◌, ◌^◌, ◌<◌, ◌≤◌, IfSome, IsTrue, length, get_or, option_map};
 ghost use Rattle.std.specs.FinMap.{get};
 ghost use Rattle.std.specs.List.{AllByRecursion};
-ghost use Rattle.h5_model.specs.Tree.Grid.{corner_of, inner_of};
-ghost use Rattle.h5_model.specs.Tree.Places.{cells as cells_of, index_of, place_of};
+ghost use Rattle.h5_model.specs.Tree.Places.{cells as cells_of, index_of};
 ghost use Rattle.h5_chunks.specs.Cursor.{IsCursor};
 ghost use Rattle.h5_chunks.specs.Read.{AreChunksRead};
 ghost use Rattle.h5_chunks.specs.Shapes.{AreChunkSizes};
 ghost use Rattle.h5_chunks.specs.Told.{chunks_told};
-ghost use Rattle.h5_shape.specs.InBox.{IsCorner};
-ghost use Rattle.h5_layout.specs.ChunkCells.{AreBeside, AreChunkBytes, IsGrid, chunk_of, left_in_row, place_in_chunk};
-ghost use Rattle.h5_layout.specs.FoundChunks.{AreChunksBeside, IsNumberBeside};
-ghost use Rattle.h5_layout.specs.GridKept.{HasNext, IsRowOf};
+ghost use Rattle.h5_layout.specs.ChunkCells.{AreBeside, AreChunkBytes, IsGrid, chunk_of, place_in_chunk};
+ghost use Rattle.h5_layout.specs.FoundChunks.{AreChunksBeside, IsFirstCell, IsNumberBeside};
+ghost use Rattle.h5_layout.specs.GridKept.{HasNext, IsFoundIn, IsRowOf};
 
-use crate::beside::{FoundChunks, RowCursor};
-use crate::index::{ChunkIndex, FoundRow};
+use crate::beside::{ChunkCorner, FoundChunks, RowCursor};
+use crate::index::FoundRow;
+use crate::locate::{row_in_chunk, write_index};
 use h5_chunks::{ChunkCursor, ChunkShape, chunk_from};
 use h5_msg::ChunkSizes;
-use h5_shape::{CellRun, Dims};
+use h5_shape::{Dims, MAX_RANK};
 use h5_space::Image;
 use std::marker::Model;
 
-/// An array in chunks, and the image in which they stand. It has the sizes of both in itself, so that it can outlive the
-/// array's description.
+/// An array in chunks, and the image in which they stand, with what was found of it last. The sizes of both are lent.
 #[derive(Debug, Drop)]
-pub(crate) struct ChunkGrid<'a> {
+pub(crate) struct ChunkGrid<'a, 'r> {
     image: &'a Image,
-    index: ChunkIndex,
+    root: u64,
+    sizes: &'r [u64],
+    chunk: &'r ChunkSizes<'r>,
+    chunk_bytes: u64,
+    cursor: RowCursor,
+    row: FoundRow,
 }
 
-impl<'a> Model for ChunkGrid<'a> {
-    ghost use Rattle.h5_layout.specs.ChunkCells.{Grid};
-    ghost use Rattle.h5_layout.specs.GridKept.{IsGridKept, grid_in};
+impl<'a, 'r> Model for ChunkGrid<'a, 'r> {
+    ghost use Rattle.h5_layout.specs.ChunkCells.{Grid, IsGrid};
+    ghost use Rattle.h5_layout.specs.GridKept.{IsGridKept};
 
     ghost Value = { Grid };
 
-    ghost view = { λ g. grid_in g.image.now.bytes g.index };
+    ghost view = { λ g. record {
+      image = g.image.now.bytes;
+      sizes = g.sizes.now;
+      shape = record { sizes = g.chunk.now; bytes = g.chunk_bytes };
+      root = g.root;
+    } };
 
-    ghost invariant = { λ g. IsGridKept g.image.now.bytes g.index };
+    ghost invariant = { λ g. IsGridKept g.image.now.bytes (record {
+      sizes = g.sizes.now;
+      shape = record { sizes = g.chunk.now; bytes = g.chunk_bytes };
+      root = g.root;
+      cursor = g.cursor;
+      row = g.row;
+    }) };
 }
 
-/// An array in chunks, and the image in which they stand, with the sizes of both lent: where it is asked once, they need no
-/// copy.
+/// An array in chunks, and the image in which they stand, with the sizes of both lent.
 #[derive(Drop)]
 pub(crate) struct GridRef<'a, 'g> {
     image: &'a Image,
     root: u64,
     sizes: &'g [u64],
-    chunk: &'g [u64],
+    chunk: &'g ChunkSizes<'g>,
     chunk_bytes: u64,
 }
 
@@ -83,12 +96,12 @@ pub(crate) struct ChunkRow {
     pub(crate) cells: u64,
 }
 
-impl<'a> ChunkGrid<'a> {
+impl<'a, 'r> ChunkGrid<'a, 'r> {
     /// An array of these sizes and chunk sizes, with cells of so many bytes, whose chunks stand below this root.
     pub(crate) fn new(
         image: &'a Image,
-        dims: &Dims,
-        chunk_sizes: &ChunkSizes<'_>,
+        dims: &'r Dims,
+        chunk_sizes: &'r ChunkSizes<'r>,
         size: u64,
         root: u64,
     ) -> Self
@@ -107,12 +120,17 @@ impl<'a> ChunkGrid<'a> {
     {
         ChunkGrid {
             image,
-            index: ChunkIndex::new(dims, chunk_sizes, size, root),
+            root,
+            sizes: dims.sizes(),
+            chunk: chunk_sizes,
+            chunk_bytes: chunk_bytes(chunk_sizes, size),
+            cursor: RowCursor::new(),
+            row: FoundRow::none(),
         }
     }
 
     /// The cells from this place on that stand one behind the other in a row of a chunk.
-    // Inlined, as `ChunkIndex::row_at` is.
+    // Inlined, as `GridRef::row_at` is.
     #[inline(always)]
     pub(crate) fn row_at(&mut self, place: u64) -> ChunkRow
         requires { place < cells_of self.old.sizes }
@@ -124,7 +142,14 @@ impl<'a> ChunkGrid<'a> {
         ensures at { result.at ≡ chunk_of self.old place }
         ensures inside { IfSome result.at (λ at. at + self.old.shape.bytes ≤ length self.old.image) }
     {
-        self.index.row_at(self.image, place)
+        let grid = GridRef::lent(
+            self.image,
+            self.sizes,
+            self.chunk,
+            self.chunk_bytes,
+            self.root,
+        );
+        grid.row_at(&mut self.cursor, &mut self.row, place)
     }
 
     /// The bytes of the chunk at this address, where it is stored.
@@ -136,51 +161,19 @@ impl<'a> ChunkGrid<'a> {
             return None;
         };
         let bytes = self.image.bytes();
-        let end = at + self.index.chunk_bytes();
+        let end = at + self.chunk_bytes;
         Some(&bytes[at as usize..end as usize])
     }
 }
 
 impl<'a, 'g> GridRef<'a, 'g> {
-    /// An array of these sizes and chunk sizes, with cells of so many bytes, whose chunks stand below this root.
-    pub(crate) fn new(
-        image: &'a Image,
-        sizes: &'g [u64],
-        chunk: &'g [u64],
-        size: u64,
-        root: u64,
-    ) -> Self
-        requires rank { length chunk.now ≡ length sizes.now }
-        requires few { cells_of sizes.now ≤ 2 ^ 40 }
-        requires cell { 1 ≤ size }
-        requires sizes { AreChunkSizes chunk.now }
-        requires small { cells_of chunk.now * size ≤ 2 ^ 30 }
-        requires stored { AreChunksRead image.now.bytes
-            (record { sizes = chunk.now; bytes = cells_of chunk.now * size }) root }
-        ensures { result ≡ record {
-          image = image.now.bytes;
-          sizes = sizes.now;
-          shape = record { sizes = chunk.now; bytes = cells_of chunk.now * size };
-          root = root;
-        } }
-    {
-        let chunk_bytes = bytes_of(chunk, size);
-        GridRef {
-            image,
-            root,
-            sizes,
-            chunk,
-            chunk_bytes,
-        }
-    }
-
     /// The array of these sizes, in chunks of these sizes and of so many bytes, below this root.
     ///
     /// That it is one, whose chunks stand in the image, is the caller's condition.
     pub(crate) fn lent(
         image: &'a Image,
         sizes: &'g [u64],
-        chunk: &'g [u64],
+        chunk: &'g ChunkSizes<'g>,
         chunk_bytes: u64,
         root: u64,
     ) -> Self
@@ -206,20 +199,14 @@ impl<'a, 'g> GridRef<'a, 'g> {
         }
     }
 
-    /// The cells from this place on that stand one behind the other in a row of a chunk. The cursor of the tree is then
-    /// where the chunk was sought, and `corner` has the chunk's first index.
+    /// The cells from this place on that stand one behind the other in a row of a chunk. Where they are among those that
+    /// were found last, nothing is sought.
     // Inlined: a grid that was made for this row alone, and read back from memory, would wait for all writes of cells before it.
     #[inline(always)]
-    pub(crate) fn row_at(
-        &self,
-        cursor: &mut ChunkCursor,
-        corner: &mut [u64],
-        place: u64,
-    ) -> ChunkRow
+    pub(crate) fn row_at(&self, cursor: &mut RowCursor, row: &mut FoundRow, place: u64) -> ChunkRow
         requires below { place < cells_of self.now.sizes }
-        requires cursor { IsCursor self.now.image self.now.shape self.now.root cursor.old }
-        requires corner { length corner.old ≡ length self.now.sizes }
-        ensures cursor { IsCursor self.now.image self.now.shape self.now.root cursor.new }
+        requires found { IsFoundIn self.now cursor.old row.old }
+        ensures found { IsFoundIn self.now cursor.new row.new }
         ensures some { 0 < result.cells }
         ensures beside { AreBeside self.now.sizes self.now.shape.sizes place result.cells }
         ensures place { result.place ≡ place_in_chunk self.now place }
@@ -227,53 +214,63 @@ impl<'a, 'g> GridRef<'a, 'g> {
         ensures at { result.at ≡ chunk_of self.now place }
         ensures inside { IfSome result.at (λ at. at + self.now.shape.bytes ≤ length self.now.image) }
     {
-        let row = row_in_chunk(self.sizes, self.chunk, place, corner);
+        self.seek(cursor, row, place);
+        let on = place - row.start;
         ChunkRow {
-            at: self.address_of(cursor, corner),
-            place: row.place,
-            cells: row.length,
+            at: row.at,
+            place: row.inner + on,
+            cells: row.cells - on,
         }
     }
 
-    /// Makes the row that was found last the one from this place on.
-    // Inlined, as `row_at` is.
+    /// Makes the row that was found last one that has this place.
     #[inline(always)]
-    pub(crate) fn find_row(&self, cursor: &mut RowCursor, row: &mut FoundRow, place: u64)
+    fn seek(&self, cursor: &mut RowCursor, row: &mut FoundRow, place: u64)
         requires below { place < cells_of self.now.sizes }
-        requires cursor { IsCursor self.now.image self.now.shape self.now.root cursor.old.tree }
-        requires beside { AreChunksBeside (chunks_told self.now.image self.now.shape self.now.root)
-            self.now.shape.sizes cursor.old.beside }
-        requires row { 0 < row.old.cells → IsRowOf self.now row.old }
-        requires number { IsNumberBeside self.now.shape.sizes cursor.old.beside.first
-            (take (length self.now.sizes) row.old.corner) row.old.number }
-        ensures cursor { IsCursor self.now.image self.now.shape self.now.root cursor.new.tree }
-        ensures beside { AreChunksBeside (chunks_told self.now.image self.now.shape self.now.root)
-            self.now.shape.sizes cursor.new.beside }
-        ensures row { IsRowOf self.now row.new }
-        ensures number { IsNumberBeside self.now.shape.sizes cursor.new.beside.first
-            (take (length self.now.sizes) row.new.corner) row.new.number }
+        requires found { IsFoundIn self.now cursor.old row.old }
+        ensures found { IsFoundIn self.now cursor.new row.new }
+        ensures since { row.new.start ≤ place }
+        ensures until { place < row.new.start + row.new.cells }
+    {
+        if place < row.start {
+            self.find_row(cursor, row, place);
+            return;
+        }
+        if place - row.start < row.cells || self.step_row(&cursor.beside, row, place) {
+            return;
+        }
+        self.find_row(cursor, row, place);
+    }
+
+    /// Makes the row that was found last the one from this place on.
+    // Apart from `step_row`, which serves most pieces: what is sought in the tree is far longer.
+    #[inline(never)]
+    fn find_row(&self, cursor: &mut RowCursor, row: &mut FoundRow, place: u64)
+        requires below { place < cells_of self.now.sizes }
+        requires found { IsFoundIn self.now cursor.old row.old }
+        ensures found { IsFoundIn self.now cursor.new row.new }
         ensures start { row.new.start ≡ place }
         ensures some { 0 < row.new.cells }
     {
         self.place_row(row, place);
-        row.at = self.address_beside(cursor, &row.corner[..self.sizes.len()], &mut row.number);
+        row.at = self.address_beside(cursor, row.corner, &mut row.number);
     }
 
     /// Makes the row that was found last the one from this place on, where the next chunk has it, and is one of those
     /// that were found beside one another. Returns whether it did; else the row is as it was.
     // Inlined, as `row_at` is.
     #[inline(always)]
-    pub(crate) fn step_row(&self, beside: &FoundChunks, row: &mut FoundRow, place: u64) -> bool
+    fn step_row(&self, beside: &FoundChunks, row: &mut FoundRow, place: u64) -> bool
         requires grid { IsGrid self.now }
         requires below { place < cells_of self.now.sizes }
         requires beside { AreChunksBeside (chunks_told self.now.image self.now.shape self.now.root)
-            self.now.shape.sizes beside.now }
+            self.now.sizes self.now.shape.sizes beside.now }
         requires row { 0 < row.old.cells → IsRowOf self.now row.old }
-        requires number { IsNumberBeside self.now.shape.sizes beside.now.first
-            (take (length self.now.sizes) row.old.corner) row.old.number }
+        requires number { IsNumberBeside self.now.shape.sizes (index_of self.now.sizes beside.now.first.place)
+            (index_of self.now.sizes row.old.corner.place) row.old.number }
         ensures row { 0 < row.new.cells → IsRowOf self.now row.new }
-        ensures number { IsNumberBeside self.now.shape.sizes beside.now.first
-            (take (length self.now.sizes) row.new.corner) row.new.number }
+        ensures number { IsNumberBeside self.now.shape.sizes (index_of self.now.sizes beside.now.first.place)
+            (index_of self.now.sizes row.new.corner.place) row.new.number }
         ensures start { IsTrue result → row.new.start ≡ place }
         ensures some { IsTrue result → 0 < row.new.cells }
     {
@@ -294,13 +291,13 @@ impl<'a, 'g> GridRef<'a, 'g> {
         requires below { place < cells_of self.now.sizes }
         requires row { 0 < row.old.cells → IsRowOf self.now row.old }
         requires number { (first : List ℕ) × IsNumberBeside self.now.shape.sizes first
-            (take (length self.now.sizes) row.old.corner) row.old.number }
+            (index_of self.now.sizes row.old.corner.place) row.old.number }
         ensures start { row.new.start ≡ place }
         ensures number { (first : List ℕ)
             → IsNumberBeside self.now.shape.sizes first
-            (take (length self.now.sizes) row.old.corner) row.old.number
+            (index_of self.now.sizes row.old.corner.place) row.old.number
             → IsNumberBeside self.now.shape.sizes first
-            (take (length self.now.sizes) row.new.corner) row.new.number }
+            (index_of self.now.sizes row.new.corner.place) row.new.number }
         ensures row { IsRowOf self.now (record row.new { at = chunk_of self.now row.new.start }) }
         ensures some { 0 < row.new.cells }
     {
@@ -308,15 +305,11 @@ impl<'a, 'g> GridRef<'a, 'g> {
             self.go_on(row, place);
             return;
         }
-        let run = row_in_chunk(
-            self.sizes,
-            self.chunk,
-            place,
-            &mut row.corner[..self.sizes.len()],
-        );
+        let found = row_in_chunk(self.sizes, self.chunk, place);
         row.start = place;
-        row.cells = run.length;
-        row.inner = run.place;
+        row.cells = found.cells;
+        row.inner = found.inner;
+        row.corner = found.corner;
         row.number = None;
     }
 
@@ -328,26 +321,28 @@ impl<'a, 'g> GridRef<'a, 'g> {
         requires row { IsRowOf self.now row.old }
         requires next { HasNext self.now.sizes self.now.shape.sizes row.old place }
         requires number { (first : List ℕ) × IsNumberBeside self.now.shape.sizes first
-            (take (length self.now.sizes) row.old.corner) row.old.number }
+            (index_of self.now.sizes row.old.corner.place) row.old.number }
         ensures start { row.new.start ≡ place }
         ensures next { row.new.number ≡ option_map (λ k. k + 1) row.old.number }
         ensures number { (first : List ℕ)
             → IsNumberBeside self.now.shape.sizes first
-            (take (length self.now.sizes) row.old.corner) row.old.number
+            (index_of self.now.sizes row.old.corner.place) row.old.number
             → IsNumberBeside self.now.shape.sizes first
-            (take (length self.now.sizes) row.new.corner) row.new.number }
+            (index_of self.now.sizes row.new.corner.place) row.new.number }
         ensures row { IsRowOf self.now (record row.new { at = chunk_of self.now row.new.start }) }
         ensures some { 0 < row.new.cells }
     {
         let last = self.sizes.len() - 1;
-        let size = self.chunk[last];
+        let size = u64::from(self.chunk.size(last));
         let number = next_number(row.number);
         let inner = row.inner + row.cells - size;
-        // The corner first: a number that is written behind it need not be read again.
-        let first = row.corner[last] + size;
-        row.corner[last] = first;
+        let corner = ChunkCorner {
+            place: row.corner.place + size,
+            column: row.corner.column + size,
+        };
         row.start = place;
-        row.cells = size.min(self.sizes[last] - first);
+        row.cells = size.min(self.sizes[last] - corner.column);
+        row.corner = corner;
         row.inner = inner;
         row.number = number;
     }
@@ -362,52 +357,86 @@ impl<'a, 'g> GridRef<'a, 'g> {
             && row.cells > 0
             && place >= row.start
             && place - row.start == row.cells
-            && self.sizes[rank - 1].saturating_sub(row.corner[rank - 1]) > self.chunk[rank - 1]
+            && self.sizes[rank - 1].saturating_sub(row.corner.column)
+                > u64::from(self.chunk.size(rank - 1))
     }
 
-    /// The address of the chunk with this first index, where it is stored, and its number among those that were found
-    /// beside one another. The tree is read only where it is none of them; then it comes among them.
+    /// The address of the chunk that begins there, where it is stored, and its number among those that were found beside
+    /// one another. The tree is read only where it is none of them; then it comes among them.
     #[inline(always)]
     fn address_beside(
         &self,
         cursor: &mut RowCursor,
-        corner: &[u64],
+        corner: ChunkCorner,
         number: &mut Option<u64>,
     ) -> Option<u64>
-        requires corner { IsCorner self.now.shape.sizes corner.now }
-        requires number { IsNumberBeside self.now.shape.sizes cursor.old.beside.first corner.now number.old }
+        requires some { 0 < cells_of self.now.sizes }
+        requires corner { IsFirstCell self.now.sizes self.now.shape.sizes corner }
+        requires number { IsNumberBeside self.now.shape.sizes
+            (index_of self.now.sizes cursor.old.beside.first.place)
+            (index_of self.now.sizes corner.place) number.old }
         requires cursor { IsCursor self.now.image self.now.shape self.now.root cursor.old.tree }
         requires beside { AreChunksBeside (chunks_told self.now.image self.now.shape self.now.root)
-            self.now.shape.sizes cursor.old.beside }
-        ensures exact { result
-            ≡ get (chunks_told self.now.image self.now.shape self.now.root) corner.now }
+            self.now.sizes self.now.shape.sizes cursor.old.beside }
+        ensures exact { result ≡ get (chunks_told self.now.image self.now.shape self.now.root)
+            (index_of self.now.sizes corner.place) }
         ensures cursor { IsCursor self.now.image self.now.shape self.now.root cursor.new.tree }
         ensures beside { AreChunksBeside (chunks_told self.now.image self.now.shape self.now.root)
-            self.now.shape.sizes cursor.new.beside }
-        ensures number { IsNumberBeside self.now.shape.sizes cursor.new.beside.first corner.now number.new }
+            self.now.sizes self.now.shape.sizes cursor.new.beside }
+        ensures number { IsNumberBeside self.now.shape.sizes
+            (index_of self.now.sizes cursor.new.beside.first.place)
+            (index_of self.now.sizes corner.place) number.new }
     {
-        let behind = cursor.beside.number_from(self.chunk, corner, *number);
+        let behind = match *number {
+            Some(number) => Some(number),
+            None => self.number_of(cursor.beside.first, corner),
+        };
         *number = behind;
         if let Some(at) = cursor.beside.address_of(behind) {
             return Some(at);
         }
-        let at = self.address_of(&mut cursor.tree, corner)?;
+        let at = self.address_of(&mut cursor.tree, corner.place)?;
         *number = cursor.beside.put(corner, behind, at);
         Some(at)
     }
 
-    /// The address of the chunk with this first index, where it is stored.
-    #[inline(always)]
-    fn address_of(&self, cursor: &mut ChunkCursor, corner: &[u64]) -> Option<u64>
-        requires rank { length corner.now ≡ length self.now.shape.sizes }
+    /// How many chunks behind the first one another one stands, by where they begin; `None` where it does not stand
+    /// beside it, or stands before it.
+    fn number_of(&self, first: ChunkCorner, corner: ChunkCorner) -> Option<u64>
+        requires some { 0 < cells_of self.now.sizes }
+        requires first { IsFirstCell self.now.sizes self.now.shape.sizes first }
+        requires corner { IsFirstCell self.now.sizes self.now.shape.sizes corner }
+        ensures { IsNumberBeside self.now.shape.sizes (index_of self.now.sizes first.place)
+            (index_of self.now.sizes corner.place) result }
+    {
+        let last = self.sizes.len().checked_sub(1)?;
+        if corner.place < first.place || corner.column < first.column {
+            return None;
+        }
+        let columns = corner.column - first.column;
+        if corner.place - first.place != columns {
+            return None;
+        }
+        Some(columns / u64::from(self.chunk.size(last)))
+    }
+
+    /// The address of the chunk whose first cell has this place, where it is stored.
+    // A call of its own: its room for sizes and offsets is cleared where the tree is read alone.
+    #[inline(never)]
+    fn address_of(&self, cursor: &mut ChunkCursor, corner: u64) -> Option<u64>
+        requires below { corner < cells_of self.now.sizes }
         requires cursor { IsCursor self.now.image self.now.shape self.now.root cursor.old }
-        ensures exact { result
-            ≡ get (chunks_told self.now.image self.now.shape self.now.root) corner.now }
-        ensures inside { IfSome result (λ at. at + self.now.shape.bytes ≤ length self.now.image) }
+        ensures exact { result ≡ get (chunks_told self.now.image self.now.shape self.now.root)
+            (index_of self.now.sizes corner) }
         ensures cursor { IsCursor self.now.image self.now.shape self.now.root cursor.new }
     {
-        let shape = ChunkShape::new(self.chunk, self.chunk_bytes);
-        chunk_from(self.image, &shape, self.root, cursor, corner)
+        let rank = self.sizes.len();
+        let mut offsets = [0; MAX_RANK];
+        write_index(self.sizes, corner, &mut offsets[..rank]);
+        let mut sizes = [0; MAX_RANK];
+        copy_sizes(self.chunk, &mut sizes[..rank]);
+        let shape = ChunkShape::new(&sizes[..rank], self.chunk_bytes);
+        chunk_from(self.image, &shape, self.root, cursor, &offsets[..rank])
     }
 }
 
@@ -433,6 +462,17 @@ pub(crate) fn copy_sizes(from: &ChunkSizes<'_>, to: &mut [u64])
     }
 }
 
+/// Copies chunk sizes as they are stored, in four bytes each.
+pub(crate) fn copy_short_sizes(from: &ChunkSizes<'_>, to: &mut [u32])
+    requires { length to.old ≡ length from.now }
+    ensures { to.new ≡ from.now }
+{
+    let rank = from.rank();
+    for k in 0..rank {
+        to[k] = from.size(k);
+    }
+}
+
 /// How many bytes a chunk has.
 pub(crate) fn bytes_of(chunk: &[u64], size: u64) -> u64
     requires cell { 1 ≤ size }
@@ -446,40 +486,15 @@ pub(crate) fn bytes_of(chunk: &[u64], size: u64) -> u64
     first * bytes_of(rest, size)
 }
 
-/// Writes the first index of the chunk that has the cell at a place. Returns the cell's place in the chunk, and how many cells
-/// from it on stay in its row of the chunk and of the array.
-pub(crate) fn row_in_chunk(sizes: &[u64], chunk: &[u64], place: u64, corner: &mut [u64]) -> CellRun
-    requires rank { length chunk.now ≡ length sizes.now }
-    requires room { length corner.old ≡ length sizes.now }
-    requires sizes { AreChunkSizes chunk.now }
-    requires small { cells_of chunk.now ≤ 2 ^ 30 }
-    requires below { place < cells_of sizes.now }
-    ensures corner { corner.new ≡ corner_of chunk.now (index_of sizes.now place) }
-    ensures inner { result.place
-        ≡ place_of chunk.now (inner_of chunk.now (index_of sizes.now place)) }
-    ensures some { 0 < result.length }
-    ensures beside { AreBeside sizes.now chunk.now place result.length }
-    ensures all { 0 < length sizes.now → result.length ≡ left_in_row sizes.now chunk.now place }
+/// How many bytes a chunk of these sizes has.
+pub(crate) fn chunk_bytes(chunk: &ChunkSizes<'_>, size: u64) -> u64
+    requires cell { 1 ≤ size }
+    requires small { cells_of chunk.now * size ≤ 2 ^ 30 }
+    ensures exact { result ≡ cells_of chunk.now * size }
+    ensures sound { AreChunkSizes chunk.now }
 {
-    let mut rest = place;
-    let mut inner = 0;
-    let mut stride = 1;
-    let mut left = 1;
-    let mut k = sizes.len();
-    while k > 0 {
-        k -= 1;
-        let index = rest % sizes[k];
-        rest /= sizes[k];
-        let within = index % chunk[k];
-        if k + 1 == sizes.len() {
-            left = (sizes[k] - index).min(chunk[k] - within);
-        }
-        corner[k] = index - within;
-        inner += within * stride;
-        stride *= chunk[k];
-    }
-    CellRun {
-        place: inner,
-        length: left,
-    }
+    let rank = chunk.rank();
+    let mut sizes = [0; MAX_RANK];
+    copy_sizes(chunk, &mut sizes[..rank]);
+    bytes_of(&sizes[..rank], size)
 }

@@ -1,13 +1,13 @@
 //! The chunks of an array by its sizes, those of a chunk, and their tree (File Format Specification 3.0, section III.A.1).
 
-ghost use Rattle.std.specs.Prelude.{◌≡◌, ◌+◌, ◌*◌, ◌^◌, ◌<◌, ◌≤◌, IfSome, IsTrue, None, [], length, replicate};
+ghost use Rattle.std.specs.Prelude.{◌≡◌, ◌+◌, ◌*◌, ◌^◌, ◌<◌, ◌≤◌, IfSome, length};
 ghost use Rattle.h5_model.specs.Tree.Places.{cells as cells_of};
 ghost use Rattle.h5_chunks.specs.Shapes.{AreChunkSizes};
 ghost use Rattle.h5_layout.specs.ChunkCells.{AreBeside, chunk_of, place_in_chunk};
-ghost use Rattle.h5_layout.specs.GridKept.{IsGridKept, grid_in};
+ghost use Rattle.h5_layout.specs.GridKept.{IsGridKept, grid_in, no_row, no_chunk_found};
 
-use crate::beside::RowCursor;
-use crate::grid::{ChunkRow, GridRef, bytes_of, copy_sizes};
+use crate::beside::{ChunkCorner, RowCursor};
+use crate::grid::{ChunkRow, GridRef, chunk_bytes, copy_short_sizes};
 use h5_msg::ChunkSizes;
 use h5_shape::{Dims, MAX_RANK};
 use h5_space::Image;
@@ -24,21 +24,40 @@ pub(crate) struct FoundRow {
     pub(crate) inner: u64,
     /// The address of the chunk, where it is stored.
     pub(crate) at: Option<u64>,
-    /// The first index of the chunk.
-    pub(crate) corner: [u64; 32],
+    /// Where the chunk begins.
+    pub(crate) corner: ChunkCorner,
     /// How many chunks behind the first of those beside one another the chunk stands, where that is known.
     pub(crate) number: Option<u64>,
 }
 
+impl FoundRow {
+    /// No cell.
+    pub(crate) fn none() -> Self
+        ensures { result ≡ no_row }
+    {
+        FoundRow {
+            start: 0,
+            cells: 0,
+            inner: 0,
+            at: None,
+            corner: ChunkCorner {
+                place: 0,
+                column: 0,
+            },
+            number: None,
+        }
+    }
+}
+
 /// An array in chunks: its sizes, those of a chunk, how many bytes a chunk has, the root of the tree, where chunks were
-/// found, and the last row of a chunk, which has no cell at first. It borrows nothing, so that it can outlive the array's
-/// description, and the image can be written meanwhile.
-#[derive(Debug, Drop)]
+/// found, and the last row of a chunk, which has no cell at first. It borrows nothing, so that the image can be written
+/// meanwhile.
+#[derive(Drop)]
 pub(crate) struct ChunkIndex {
     root: u64,
     rank: usize,
     sizes: [u64; 32],
-    chunk: [u64; 32],
+    chunk: [u32; 32],
     chunk_bytes: u64,
     cursor: RowCursor,
     row: FoundRow,
@@ -71,11 +90,8 @@ impl ChunkIndex {
           sizes = dims.now;
           shape = record { sizes = chunk_sizes.now; bytes = cells_of chunk_sizes.now * size };
           root = root;
-          cursor = record {
-            tree = None;
-            beside = record { first = replicate (length dims.now) 0; at = replicate 64 None };
-          };
-          row = record { start = 0; cells = 0; inner = 0; at = None; corner = replicate 32 0; number = None };
+          cursor = no_chunk_found;
+          row = no_row;
         } }
         ensures sound { AreChunkSizes chunk_sizes.now }
     {
@@ -83,36 +99,21 @@ impl ChunkIndex {
         let mut sizes = [0; MAX_RANK];
         sizes[..rank].copy_from_slice(dims.sizes());
         let mut chunk = [0; MAX_RANK];
-        copy_sizes(chunk_sizes, &mut chunk[..rank]);
-        let chunk_bytes = bytes_of(&chunk[..rank], size);
+        copy_short_sizes(chunk_sizes, &mut chunk[..rank]);
         ChunkIndex {
             root,
             rank,
             sizes,
             chunk,
-            chunk_bytes,
-            cursor: RowCursor::new(rank),
-            row: FoundRow {
-                start: 0,
-                cells: 0,
-                inner: 0,
-                at: None,
-                corner: [0; MAX_RANK],
-                number: None,
-            },
+            chunk_bytes: chunk_bytes(chunk_sizes, size),
+            cursor: RowCursor::new(),
+            row: FoundRow::none(),
         }
-    }
-
-    /// How many bytes a chunk has.
-    pub(crate) fn chunk_bytes(&self) -> u64
-        ensures { result ≡ self.now.shape.bytes }
-    {
-        self.chunk_bytes
     }
 
     /// The cells from this place on that stand one behind the other in a row of a chunk. Where they are among those that
     /// were found last, nothing is sought.
-    // Inlined, as `StoredCells::piece` is, so that what it gives passes through no memory.
+    // Inlined, so that what it gives passes through no memory.
     #[inline(always)]
     pub(crate) fn row_at(&mut self, image: &Image, place: u64) -> ChunkRow
         requires kept { IsGridKept image.now.bytes self.old }
@@ -126,74 +127,9 @@ impl ChunkIndex {
         ensures at { result.at ≡ chunk_of (grid_in image.now.bytes self.old) place }
         ensures inside { IfSome result.at (λ at. at + self.old.shape.bytes ≤ length image.now.bytes) }
     {
-        self.seek(image, place);
-        let on = place - self.row.start;
-        ChunkRow {
-            at: self.row.at,
-            place: self.row.inner + on,
-            cells: self.row.cells - on,
-        }
-    }
-
-    /// Makes the row that was found last one that has this place.
-    #[inline(always)]
-    fn seek(&mut self, image: &Image, place: u64)
-        requires kept { IsGridKept image.now.bytes self.old }
-        requires below { place < cells_of self.old.sizes }
-        ensures same { self.new ≡ record self.old { cursor = self.new.cursor; row = self.new.row } }
-        ensures kept { IsGridKept image.now.bytes self.new }
-        ensures since { self.new.row.start ≤ place }
-        ensures until { place < self.new.row.start + self.new.row.cells }
-    {
-        if place < self.row.start {
-            self.find_row(image, place);
-            return;
-        }
-        if place - self.row.start < self.row.cells || self.step(image, place) {
-            return;
-        }
-        self.find_row(image, place);
-    }
-
-    /// Makes the row that was found last the one from this place on, where the next chunk has it, and its address is
-    /// known. Returns whether it did.
-    #[inline(always)]
-    fn step(&mut self, image: &Image, place: u64) -> bool
-        requires kept { IsGridKept image.now.bytes self.old }
-        requires below { place < cells_of self.old.sizes }
-        ensures same { self.new ≡ record self.old { cursor = self.new.cursor; row = self.new.row } }
-        ensures kept { IsGridKept image.now.bytes self.new }
-        ensures start { IsTrue result → self.new.row.start ≡ place }
-        ensures some { IsTrue result → 0 < self.new.row.cells }
-    {
-        let grid = GridRef::lent(
-            image,
-            &self.sizes[..self.rank],
-            &self.chunk[..self.rank],
-            self.chunk_bytes,
-            self.root,
-        );
-        grid.step_row(&self.cursor.beside, &mut self.row, place)
-    }
-
-    /// Finds the cells from this place on that stand one behind the other in a row of a chunk.
-    // Apart from `step`, which serves most pieces: what is sought in the tree is far longer.
-    #[inline(never)]
-    fn find_row(&mut self, image: &Image, place: u64)
-        requires kept { IsGridKept image.now.bytes self.old }
-        requires below { place < cells_of self.old.sizes }
-        ensures same { self.new ≡ record self.old { cursor = self.new.cursor; row = self.new.row } }
-        ensures kept { IsGridKept image.now.bytes self.new }
-        ensures start { self.new.row.start ≡ place }
-        ensures some { 0 < self.new.row.cells }
-    {
-        let grid = GridRef::lent(
-            image,
-            &self.sizes[..self.rank],
-            &self.chunk[..self.rank],
-            self.chunk_bytes,
-            self.root,
-        );
-        grid.find_row(&mut self.cursor, &mut self.row, place);
+        let chunk = ChunkSizes::new(&self.chunk[..self.rank]);
+        let sizes = &self.sizes[..self.rank];
+        let grid = GridRef::lent(image, sizes, &chunk, self.chunk_bytes, self.root);
+        grid.row_at(&mut self.cursor, &mut self.row, place)
     }
 }

@@ -25,6 +25,7 @@ mod held;
 mod index;
 mod judge;
 mod lacking;
+mod locate;
 mod named_tree;
 mod new_chunks;
 mod pieces;

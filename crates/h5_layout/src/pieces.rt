@@ -22,10 +22,10 @@ pub enum Piece<'a> {
 }
 
 /// The selected cells of an array in pieces: those that are left, in row-major order. No step takes memory. A piece is lent
-/// by the image, and what says which cells are selected is lent besides.
+/// by the image; the array, and what says which of its cells are selected, are lent besides.
 #[derive(Debug, Drop)]
 pub struct Runs<'a, 'r> {
-    cells: StoredCells<'a>,
+    cells: StoredCells<'a, 'r>,
     /// What is left of the run under way.
     run: CellRun,
     /// The runs that follow, if any do.
@@ -48,7 +48,7 @@ impl<'a, 'r> Runs<'a, 'r> {
     ghost use Rattle.h5_layout.specs.Runs.{AreRunsBelow, cells_left, places_left};
 
     /// The cells of a run, and of the runs that follow.
-    pub(crate) fn new(cells: StoredCells<'a>, run: CellRun, runs: Option<CellRuns<'r>>) -> Self
+    pub(crate) fn new(cells: StoredCells<'a, 'r>, run: CellRun, runs: Option<CellRuns<'r>>) -> Self
         requires { AreRunsBelow (length cells.values) run runs }
         ensures { result ≡ cells_left cells.entry (places_left run runs.entry) }
     {

@@ -205,7 +205,7 @@ impl<'a> StoredArray<'a> {
     }
 
     /// All cells, in pieces, in row-major order. Takes no memory.
-    pub fn all(&self) -> Runs<'a, 'a>
+    pub fn all(&self) -> Runs<'a, '_>
         ensures { result ≡ record {
           fixed = self.now.fixed;
           fill = self.now.fill;
@@ -220,14 +220,14 @@ impl<'a> StoredArray<'a> {
     }
 
     /// The values of all cells, in row-major order. Each is decoded when it is asked for. Takes no memory.
-    pub fn values(&self) -> Values<'a>
+    pub fn values(&self) -> Values<'_>
         ensures { result ≡ self.now.cells }
     {
         Values::new(self.fixed(), self.fill(), self.all())
     }
 
     /// All cells, where they stand.
-    fn cells(&self) -> StoredCells<'a>
+    fn cells(&self) -> StoredCells<'a, '_>
         ensures { result ≡ record {
           fixed = self.now.fixed;
           fill = self.now.fill;

@@ -11,8 +11,8 @@ ghost use Rattle.h5_layout.specs.declared.stored_run.RunStorage.TheVariants as s
 
 use crate::array::ArrayRef;
 use crate::chunked::ChunkedArray;
-use crate::grid::row_in_chunk;
 use crate::lacking::Missing;
+use crate::locate::{row_in_chunk, write_index};
 use crate::new_chunks::stored_at;
 use h5_chunks::{ChunkList, ChunkShape};
 use h5_msg::Layout;
@@ -98,22 +98,27 @@ fn storage_in_chunks(
     ensures parted { result ≡ Ok storage.Parted → IsParted array.now run array.now.layout }
 {
     let chunks = ChunkedArray::of(array);
-    let mut room = [0; MAX_RANK];
-    let corner = &mut room[..chunks.sizes().len()];
-    let row = row_in_chunk(array.dims().sizes(), chunks.sizes(), run.place, corner);
-    if row.length < run.length {
+    let Layout::Chunked { sizes: chunk, .. } = array.layout() else {
+        unreachable!()
+    };
+    let sizes = array.dims().sizes();
+    let row = row_in_chunk(sizes, chunk, run.place);
+    if row.cells < run.length {
         return Ok(RunStorage::Parted);
     }
+    let mut room = [0; MAX_RANK];
+    let corner = &mut room[..sizes.len()];
+    write_index(sizes, row.corner.place, corner);
     let shape = chunks.shape();
     if let Some(at) = stored_at(image, &shape, chunks.root(), corner) {
         // The image is not longer than memory.
         let _bytes = image.bytes();
-        return Ok(RunStorage::Standing(at + row.place * chunks.fixed().size() as u64));
+        return Ok(RunStorage::Standing(at + row.inner * chunks.fixed().size() as u64));
     }
     let new = one_chunk(alloc, &shape, corner)?;
     Ok(RunStorage::Missing {
         missing: Missing::Chunks { array: chunks, new },
-        inner: row.place,
+        inner: row.inner,
     })
 }
 

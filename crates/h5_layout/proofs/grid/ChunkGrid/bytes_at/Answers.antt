@@ -16,25 +16,25 @@ end image len at g h found is there same here long =
 pub overflow_add-end : goal.overflow_add-end
 overflow_add-end c =
     let f = c.self.inside in
-    let low = end f.image.now.bytes c.chunk_bytes.result c.in-Some.at _ c.args.self.now c.args.at c.in-Some.is c.requires c.self.view_is refl c.chunk_bytes.ensures in
+    let low = end f.image.now.bytes f.chunk_bytes c.in-Some.at _ c.args.self.now c.args.at c.in-Some.is c.requires c.self.view_is refl refl in
     let held = ap length c.bytes-bytes.ensures in
     grind (arith, low, held)
 
 pub slice_bounds-result-end : goal.slice_bounds-result-end
 slice_bounds-result-end c =
     let f = c.self.inside in
-    let low = end f.image.now.bytes c.chunk_bytes.result c.in-Some.at _ c.args.self.now c.args.at c.in-Some.is c.requires c.self.view_is refl c.chunk_bytes.ensures in
+    let low = end f.image.now.bytes f.chunk_bytes c.in-Some.at _ c.args.self.now c.args.at c.in-Some.is c.requires c.self.view_is refl refl in
     let held = ap length c.bytes-bytes.ensures in
     omega (arith, low, held)
 
 pub returns : goal.returns
 returns c =
     let f = c.self.inside in
-    let len = c.chunk_bytes.result in
-    let inside = end f.image.now.bytes len c.in-Some.at _ c.args.self.now c.args.at c.in-Some.is c.requires c.self.view_is refl c.chunk_bytes.ensures in
+    let len = f.chunk_bytes in
+    let inside = end f.image.now.bytes len c.in-Some.at _ c.args.self.now c.args.at c.in-Some.is c.requires c.self.view_is refl refl in
     let is = slice_part c.in-Some.at len c.bytes-bytes.result.now ∙ ap (part c.in-Some.at len) c.bytes-bytes.ensures in (
       c.in-Some.at,
       c.in-Some.is,
-      is ∙ ap (λ (n : ℕ). part c.in-Some.at n f.image.now.bytes) c.chunk_bytes.ensures ∙ ap (λ (g : Grid). part c.in-Some.at g.shape.bytes g.image) c.self.view_is,
-      ap length is ∙ length-part c.in-Some.at len f.image.now.bytes inside ∙ c.chunk_bytes.ensures ∙ ap (λ (g : Grid). g.shape.bytes) c.self.view_is,
+      is ∙ ap (λ (g : Grid). part c.in-Some.at g.shape.bytes g.image) c.self.view_is,
+      ap length is ∙ length-part c.in-Some.at len f.image.now.bytes inside ∙ ap (λ (g : Grid). g.shape.bytes) c.self.view_is,
     )

@@ -1,12 +1,31 @@
-use Rattle.std.proofs.Common.{◌+◌, ◌≤◌, subst}
-use Rattle.h5_model.specs.Tree.Places.{cells}
-use Rattle.h5_layout.specs.ChunkCells.{Grid}
-use Rattle.h5_layout.proofs.GridLaws.{row_room}
+use Rattle.std.proofs.Common.{arith}
+use Rattle.h5_layout.specs.GridKept.{IsRowOf}
+use Rattle.h5_layout.proofs.FoundRows.{left_at, left_beside, left_inner, left_inside, left_low, left_room, row_found}
 use Rattle.h5_layout.proofs.grid.GridRef.row_at.Goals as goal
+use Rattle.h5_layout.proofs.grid.GridRef.row_at.Goals.{After-seek}
+
+-- the row that was sought
+found : (c : After-seek) → IsRowOf c.args.self.now c.seek.new.row
+found c = row_found c.args.self.now c.seek.new.cursor c.seek.new.row c.args.place c.seek.ensures.found c.seek.ensures.since c.seek.ensures.until
+
+pub overflow_add-result : goal.overflow_add-result
+overflow_add-result c =
+    let low = left_low c.args.self.now c.seek.new.row (found (goal.at.overflow_add-result c).After-seek) c.args.place c.seek.ensures.since c.seek.ensures.until c.requires.found.grid in
+    omega (arith, low)
+
+pub returns-clause-beside : goal.returns-clause-beside
+returns-clause-beside c = left_beside c.args.self.now c.seek.new.row (found (goal.at.returns-clause-beside c).After-seek) c.args.place c.seek.ensures.since c.seek.ensures.until
+
+pub returns-clause-place : goal.returns-clause-place
+returns-clause-place c = left_inner c.args.self.now c.seek.new.row (found (goal.at.returns-clause-place c).After-seek) c.args.place c.seek.ensures.since c.seek.ensures.until
 
 pub returns-clause-room : goal.returns-clause-room
 returns-clause-room c =
-    let f = c.self.inside in
-    let g : Grid = record { image = f.image.now.bytes; sizes = f.sizes.now; shape = record { sizes = f.chunk.now; bytes = f.chunk_bytes }; root = f.root } in
-    subst (λ (g : Grid). c.row_in_chunk-row.result.place + c.row_in_chunk-row.result.length ≤ cells g.shape.sizes) c.self.view_is
-    (row_room g c.args.place c.row_in_chunk-row.result.length c.row_in_chunk-row.result.place c.self.invariant c.row_in_chunk-row.ensures.beside c.row_in_chunk-row.ensures.some c.row_in_chunk-row.ensures.inner)
+    left_room c.args.self.now c.seek.new.row (found (goal.at.returns-clause-room c).After-seek) c.args.place c.seek.ensures.since c.seek.ensures.until c.requires.found.grid
+
+pub returns-clause-at : goal.returns-clause-at
+returns-clause-at c = left_at c.args.self.now c.seek.new.row (found (goal.at.returns-clause-at c).After-seek) c.args.place c.seek.ensures.since c.seek.ensures.until
+
+pub returns-clause-inside : goal.returns-clause-inside
+returns-clause-inside c =
+    left_inside c.args.self.now c.seek.new.row (found (goal.at.returns-clause-inside c).After-seek) c.args.place c.seek.ensures.since c.seek.ensures.until c.requires.found.grid

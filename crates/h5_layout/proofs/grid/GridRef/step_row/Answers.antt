@@ -1,4 +1,5 @@
 use Rattle.std.proofs.Common.{refl}
+use Rattle.h5_model.specs.Tree.Places.{index_of}
 use Rattle.h5_layout.proofs.NextRows.{step_count}
 use Rattle.h5_layout.proofs.grid.GridRef.step_row.Goals as goal
 
@@ -7,4 +8,4 @@ next_number-requires c =
     let row = c.args.row.now in
     let has = c.if-not-goes_on.ensures refl in
     step_count c.args.self.now c.requires.grid row (c.requires.row has.some) c.args.place c.requires.below has
-    c.args.beside.now.first row.number c.requires.number
+    (index_of c.args.self.now.sizes c.args.beside.now.first.place) row.number c.requires.number
