@@ -1,10 +1,11 @@
 -- Attributes of an object by the messages of its header (File Format Specification 3.0, section IV.A.2.m).
-use Rattle.std.specs.Prelude.{ℕ, ◌^◌, nat_eq, nat_le, Bool, false, if◌then◌else◌, Option, Some, None, List, [], ◌∷◌, map}
+use Rattle.std.specs.Prelude.{ℕ, nat_eq, nat_le, Bool, false, if◌then◌else◌, Option, Some, None, List, [], ◌∷◌, map}
 use Rattle.std.specs.Option.{option_or, option_map_or}
 use Rattle.std.specs.Ordering.{nat_cmp, eq_by_cmp}
 use Rattle.std.specs.Cmp.Lexicographic.{slice_cmp, pointwise}
 use Rattle.std.specs.List.{filter, filter_map, find, IsDistinct}
 use Rattle.std.specs.FinMap.{from_entries}
+use Rattle.h5_model.specs.Format.Limits.{most_cells}
 use Rattle.h5_model.specs.Format.Messages.{Message}
 use Rattle.h5_model.specs.Tree.Places.{extent_cells}
 use Rattle.h5_model.specs.Format.AttributeBody.{attribute_of}
@@ -44,7 +45,7 @@ attributes_of ms = from_entries (attributes_in ms)
 -- why an attribute message is refused
 abbrev pub fault_of : Option (List ℕ × Attribute) → Option Cause
 fault_of None = Some AttributeForm
-fault_of (Some a) = if nat_le (extent_cells (a.1).sizes) (2 ^ 40) then None else Some TooLarge
+fault_of (Some a) = if nat_le (extent_cells (a.1).sizes) most_cells then None else Some TooLarge
 
 -- why a message is refused, where it is an attribute's
 abbrev pub fault_in : Message → Option Cause
