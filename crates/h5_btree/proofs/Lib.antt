@@ -24,6 +24,7 @@ pub mod UnlinkSteps
 pub mod RewriteSteps
 pub mod WayInTree
 pub mod WaySteps
+pub mod WayEnds
 pub mod HalfLists
 pub mod HeldKeys
 pub mod ClimbStands

@@ -1,6 +1,5 @@
 -- Ways down a tree of chunks: they end in it, at the chunk that is sought, where it is stored.
 use Rattle.std.proofs.Common.{◌≡◌, ℕ, ◌+◌, ◌<◌, ◌≤◌, ◌^◌, List, [], ◌∷◌, ◌++◌, length, map, get_or, Option, None, IsSome, refl, sym, ap, ◌∙◌, subst, arith}
-use Rattle.std.proofs.lemmas.List.{places}
 use Rattle.std.proofs.lemmas.Option.{slice_get-get_or}
 use Rattle.std.specs.Ordering.{nat_cmp}
 use Rattle.std.specs.declared.cmp.Ordering.{Ordering}
@@ -10,20 +9,18 @@ use Rattle.std.specs.FinMap.{get, values}
 use Rattle.h5_bytes.specs.Blocks.{block, cover}
 use Rattle.h5_bytes.proofs.BlockLaws.{cover-append}
 use Rattle.h5_model.specs.Format.Chunks.{all_offsets_in, offsets_in}
-use Rattle.h5_model.specs.Format.Nodes.{IsNode, Kind, node_at, node_bytes, node_length, reading_of, tree_blocks}
+use Rattle.h5_model.specs.Format.Nodes.{IsNode, Kind, node_at, node_bytes, node_length, tree_blocks}
 use Rattle.h5_model.specs.Format.Reached.{Shape, level_at, shape_kind}
-use Rattle.h5_model.specs.Format.Rows.{Node, Reading, leaves, next_row}
-use Rattle.h5_model.proofs.RowLaws.{at_listed, root_level}
+use Rattle.h5_model.specs.Format.Rows.{Node, Reading}
+use Rattle.h5_model.proofs.RowLaws.{at_listed}
 use Rattle.h5_space.specs.Space.{Space}
 use Rattle.h5_space.specs.Whole.{IsApart}
 use Rattle.h5_btree.specs.Descent.{EndsAt, IsWayTo}
 use Rattle.h5_btree.specs.Removal.{EndsInTree}
 use Rattle.h5_btree.specs.declared.way.Step.{Step}
 use Rattle.h5_btree.proofs.ClimbSteps.{inside_of_apart}
-use Rattle.h5_btree.proofs.LeafLaws.{next_row-append}
-use Rattle.h5_btree.proofs.TreeReadings.{owned_at}
 use Rattle.h5_btree.proofs.WayInTree.{way_in_tree}
-use Rattle.h5_btree.proofs.WayRows.{leaves_here}
+use Rattle.h5_btree.proofs.WayEnds.{end_here}
 use Rattle.h5_btree.proofs.WaySteps.{first_owned}
 use Rattle.h5_btree.proofs.WaysDown.{first_ends}
 use Rattle.h5_chunks.specs.Edited.{AreChunksApart}
@@ -31,32 +28,11 @@ use Rattle.h5_chunks.specs.Told.{chunk_blocks_told, chunks_told}
 use Rattle.h5_chunks.specs.Way.{chunk_behind}
 use Rattle.h5_chunks.proofs.ChunkFound.{heads, key_is_chunk, chunk_absent, key_low, stored_there, top}
 
--- ---- the child at the end of a way is one of those at the bottom, by its number
-
-amid : (xs ys zs : List ℕ) (i k : ℕ) → i < length ys → k ≡ length xs + i → (k < length (xs ++ (ys ++ zs))) × (get_or (xs ++ (ys ++ zs)) k 0 ≡ get_or ys i 0)
-amid xs ys zs i k low at = (grind (arith, places, low, at), grind (arith, places, low, at))
+-- ---- the node at the end of a way
 
 module _ (s : Space) (kind : Kind) (root level : ℕ) (way : List Step) (owned list : List ℕ) (k : ℕ) (e : EndsInTree s kind root level way owned list k) where
-  abbrev Y : Reading
-  Y = reading_of s.bytes kind owned
-
   abbrev p : ℕ
   p = (e.step).node
-
-  list_is : list ≡ next_row Y e.front ++ ((Y p).children ++ next_row Y e.back)
-  list_is =
-      let bottom = leaves_here Y root p e.above e.front e.back e.leads e.row in
-      let high : level ≡ length e.above = sym (root_level Y level root (e.tree).rows) ∙ root_level Y (length e.above) root bottom.0 in
-      (e.tree).all ∙ ap (λ (l : ℕ). leaves Y l (root ∷ [])) high ∙ bottom.1 ∙ next_row-append Y e.front (p ∷ e.back)
-
-  pub end_here : Y p ≡ node_at s.bytes kind p
-  end_here = owned_at (node_at s.bytes kind) owned p (first_owned s kind root level way owned list k e)
-
-  pub end_listed : (k < length list) × (get_or list k 0 ≡ get_or (node_at s.bytes kind p).children (e.step).place 0)
-  end_listed =
-      let all = amid (next_row Y e.front) (Y p).children (next_row Y e.back) (e.step).place k e.place e.number in
-      subst (λ (xs : List ℕ). (k < length xs) × (get_or xs k 0 ≡ get_or (node_at s.bytes kind p).children (e.step).place 0)) (sym list_is)
-      (all.0, all.1 ∙ ap (λ (o : Node). get_or o.children (e.step).place 0) end_here)
 
   -- a node stands there, and has that child
   pub end_stands : (p + node_length kind ≤ length s.bytes) × IsNode kind (node_bytes s.bytes kind p) × ((e.step).place < length (node_at s.bytes kind p).children)
@@ -64,7 +40,7 @@ module _ (s : Space) (kind : Kind) (root level : ℕ) (way : List Step) (owned l
       let listed = first_owned s kind root level way owned list k e in (
         inside_of_apart s kind owned e.apart p listed,
         at_listed (λ at. IsNode kind (node_bytes s.bytes kind at)) owned p (e.tree).formed listed,
-        subst (λ (o : Node). (e.step).place < length o.children) end_here e.place,
+        subst (λ (o : Node). (e.step).place < length o.children) (end_here s kind root level way owned list k e) e.place,
       )
 
 -- ---- in a tree of chunks

@@ -14,10 +14,11 @@ use Rattle.h5_btree.specs.Removal.{EndsInTree, EndsSomewhere, IsTakenAlong}
 use Rattle.h5_btree.specs.Walk.Forms.{OfChunks}
 use Rattle.h5_btree.specs.Walk.Stands.{IsNodeAt}
 use Rattle.h5_btree.specs.declared.way.Step.{Step}
+use Rattle.h5_btree.proofs.WayEnds.{end_listed}
 use Rattle.h5_chunks.specs.Edited.{AreChunksApart, HasChunksNow}
 use Rattle.h5_chunks.specs.Told.{chunks_told}
 use Rattle.h5_chunks.specs.Way.{chunk_behind}
-use Rattle.h5_chunks.proofs.ChunkWays.{ChunkWay, end_listed, end_stands, key_has, way_leads}
+use Rattle.h5_chunks.proofs.ChunkWays.{ChunkWay, end_stands, key_has, way_leads}
 use Rattle.h5_chunks.proofs.TakenChunks.{chunks_kept, chunk_held, chunk_inside, chunk_taken}
 
 -- what is read past the end of a way

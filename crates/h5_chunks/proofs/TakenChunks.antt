@@ -31,12 +31,13 @@ use Rattle.h5_btree.proofs.KeyedFrom.{all_removed}
 use Rattle.h5_btree.proofs.KeyedOwn.{all_stand}
 use Rattle.h5_btree.proofs.KeyedTakes.{taken_sorted}
 use Rattle.h5_btree.proofs.KeyedTrees.{cut_at}
+use Rattle.h5_btree.proofs.WayEnds.{end_listed}
 use Rattle.h5_chunks.specs.Edited.{AreChunksApart, HasChunksNow}
 use Rattle.h5_chunks.specs.Order.{AreChunksOrdered}
 use Rattle.h5_chunks.specs.Read.{AreChunksRead}
 use Rattle.h5_chunks.specs.Told.{chunk_blocks_told, chunks_told, listed_told}
 use Rattle.h5_chunks.proofs.ChunkFound.{each_rises, entries_are, stored_there}
-use Rattle.h5_chunks.proofs.ChunkWays.{ChunkWay, chunks_cover, end_listed}
+use Rattle.h5_chunks.proofs.ChunkWays.{ChunkWay, chunks_cover}
 use Rattle.h5_chunks.proofs.KeyedChunks.{AreInOrder, HasShape, chunks_in_order, chunks_keyed, chunks_of, chunks_ordered, items_are, keyed_chunk}
 use Rattle.h5_chunks.proofs.OrderFaults.{listed_is}
 use Rattle.h5_chunks.proofs.Readable.{each_formed, stored_tree}

@@ -18,13 +18,14 @@ use Rattle.h5_btree.specs.Walk.Forms.{OfGroup}
 use Rattle.h5_btree.specs.Walk.Stands.{IsNodeAt}
 use Rattle.h5_btree.specs.declared.way.Step.{Step}
 use Rattle.h5_btree.proofs.ClimbSteps.{inside_of_apart}
+use Rattle.h5_btree.proofs.WayEnds.{end_listed}
 use Rattle.h5_btree.proofs.WaySteps.{first_owned}
 use Rattle.h5_group.specs.Edited.{HasGroupMoved, IsGroupIn, entries_below, node_below}
 use Rattle.h5_group.specs.Exact.{AreFilledBut, AreGroupKeys, HasExactKeys}
 use Rattle.h5_group.specs.Nodes.Trees.{kind_in}
 use Rattle.h5_group.specs.Told.{symbol_nodes_told}
 use Rattle.h5_group.proofs.DropExact.{node_dropped_exact}
-use Rattle.h5_group.proofs.DropLaws.{end_listed, heaps, node_dropped, node_held, node_inside, segment_same}
+use Rattle.h5_group.proofs.DropLaws.{heaps, node_dropped, node_held, node_inside, segment_same}
 use Rattle.h5_group.proofs.EntryWays.{ends_own}
 use Rattle.h5_group.proofs.ToldLaws.{symbol_nodes_are_told}
 

@@ -4,7 +4,7 @@ use Rattle.std.specs.Prelude.{◌==◌, if◌then◌else◌}
 use Rattle.std.specs.Bool.{⊤}
 use Rattle.std.specs.List.{AllByRecursion, flat_map, list_any, remove}
 use Rattle.std.proofs.lemmas.Bool.{cases_lt}
-use Rattle.std.proofs.lemmas.List.{append_assoc, map-append, places}
+use Rattle.std.proofs.lemmas.List.{append_assoc, map-append}
 use Rattle.std.proofs.lemmas.Grind.{flat_map-append}
 use Rattle.h5_bytes.specs.Blocks.{block, cover, holds, Inside, IsKept, Keeps}
 use Rattle.h5_bytes.specs.Texts.{text_at}
@@ -15,10 +15,10 @@ use Rattle.h5_model.specs.Format.Superblock.{leaf_k, internal_k}
 use Rattle.h5_model.specs.Format.Heap.{heap_blocks, heap_header, segment_of, segment_place, segment_size, HasNames, KeyNames}
 use Rattle.h5_model.specs.Format.Links.{AreLinks, HasLinks, Symbols, key_offsets}
 use Rattle.h5_model.specs.Format.Nodes.{Kind, HasTree, node_at, reading_of, tree_blocks}
-use Rattle.h5_model.specs.Format.Rows.{Node, Reading, leaves, next_row, only}
+use Rattle.h5_model.specs.Format.Rows.{Reading, only}
 use Rattle.h5_model.specs.Format.Symbols.{Entry, IsEntry, IsSymbolNode, Target, entries_of, link_of, symbol_block, symbol_bytes, symbols_at, symbols_of, texts_of}
 use Rattle.h5_model.proofs.Frames.{heap-same}
-use Rattle.h5_model.proofs.RowLaws.{only_here, root_level}
+use Rattle.h5_model.proofs.RowLaws.{only_here}
 use Rattle.h5_model.proofs.Members.{all_both}
 use Rattle.h5_laws.specs.NameLadders.{key_text, name_sides}
 use Rattle.h5_laws.proofs.Entries.{flat-same}
@@ -35,10 +35,7 @@ use Rattle.h5_btree.proofs.KeyedBare.{bare_sorted}
 use Rattle.h5_btree.proofs.KeyedForms.{group_in_order, group_ordered, names_at_child}
 use Rattle.h5_btree.proofs.KeyedFrom.{all_removed, keys_before}
 use Rattle.h5_btree.proofs.KeyedTrees.{cut_at}
-use Rattle.h5_btree.proofs.LeafLaws.{next_row-append}
-use Rattle.h5_btree.proofs.TreeReadings.{owned_at}
-use Rattle.h5_btree.proofs.WayRows.{leaves_here}
-use Rattle.h5_btree.proofs.WaySteps.{first_owned}
+use Rattle.h5_btree.proofs.WayEnds.{end_listed}
 use Rattle.h5_group.specs.Edited.{HasGroupMoved, IsGroupIn, superblock_block}
 use Rattle.h5_group.specs.Nodes.Trees.{kind_in}
 use Rattle.h5_group.proofs.EditFrames.{group_apart, group_moves, internal_kept, k_kept, leaf_kept, rest_kept, still_long}
@@ -71,33 +68,6 @@ only_none f owned n none = go (list_any (λ m. m == n) owned) where
   go : (b : Bool) → (if b then f n else []) ≡ []
   go true = none
   go false = refl
-
-amid : (xs ys zs : List ℕ) (i k : ℕ) → i < length ys → k ≡ length xs + i → (k < length (xs ++ (ys ++ zs))) × (get_or (xs ++ (ys ++ zs)) k 0 ≡ get_or ys i 0)
-amid xs ys zs i k low at = (grind (arith, places, low, at), grind (arith, places, low, at))
-
--- ---- the symbol node to which a way leads is the one with its number
-
-module _ (s : Space) (kind : Kind) (root level : ℕ) (way : List Step) (owned list : List ℕ) (k : ℕ) (e : EndsInTree s kind root level way owned list k) where
-  abbrev Y : Reading
-  Y = reading_of s.bytes kind owned
-
-  abbrev p : ℕ
-  p = e.step.node
-
-  list_is : list ≡ next_row Y e.front ++ ((Y p).children ++ next_row Y e.back)
-  list_is =
-      let bottom = leaves_here Y root p e.above e.front e.back e.leads e.row in
-      let high : level ≡ length e.above = sym (root_level Y level root e.tree.rows) ∙ root_level Y (length e.above) root bottom.0 in
-      e.tree.all ∙ ap (λ (l : ℕ). leaves Y l (root ∷ [])) high ∙ bottom.1 ∙ next_row-append Y e.front (p ∷ e.back)
-
-  here : Y p ≡ node_at s.bytes kind p
-  here = owned_at (node_at s.bytes kind) owned p (first_owned s kind root level way owned list k e)
-
-  pub end_listed : (k < length list) × (get_or list k 0 ≡ get_or (node_at s.bytes kind p).children e.step.place 0)
-  end_listed =
-      let all = amid (next_row Y e.front) (Y p).children (next_row Y e.back) e.step.place k e.place e.number in
-      subst (λ (xs : List ℕ). (k < length xs) × (get_or xs k 0 ≡ get_or (node_at s.bytes kind p).children e.step.place 0)) (sym list_is)
-      (all.0, all.1 ∙ ap (λ (o : Node). get_or o.children e.step.place 0) here)
 
 -- ---- what is known before its block is given back
 
