@@ -1,11 +1,12 @@
 -- What is shown of a group's links in the plain layout: where their bytes stand, a group has these links (File Format Specification
 -- 3.0, sections III.A.1, III.B and III.D).
-use Rattle.std.specs.Prelude.{◌≡◌, ℕ, ◌+◌, ◌^◌, ◌≤◌, true, List, length, map}
+use Rattle.std.specs.Prelude.{◌≡◌, ℕ, ◌+◌, ◌≤◌, true, List, length, map}
 use Rattle.std.specs.List.{AllByRecursion, AllZip}
 use Rattle.std.specs.FinMap.{entries}
 use Rattle.h5_bytes.specs.Bytes.{part}
 use Rattle.h5_bytes.specs.Blocks.{Inside, cover, holds}
 use Rattle.h5_bytes.specs.declared.Block.{Block}
+use Rattle.h5_model.specs.Format.Limits.{most_bytes}
 use Rattle.h5_model.specs.Format.Links.{HasLinks, Ascend}
 use Rattle.h5_model.specs.Tree.Paths.{is_name}
 use Rattle.h5_model.specs.Format.PlainLength.{group_bytes}
@@ -32,7 +33,7 @@ pub record IsPlainGroup (image : List ℕ) (leaf internal at : ℕ) (links : Lis
 
 abbrev pub LinksRead : Type 0
 LinksRead = (image : List ℕ) (leaf internal at : ℕ) (links : List (List ℕ × Leads)) → ArePlainLinks leaf internal links
-    → at + links_length leaf internal links ≤ 2 ^ 31
+    → at + links_length leaf internal links ≤ most_bytes
     → part at (links_length leaf internal links) image ≡ links_bytes leaf internal at links → IsPlainGroup image leaf internal at links
 
 abbrev pub LinksLength : Type 0
