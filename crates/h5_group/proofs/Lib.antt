@@ -69,3 +69,4 @@ pub mod DropExact
 pub mod TakenExact
 pub mod TakeExact
 pub mod ExactWalk
+pub use Rattle.h5_btree.proofs.ClimbSteps

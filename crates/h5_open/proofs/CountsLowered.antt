@@ -16,12 +16,12 @@ use Rattle.h5_header.specs.Listed.{messages_in}
 use Rattle.h5_header.specs.Standing.{IsStanding}
 use Rattle.h5_header.proofs.BlockPuts.{count_kept, standing_kept}
 use Rattle.h5_header.proofs.KeptLaws.{listed-same}
+use Rattle.h5_group.proofs.ClimbSteps.{moves_within}
 use Rattle.h5_laws.proofs.Lists.{in_at, in_contains, contains_in, stands_at}
 use Rattle.h5_open.specs.declared.opened.object.OpenedObject.{OpenedObject}
 use Rattle.h5_open.specs.LinkTaken.{AreCountsLowered, AreHeadersStanding, header_blocks_at, lowered_blocks}
 use Rattle.h5_open.specs.Opened.Objects.{header_of}
 use Rattle.h5_open.proofs.ListCovers.{member_cover, pair_cover}
-use Rattle.h5_open.proofs.OneRemade.{wide_moves}
 
 -- An object whose header stands, with the messages that it had.
 pub record IsHeaderStill (old new : List ℕ) (o : OpenedObject) : Type 0 where
@@ -145,7 +145,7 @@ module _ (old : Space) (slots : List (Option OpenedObject)) (less : List (ℕ ×
     one_lowered = record {
       each = each_next;
       counts = counts_next;
-      moves = moves_then old now next all all all so_far.moves (wide_moves now next header all all within (λ q. refl) moves);
+      moves = moves_then old now next all all all so_far.moves (moves_within now next header all all moves within (λ q. refl));
       as_long = long ∙ so_far.as_long;
       room = room ∙ so_far.room;
     }

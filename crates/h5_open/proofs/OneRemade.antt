@@ -20,6 +20,7 @@ use Rattle.h5_model.specs.Format.Superblock.{end_field}
 use Rattle.h5_model.specs.Tree.Objects.{Tree, Object, Content, Group, Array, Links, hard_links, links_in, links_to, with_object}
 use Rattle.h5_header.specs.Listed.{messages_in}
 use Rattle.h5_group.specs.Told.{links_told}
+use Rattle.h5_group.proofs.ClimbSteps.{moves_within}
 use Rattle.h5_space.specs.Space.{Space}
 use Rattle.h5_space.specs.Moves.{Moves}
 use Rattle.h5_space.proofs.MovesLaws.{moves_same}
@@ -233,14 +234,6 @@ module _ (old new : Space) (slots slots' : List (Option OpenedObject)) (numbers 
 
 -- ---- an object that is made anew where it stands, in an image that stays as long
 
--- blocks that were written are among these
-pub wide_moves : (s t : Space) (ds bs cs : List Block) → ((p : ℕ) → cover p ds ≤ cover p bs) → ((p : ℕ) → cover p cs ≡ cover p bs) → Moves s t ds ds → Moves s t bs cs
-wide_moves s t ds bs cs among same m = record {
-  grown = m.grown;
-  kept = λ p low none free. let here = among p in let unheld : cover p ds ≡ 0 = omega (arith, here, none) in m.kept p low unheld free;
-  moved = λ p. omega (arith, m.moved p, same p);
-}
-
 -- the blocks of one slot are among those of all
 pub one_cover : (q : ℕ) (f : OpenedObject → List Block) (slots : List (Option OpenedObject)) (k : ℕ) (o : OpenedObject) → slice_get slots k ≡ Some (Some o)
     → cover q (f o) ≤ cover q (flat_map f (objects_of slots))
@@ -269,9 +262,9 @@ module _ (old new : Space) (slots : List (Option OpenedObject)) (numbers : BTree
     kept = kept;
     links = links;
     counted = counted;
-    moves = wide_moves old new own (end_field old.bytes ∷ object_blocks old.bytes p) (end_field new.bytes ∷ object_blocks new.bytes p) (λ q. omega (arith, among q))
+    moves = moves_within old new own (end_field old.bytes ∷ object_blocks old.bytes p) (end_field new.bytes ∷ object_blocks new.bytes p) moves (λ q. omega (arith, among q))
         (λ q. ap (λ (bs : List Block). cover q (end_field new.bytes ∷ bs)) blocks
-        ∙ ap (λ (b : Block). cover q (b ∷ object_blocks old.bytes p)) (field_kept old slots numbers opened new own own moves among_all)) moves;
+        ∙ ap (λ (b : Block). cover q (b ∷ object_blocks old.bytes p)) (field_kept old slots numbers opened new own own moves among_all));
     end = end_kept old slots numbers opened new own own moves among_all long;
     small = omega (arith, long, opened.reads.1.holds.whole, opened.reads.1.holds.superblock.small);
   }
