@@ -37,9 +37,10 @@ module _ (kind : ℕ) where
   first_here : (m : Message) (ms : List Message) → (m.kind == kind) ≡ true → first_body kind (m ∷ ms) ≡ Some m.body
   first_here m ms same = rw same refl
 
-  none_counted : (ms : List Message) → count_of kind ms ≡ 0 → first_body kind ms ≡ None
-  none_counted [] none = refl
-  none_counted (m ∷ ms) none = go (none_counted ms) (m.kind == kind) refl where
+  -- a type that is not counted has none
+  pub none_first : (ms : List Message) → count_of kind ms ≡ 0 → first_body kind ms ≡ None
+  none_first [] none = refl
+  none_first (m ∷ ms) none = go (none_first ms) (m.kind == kind) refl where
     go : (count_of kind ms ≡ 0 → first_body kind ms ≡ None) → (b : Bool) → (m.kind == kind) ≡ b → first_body kind (m ∷ ms) ≡ None
     go rest true is = absurd (let more : (if true then 1 else 0) + count_of kind ms ≡ 0 = rw is at none in omega arith)
     go rest false is = first_past m ms is ∙ rest (let less : (if false then 1 else 0) + count_of kind ms ≡ 0 = rw is at none in omega arith)
@@ -54,7 +55,7 @@ module _ (kind : ℕ) where
 
   -- behind messages of other types
   behind_others : (front ms : List Message) → count_of kind front ≡ 0 → first_body kind (front ++ ms) ≡ first_body kind ms
-  behind_others front ms none = first_append front ms ∙ ap (λ (o : Option (List ℕ)). or_else o (first_body kind ms)) (none_counted front none)
+  behind_others front ms none = first_append front ms ∙ ap (λ (o : Option (List ℕ)). or_else o (first_body kind ms)) (none_first front none)
 
 -- ---- what the first message of a type says
 

@@ -102,5 +102,6 @@ pub mod CompactOpened
 pub mod CompactFirst
 pub mod FirstRun
 pub mod PieceWritten
+pub use Rattle.h5_attr.proofs.AddedStill
 pub use Rattle.h5_layout.proofs.RoomLaws
 pub use Rattle.h5_layout.proofs.FillLaws

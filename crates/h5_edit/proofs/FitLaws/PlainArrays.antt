@@ -1,11 +1,10 @@
 -- An array that was read can be written in the plain layout (File Format Specification 3.0, sections IV.A.2.b, IV.A.2.e, IV.A.2.f and
 -- IV.A.2.i).
-use Rattle.std.proofs.Common.{◌≡◌, ℕ, zero, suc, ◌+◌, ◌-◌, ◌*◌, ◌%◌, ◌^◌, ◌<◌, ◌≤◌, not, Bool, List, [], ◌∷◌, length, map, replicate, Option, Some, None, ℤ, pos, true, false, cond, refl, sym, ap, ◌∙◌, subst, arith}
+use Rattle.std.proofs.Common.{◌≡◌, ℕ, zero, suc, ◌+◌, ◌-◌, ◌*◌, ◌%◌, ◌<◌, ◌≤◌, not, Bool, List, [], ◌∷◌, length, map, replicate, Option, Some, None, ℤ, pos, true, false, cond, refl, sym, ap, ◌∙◌, subst, arith}
 use Rattle.std.specs.Prelude.{nat_le, nat_lt, ◌==◌, ◌&&◌, is_some, option_map, slice_range}
 use Rattle.std.specs.List.{AllByRecursion, AllZip, range_with_len, find, list_any}
 use Rattle.std.specs.FinMap.{get}
 use Rattle.std.proofs.lemmas.Bool.Decides.{nat_tests}
-use Rattle.std.proofs.lemmas.Nat.{pow_pos}
 use Rattle.std.proofs.lemmas.Option.{same_Some, option_and_then_some}
 use Rattle.std.proofs.lemmas.List.FromFn.{length-map-range_with_len}
 use Rattle.std.proofs.lemmas.Slice.Zip.{AllZip-long}
@@ -27,6 +26,7 @@ use Rattle.h5_model.specs.Format.Described.{IsChunkSmall, IsFill, storage_of}
 use Rattle.h5_model.specs.Tree.Sound.{AreOf, IsDataset}
 use Rattle.h5_model.specs.Tree.Objects.{Dataset, Chunked, Contiguous}
 use Rattle.h5_model.proofs.StoredValues.{fits_value_at, AreOf-map}
+use Rattle.h5_query.proofs.AddedStill.{none_first}
 use Rattle.h5_query.proofs.FillLaws.{type_sound, fill_fits, old_fill_fits}
 use Rattle.h5_repack.specs.Bodies.Sound.{IsBound, IsPlainArray, IsPlainStorage}
 use Rattle.h5_edit.specs.Fits.Laws.{AreBytes}
@@ -69,15 +69,6 @@ chosen_fits : (t : Fixed) (new old : Option ℤ) → ((v : ℤ) → new ≡ Some
 chosen_fits t (Some v) old new_fits old_fits = new_fits v refl
 chosen_fits t None (Some v) new_fits old_fits = old_fits v refl
 chosen_fits t None None new_fits old_fits = zero_fits t
-
--- a type that is not counted has no first message
-none_first : (kind : ℕ) (ms : List Message) → count_of kind ms ≡ 0 → first_body kind ms ≡ None
-none_first kind [] none = refl
-none_first kind (m ∷ ms) none = elim (m.kind == kind) as (λ b. cond b 1 0 + count_of kind ms ≡ 0
-    → option_map (λ (x : Message). x.body) (cond b (Some m) (find (λ (x : Message). x.kind == kind) ms)) ≡ None) [
-      | true ↦ λ h. absurd (omega (arith, h))
-      | false ↦ λ h. none_first kind ms (omega (arith, h))
-    ] none
 
 no_fill : (value : List ℕ → Option ℤ) (kind : ℕ) (ms : List Message) (fill : Option ℤ) → count_of kind ms ≡ 0 → IsFill value (first_body kind ms) fill → fill ≡ None
 no_fill value kind ms fill none is = subst (λ (o : Option (List ℕ)). IsFill value o fill) (none_first kind ms none) is
