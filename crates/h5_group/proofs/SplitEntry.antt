@@ -15,7 +15,7 @@ use Rattle.h5_model.specs.Format.Symbols.{Entry, IsEntry, Target, link_of, symbo
 use Rattle.h5_model.specs.Tree.Paths.{is_name}
 use Rattle.h5_model.proofs.KLaws.{same_internal, same_leaf}
 use Rattle.h5_model.proofs.OneTree.{level_is}
-use Rattle.h5_laws.proofs.Lists.{In, contains_in, in_left, in_map, in_right}
+use Rattle.h5_laws.proofs.Lists.{In, contains_in, in_left, in_map, in_right, put_or_old}
 use Rattle.h5_space.specs.Space.{Space}
 use Rattle.h5_btree.specs.Held.{AreHeldKeys}
 use Rattle.h5_btree.specs.Insertion.{IsChildPut, IsPutAlong, KeepsEntries, Owns, left_count}
@@ -35,7 +35,7 @@ use Rattle.h5_group.proofs.GrownGroup.{entry_grown}
 use Rattle.h5_group.proofs.MovedNames.{names_of}
 use Rattle.h5_group.proofs.NameKeys.{name_low, offset_is}
 use Rattle.h5_group.proofs.NewKeys.{new_low}
-use Rattle.h5_group.proofs.SplitExact.{put_or_old, split_exact, split_filled}
+use Rattle.h5_group.proofs.SplitExact.{split_exact, split_filled}
 use Rattle.h5_group.proofs.SplitFrames.{ahead, all_formed, all_moves, behind, new_flat, old_flat}
 use Rattle.h5_group.proofs.SplitNames.{with_last}
 use Rattle.h5_group.proofs.SplitOrder.{cut, ends_then, split_keys, split_names, split_ordered}

@@ -1,6 +1,6 @@
 -- A symbol node is cut in two, with an entry more, in a group whose keys are exact but for those that were moved to let its name in: they are
 -- exact then (File Format Specification 3.0, sections III.A.1 and III.B).
-use Rattle.std.proofs.Common.{◌≡◌, ◌≢◌, inl, inr, ◌⊎◌, ℕ, suc, ◌+◌, ◌^◌, ◌<◌, ◌≤◌, true, IsTrue, List, [], ◌∷◌, ◌++◌, map, length, get_or, take, None, refl, sym, ap, ◌∙◌, subst, arith}
+use Rattle.std.proofs.Common.{◌≡◌, ◌≢◌, inl, inr, ℕ, suc, ◌+◌, ◌^◌, ◌<◌, ◌≤◌, true, IsTrue, List, [], ◌∷◌, ◌++◌, map, length, get_or, take, None, refl, sym, ap, ◌∙◌, subst, arith}
 use Rattle.std.specs.Bool.{⊤}
 use Rattle.std.specs.Cmp.Lexicographic.{slice_cmp}
 use Rattle.std.specs.Ordering.{is_le, nat_cmp}
@@ -26,7 +26,7 @@ use Rattle.h5_laws.specs.KeyEdits.{IsPut, Two}
 use Rattle.h5_laws.specs.KeyTrees.{IsSorted}
 use Rattle.h5_laws.specs.NameLadders.{key_sides, key_text}
 use Rattle.h5_laws.proofs.ExactKeysNames.{key_let_in}
-use Rattle.h5_laws.proofs.Lists.{In, in_left, in_right}
+use Rattle.h5_laws.proofs.Lists.{In, in_left, in_right, put_or_old}
 use Rattle.h5_space.specs.Space.{Space}
 use Rattle.h5_btree.specs.Exact.{AreKeysExact}
 use Rattle.h5_btree.specs.Held.{AreHeldKeys}
@@ -49,13 +49,6 @@ use Rattle.h5_group.proofs.NewKeys.{each_keyed, exact_for, key_put, new_above, n
 use Rattle.h5_group.proofs.SplitFrames.{left_says, nodes_kept, others_same, right_says}
 use Rattle.h5_group.proofs.SplitOrder.{admits as lets_through, cut, end_back, end_front, end_node, ends_then, halves_grown, key_lies, split_nodes, way_same, x_lies}
 use Rattle.h5_group.proofs.ToldLaws.{symbol_nodes_are_told}
-
--- what is in a list with one more is this one, or of the list
-pub put_or_old : {X : Type 0} (o e : X) (fs gs : List X) → In o (fs ++ e ∷ gs) → (o ≡ e) ⊎ In o (fs ++ gs)
-put_or_old o e [] gs (inl is) = inl (sym is)
-put_or_old o e [] gs (inr at) = inr at
-put_or_old o e (f ∷ fs) gs (inl is) = inr (inl is)
-put_or_old o e (f ∷ fs) gs (inr at) = elim (put_or_old o e fs gs at) [ inl is ↦ inl is | inr more ↦ inr (inr more) ]
 
 module _ (s u t : Space) (table : SymbolTable) (links : List (List ℕ × Target)) (spare : List ℕ) (blocks : List Block)
     (group : IsGroupIn s table links spare blocks) (way : List Step) (k : ℕ)

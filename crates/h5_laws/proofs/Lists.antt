@@ -25,6 +25,13 @@ in_either x [] ys at = inr at
 in_either x (z ∷ xs) ys (inl e) = inl (inl e)
 in_either x (z ∷ xs) ys (inr at) = elim (in_either x xs ys at) [ inl l ↦ inl (inr l) | inr r ↦ inr r ]
 
+-- what is in a list with one more is this one, or of the list
+pub put_or_old : {X : Type 0} (o e : X) (fs gs : List X) → In o (fs ++ e ∷ gs) → (o ≡ e) ⊎ In o (fs ++ gs)
+put_or_old o e [] gs (inl is) = inl (sym is)
+put_or_old o e [] gs (inr at) = inr at
+put_or_old o e (f ∷ fs) gs (inl is) = inr (inl is)
+put_or_old o e (f ∷ fs) gs (inr at) = elim (put_or_old o e fs gs at) [ inl is ↦ inl is | inr more ↦ inr (inr more) ]
+
 pub in_flat : {X Y : Type 0} (f : X → List Y) (x : X) (y : Y) (xs : List X) → In x xs → In y (f x) → In y (flat_map f xs)
 in_flat f x y [] at there = absurd at
 in_flat f x y (z ∷ xs) (inl e) there = in_left y (f z) (flat_map f xs) (subst (λ w. In y (f w)) (sym e) there)

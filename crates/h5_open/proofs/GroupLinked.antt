@@ -18,7 +18,7 @@ use Rattle.h5_header.specs.Listed.{messages_in}
 use Rattle.h5_group.specs.Exact.{HasExactKeys}
 use Rattle.h5_group.specs.Links.{IsGroupRead}
 use Rattle.h5_group.specs.Told.{blocks_told, links_told}
-use Rattle.h5_laws.proofs.Lists.{In, in_contains}
+use Rattle.h5_laws.proofs.Lists.{In, in_contains, put_or_old}
 use Rattle.h5_open.specs.declared.opened.object.OpenedObject.{OpenedObject}
 use Rattle.h5_open.specs.declared.opened.object.OpenedContent.TheVariants as content
 use Rattle.h5_open.specs.Opened.Kept.{IsContentKept, IsOpened}
@@ -26,7 +26,7 @@ use Rattle.h5_open.specs.Opened.Objects.{link_to, links_by, object_blocks, objec
 use Rattle.h5_open.specs.Opened.Sound.{IsHeaderIn}
 use Rattle.h5_open.specs.Opened.State.{opened_state}
 use Rattle.h5_open.proofs.GroupRelinked.{IsGroupRelinked}
-use Rattle.h5_open.proofs.LinksPut.{links_put, put_or_was}
+use Rattle.h5_open.proofs.LinksPut.{links_put}
 use Rattle.h5_open.proofs.OpenedLaws.Entries.{names_ascend}
 use Rattle.h5_open.proofs.OpenedLaws.LinkedHeaders.{linked_header}
 use Rattle.h5_open.proofs.OpenedLaws.Sounds.{object_of, sound}
@@ -73,7 +73,7 @@ module _ (old mid new : Space) (slots : List (Option OpenedObject)) (numbers : B
   led name' h at =
       let here : In (name', Header h) (is.front ++ (name, target) ∷ is.back)
       = subst (In (name', Header h)) is.put (in_contains (name', Header h) (links_told mid.bytes t) at) in
-      elim (put_or_was (name, target) (name', Header h) is.front is.back here) [
+      elim (put_or_old (name', Header h) (name, target) is.front is.back here) [
         | inl new ↦ is.led h (sym (ap (λ (l : List ℕ × Target). l.1) new))
         | inr there ↦ linked_header (opened_state old slots) (sound old slots numbers opened) parent p (object_of old slots numbers opened parent p is.group) t is.kind name' h
             (subst (In (name', Header h)) (sym is.was) there)

@@ -1,5 +1,5 @@
 -- The links of a group with one link more, whose names ascend: the map that they tell has it under its name.
-use Rattle.std.proofs.Common.{◌≡◌, ◌⊎◌, inl, inr, ℕ, Bool, true, false, cond, List, [], ◌∷◌, ◌++◌, refl, sym, ap, ◌∙◌, Option, Some}
+use Rattle.std.proofs.Common.{◌≡◌, inl, inr, ℕ, Bool, true, false, cond, List, [], ◌∷◌, ◌++◌, refl, sym, ap, ◌∙◌, Option, Some}
 use Rattle.std.specs.Ordering.{nat_cmp, eq_by_cmp}
 use Rattle.std.specs.Cmp.{Equal-is}
 use Rattle.std.specs.Cmp.Lexicographic.{slice_cmp, nat_list_cmp_total}
@@ -20,16 +20,6 @@ untied_name false q k h other = refl
 pub put_in : (l : List ℕ × Target) (front back : List (List ℕ × Target)) → In l (front ++ l ∷ back)
 put_in l [] back = inl refl
 put_in l (x ∷ front) back = inr (put_in l front back)
-
--- a link with it is it, or was there
-pub put_or_was : (l x : List ℕ × Target) (front back : List (List ℕ × Target)) → In x (front ++ l ∷ back) → (x ≡ l) ⊎ In x (front ++ back)
-put_or_was l x [] back (inl e) = inl (sym e)
-put_or_was l x [] back (inr at) = inr at
-put_or_was l x (y ∷ front) back (inl e) = inr (inl e)
-put_or_was l x (y ∷ front) back (inr at) = elim (put_or_was l x front back at) [
-  | inl is ↦ inl is
-  | inr was ↦ inr (inr was)
-]
 
 module _ (table : FinMap nat_cmp ℕ) (name : List ℕ) (t : Target) where
   find_other : (q : List ℕ) → (q ≡ name → ⊥) → (front back : List (List ℕ × Target))

@@ -11,7 +11,7 @@ use Rattle.h5_model.specs.Format.Symbols.{Target, Header}
 use Rattle.h5_model.specs.Tree.Objects.{ToObject}
 use Rattle.h5_space.specs.Space.{Space}
 use Rattle.h5_group.specs.Told.{links_told}
-use Rattle.h5_laws.proofs.Lists.{In, in_contains}
+use Rattle.h5_laws.proofs.Lists.{In, in_contains, put_or_old}
 use Rattle.h5_open.specs.declared.opened.added.ObjectBytes.{ObjectBytes}
 use Rattle.h5_open.specs.declared.opened.object.OpenedObject.{OpenedObject}
 use Rattle.h5_open.specs.ObjectAdded.{IsObjectStored}
@@ -20,7 +20,7 @@ use Rattle.h5_open.specs.Opened.Objects.{header_of, links_by, number_in, table_o
 use Rattle.h5_open.specs.Opened.Sound.{IsHeaderIn}
 use Rattle.h5_open.specs.Opened.State.{opened_state}
 use Rattle.h5_open.proofs.LinkCalls.{group_read}
-use Rattle.h5_open.proofs.LinksPut.{links_put, put_or_was}
+use Rattle.h5_open.proofs.LinksPut.{links_put}
 use Rattle.h5_open.proofs.ObjectBlock.{links_took}
 use Rattle.h5_open.proofs.ObjectPut.{IsObjectPut}
 use Rattle.h5_open.proofs.OpenedLaws.Entries.{names_ascend}
@@ -74,7 +74,7 @@ module _ (old taken linked new : Space) (slots : List (Option OpenedObject)) (nu
   led_with x h there =
       let here : In (x, Header h) (front ++ (name, Header at) ∷ back)
       = subst (In (x, Header h)) its.put.after (in_contains (x, Header h) (links_told linked.bytes t) there) in
-      elim (put_or_was (name, Header at) (x, Header h) front back here) [
+      elim (put_or_old (x, Header h) (name, Header at) front back here) [
         | inl added ↦
             let same : Header at ≡ Header h = sym (ap (λ (l : List ℕ × Target). l.1) added) in
             let one : at ≡ h = cc in
