@@ -1,8 +1,8 @@
 -- Views as they are held: by their numbers, and through edits of the file.
-use Rattle.std.proofs.Common.{◌≡◌, ℕ, zero, suc, ◌+◌, ◌*◌, ◌^◌, ◌<◌, ◌≤◌, Bool, true, false, cond, List, [], ◌∷◌, ◌++◌, map, length, get_or, refl, sym, ap, ◌∙◌, subst, inl, inr, Option, Some, None, is_some, Result, Ok, Err, arith, drop, take, append-nil, length-append, nat_le}
+use Rattle.std.proofs.Common.{◌≡◌, ℕ, zero, suc, ◌+◌, ◌*◌, ◌^◌, ◌<◌, ◌≤◌, Bool, true, false, cond, List, [], ◌∷◌, ◌++◌, map, length, get_or, refl, sym, ap, ◌∙◌, subst, inl, inr, Option, Some, None, is_some, Result, Ok, Err, arith, length-append, nat_le}
 use Rattle.std.proofs.lemmas.Bool.{cases_lt}
 use Rattle.std.proofs.lemmas.Bool.Decides.{nat_tests}
-use Rattle.std.proofs.lemmas.List.{length-map, drop_all, take_all}
+use Rattle.std.proofs.lemmas.List.{length-map}
 use Rattle.std.specs.Prelude.{MatchOption, IfSome, IsSome, ◌||◌}
 use Rattle.std.specs.Option.{option_and_then, option_map_or}
 use Rattle.std.specs.FinMap.{contains_key, get, insert, remove, len}
@@ -273,11 +273,6 @@ rise_same (x ∷ xs) (y ∷ ys) low end is rise =
 
 pub same_long : (xs ys : List KeptView) → map numbered_view ys ≡ map numbered_view xs → length ys ≡ length xs
 same_long xs ys is = sym (length-map ys numbered_view) ∙ ap length is ∙ length-map xs numbered_view
-
--- what is written back into a vector is all that it has
-pub all_back : {X : Type 0} (n : ℕ) (new old : List X) → length new ≡ length old → n ≡ length old → take n (new ++ drop (length new) old) ≡ new
-all_back n new old long count =
-    ap (take n) (ap (λ xs. new ++ xs) (drop_all (length new) old (omega (arith, long))) ∙ append-nil new) ∙ take_all n new (omega (arith, long, count))
 
 pub kept_again : (before after : FileState) (views new : List KeptView) (next : ℕ) → AreViewsKept before views next → map numbered_view new ≡ map numbered_view views
     → AllByRecursion (IsViewFit after.tree after.next) new → AllByRecursion (IsViewShown after.tree) new → AreViewsKept after new next

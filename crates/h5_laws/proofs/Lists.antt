@@ -1,5 +1,6 @@
--- Members of lists.
-use Rattle.std.proofs.Common.{◌≡◌, ℕ, zero, suc, ◌+◌, ◌<◌, ◌⊎◌, inl, inr, List, [], ◌∷◌, ◌++◌, refl, sym, ap, ◌∙◌, subst, arith, Some}
+-- Members of lists, and lists that are written anew.
+use Rattle.std.proofs.Common.{◌≡◌, ℕ, zero, suc, ◌+◌, ◌<◌, ◌≤◌, ◌⊎◌, inl, inr, List, [], ◌∷◌, ◌++◌, length, take, drop, refl, sym, ap, ◌∙◌, subst, arith, Some}
+use Rattle.std.proofs.lemmas.List.{take_all, take-append-le}
 use Rattle.std.proofs.lemmas.Option.{same_Some}
 use Rattle.std.specs.Prelude.{slice_get}
 use Rattle.std.specs.List.{AllByRecursion, flat_map, range_with_len}
@@ -73,3 +74,10 @@ from_table f n x at =
     let place = from_range 0 n one.0 one.1 in
     let same : place.0 ≡ one.0 = omega (arith, place.2) in
     (place.0, place.1, ap f same ∙ one.2)
+
+-- a list that was written over another one of its length is all that stands there
+pub refilled : {X : Type 0} (n : ℕ) (new old : List X) → length new ≡ length old → n ≡ length old → take n (new ++ drop (length new) old) ≡ new
+refilled n new old same is =
+    let all : n ≤ length new = omega (arith, same, is) in
+    let none : length new ≤ n = omega (arith, same, is) in
+    take-append-le n new (drop (length new) old) all ∙ take_all n new none

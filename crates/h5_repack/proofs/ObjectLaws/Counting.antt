@@ -1,7 +1,7 @@
 -- Counts of links, as one link after another is counted.
 use Rattle.std.proofs.Common.{◌≡◌, ◌≢◌, ℕ, ◌+◌, ◌<◌, ◌≤◌, List, [], ◌∷◌, ◌++◌, Bool, true, false, cond, refl, sym, ap, ◌∙◌, subst, arith, length, length-set, get_or, set, take, drop, map, Option, get_or-set_same, get_or-set_other}
 use Rattle.std.proofs.lemmas.Bool.Decides.{nat_tests}
-use Rattle.std.proofs.lemmas.List.{take_all, take-append-le, take_more, append-nil, map-append, take-append-drop}
+use Rattle.std.proofs.lemmas.List.{take_more, append-nil, map-append, take-append-drop}
 use Rattle.std.proofs.lemmas.List.Elements.{filter_map-append, Contains-get_or}
 use Rattle.std.proofs.lemmas.List.Sums.{sum_by-append, sum_by_push, sum_by_more, sum_by_more_le}
 use Rattle.std.specs.Borrow.{Bor}
@@ -97,13 +97,6 @@ counted_one old new others other are there = record {
 pub record AreCountedTo (objects : List (Option NewObject)) (i : ℕ) (counts : List ℕ) : Type 0 where
   pub same : length counts ≡ length objects
   pub each : (number : ℕ) → number < length objects → get_or counts number 0 ≡ sum_by (counted number) (take i objects)
-
--- what stands in a list that was filled anew
-pub refilled : (n : ℕ) (old new : List ℕ) → length new ≡ length old → n ≡ length old → take n (new ++ drop (length new) old) ≡ new
-refilled n old new same is =
-    let all : n ≤ length new = omega (arith, same, is) in
-    let none : length new ≤ n = omega (arith, same, is) in
-    take-append-le n new (drop (length new) old) all ∙ take_all n new none
 
 -- the links of one object more
 pub objects_more : (objects : List (Option NewObject)) (i : ℕ) (x : Option NewObject) (old new : List ℕ) → i < length objects → x ≡ get_or objects i x → AreCountedTo objects i old

@@ -7,8 +7,8 @@ use Rattle.h5_model.specs.declared.object_no.ObjectNo.{ObjectNo}
 use Rattle.h5_model.specs.declared.link.Link.{Link}
 use Rattle.h5_repack.specs.Objects.Objects.{IsFilled}
 use Rattle.h5_repack.specs.Objects.Targets.{slot_links, targets, times}
-use Rattle.h5_repack.proofs.ObjectLaws.Counting.{AreCountedTo, refilled, objects_more, objects_room}
-use Rattle.h5_laws.proofs.Lists.{In, in_contains}
+use Rattle.h5_repack.proofs.ObjectLaws.Counting.{AreCountedTo, objects_more, objects_room}
+use Rattle.h5_laws.proofs.Lists.{In, in_contains, refilled}
 use Rattle.h5_repack.proofs.ObjectLaws.Trees.{counted, counted_few, hard_links_counted, target_filled}
 use Rattle.h5_repack.proofs.ObjectLaws.Zips.{filled_below}
 use Rattle.h5_repack.proofs.objects.counts.count_links.Goals as goal
