@@ -1,8 +1,9 @@
 -- How many bytes objects have, where they stand one behind another, and their bytes, as the writer counts and appends them.
-use Rattle.std.specs.Prelude.{◌≡◌, ℕ, ◌+◌, ◌^◌, ◌≤◌, ◌<◌, Option, Some, None, List, [], ◌∷◌, ◌++◌, map, length, slice_get, slice_index, slice_set, replicate, unwrap_or}
+use Rattle.std.specs.Prelude.{◌≡◌, ℕ, ◌+◌, ◌≤◌, ◌<◌, Option, Some, None, List, [], ◌∷◌, ◌++◌, map, length, slice_get, slice_index, slice_set, replicate, unwrap_or}
 use Rattle.std.specs.FinMap.{entries}
 use Rattle.std.specs.List.{AllZip}
 use Rattle.std.specs.Option.{option_flatten, option_map_or}
+use Rattle.h5_model.specs.Format.Limits.{most_bytes}
 use Rattle.h5_model.specs.Format.Bodies.{pair_bytes}
 use Rattle.h5_model.specs.Format.MessageTypes.{symbol_table_kind}
 use Rattle.h5_model.specs.Format.Plain.{header_bytes, plain_superblock_length, superblock_bytes}
@@ -74,12 +75,12 @@ abbrev pub size_length : Size → ℕ
 size_length s = s.header + extent_length s.extent
 
 abbrev pub IsLowExtent : Extent → Type 0
-IsLowExtent (extent.Links p) = (p.tree ≤ p.length) × (p.length ≤ 2 ^ 31)
-IsLowExtent (extent.Data n) = n ≤ 2 ^ 31
+IsLowExtent (extent.Links p) = (p.tree ≤ p.length) × (p.length ≤ most_bytes)
+IsLowExtent (extent.Data n) = n ≤ most_bytes
 
 -- so many bytes that sums of two sizes and a place are no larger than an address
 pub record IsLowSize (s : Size) : Type 0 where
-  pub header : s.header ≤ 2 ^ 31
+  pub header : s.header ≤ most_bytes
   pub extent_low : IsLowExtent s.extent
 
 -- a group's links lie so wherever their objects stand; an array with so many stored chunks has these data, and a tree of at most 16 levels
@@ -108,7 +109,7 @@ IsSlotSize k None s = s ≡ no_size
 
 -- why an object's size is none that an image can have
 abbrev pub IsUnmeasured : KValues → StoredObject → WriteFault → Type 0
-IsUnmeasured k o TooLong = 2 ^ 31 < stored_length k o
+IsUnmeasured k o TooLong = most_bytes < stored_length k o
 IsUnmeasured k o TooDeep = IsLowContent k (length o.chunks) (o.object).content → ⊥
 IsUnmeasured k o NoMemory = Unit {0}
 
@@ -136,10 +137,10 @@ headers_of lengths at (number ∷ order) headers = headers_of lengths (at + leng
 pub record AreHeaders (k : KValues) (sizes : List Size) (order : List ℕ) (p : Placed) : Type 0 where
   pub end_is : p.end ≡ end_of (length_by_number sizes) (plain_superblock_length k) order
   pub headers_are : p.headers.items ≡ headers_of (length_by_number sizes) (plain_superblock_length k) order (replicate (length sizes) None)
-  pub few : p.end ≤ 2 ^ 31
+  pub few : p.end ≤ most_bytes
 
 abbrev pub IsUnplaced : KValues → List Size → List ℕ → WriteFault → Type 0
-IsUnplaced k sizes order TooLong = 2 ^ 31 < end_of (length_by_number sizes) (plain_superblock_length k) order
+IsUnplaced k sizes order TooLong = most_bytes < end_of (length_by_number sizes) (plain_superblock_length k) order
 IsUnplaced k sizes order TooDeep = ⊥
 IsUnplaced k sizes order NoMemory = Unit {0}
 
@@ -152,7 +153,7 @@ header_by l number = unwrap_or (option_flatten (slice_get l.headers.now number))
 -- each object ends within an image
 pub record IsLowLayout (l : Layout) : Type 0 where
   pub same : length l.headers.now ≡ length l.sizes.now
-  pub each : (number : ℕ) (s : Size) → slice_get l.sizes.now number ≡ Some s → header_by l number + size_length s ≤ 2 ^ 31
+  pub each : (number : ℕ) (s : Size) → slice_get l.sizes.now number ≡ Some s → header_by l number + size_length s ≤ most_bytes
   pub low : (number : ℕ) (s : Size) → slice_get l.sizes.now number ≡ Some s → IsLowSize s
 
 -- where the heap of a group stands whose tree stands there; nowhere for an array

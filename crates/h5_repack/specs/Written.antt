@@ -1,7 +1,8 @@
 -- What the writer makes of a tree's objects: its plain image, with the headers by the objects' numbers.
-use Rattle.std.specs.Prelude.{◌≡◌, ℕ, ◌^◌, ◌<◌, ◌≤◌, Option, Some, List, length, slice_get}
+use Rattle.std.specs.Prelude.{◌≡◌, ℕ, ◌<◌, ◌≤◌, Option, Some, List, length, slice_get}
 use Rattle.std.specs.FinMap.{get}
 use Rattle.std.specs.Option.{option_flatten}
+use Rattle.h5_model.specs.Format.Limits.{most_bytes}
 use Rattle.h5_model.specs.Format.PlainLength.{plain_length}
 use Rattle.h5_model.specs.Tree.Objects.{Tree, Object}
 use Rattle.h5_laws.specs.Trees.Sound.{IsSoundTree}
@@ -27,11 +28,11 @@ pub record IsWritten (k : KValues) (stored : StoredIn) (tree : Tree) (w : Writte
   pub order : List (ℕ × Object)
   pub ordered : IsOrder tree order
   pub image_is : w.image.items ≡ plain_image k stored tree order
-  pub few : image_end k (counts_of stored) order ≤ 2 ^ 31
+  pub few : image_end k (counts_of stored) order ≤ most_bytes
   pub headers_are : (number : ℕ) → option_flatten (slice_get w.headers.items number) ≡ get (table_of k (counts_of stored) order) number
 
 -- the image would be too long; or the tree of a group or of chunks too deep; or memory was refused
 abbrev pub IsUnwritten : KValues → StoredIn → Tree → WriteFault → Type 0
-IsUnwritten k stored tree TooLong = 2 ^ 31 < plain_length k (counts_of stored) tree
+IsUnwritten k stored tree TooLong = most_bytes < plain_length k (counts_of stored) tree
 IsUnwritten k stored tree TooDeep = (number : ℕ) × (o : Object) × (get tree number ≡ Some o) × (IsLowContent k (length (stored number)) o.content → ⊥)
 IsUnwritten k stored tree NoMemory = Unit {0}

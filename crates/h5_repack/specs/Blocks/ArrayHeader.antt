@@ -1,7 +1,8 @@
 -- The header and the data of an array to be written, as they are appended (File Format Specification 3.0, sections III.A.1, IV.A.1.a and
 -- IV.A.2).
-use Rattle.std.specs.Prelude.{◌≡◌, ℕ, ◌+◌, ◌*◌, ◌^◌, ◌<◌, ◌≤◌, ◌==◌, Bool, true, false, nat_lt, if◌then◌else◌, Option, Some, None, List, [], ◌++◌, length, replicate}
+use Rattle.std.specs.Prelude.{◌≡◌, ℕ, ◌+◌, ◌*◌, ◌<◌, ◌≤◌, ◌==◌, Bool, true, false, nat_lt, if◌then◌else◌, Option, Some, None, List, [], ◌++◌, length, replicate}
 use Rattle.std.specs.List.{list_any}
+use Rattle.h5_model.specs.Format.Limits.{most_bytes}
 use Rattle.h5_model.specs.Edits.Refusal.{are_maxima}
 use Rattle.h5_model.specs.Format.Bodies.{pair_bytes}
 use Rattle.h5_model.specs.Format.MessageTypes.{symbol_table_kind}
@@ -69,8 +70,8 @@ data_written chunk_k c a place = if has_data a c then stored_written chunk_k c a
 
 -- so many bytes; none where an image cannot have as many
 abbrev pub IsLength : Option ℕ → ℕ → Type 0
-IsLength None long = 2 ^ 31 < long
-IsLength (Some n) long = (n ≡ long) × (long ≤ 2 ^ 31)
+IsLength None long = most_bytes < long
+IsLength (Some n) long = (n ≡ long) × (long ≤ most_bytes)
 
 -- the address of the data, which stand at this place where there are any
 abbrev pub address_written : Described → Cells → ℕ → Option ℕ

@@ -2,6 +2,7 @@
 use Rattle.std.specs.Prelude.{ℕ, ◌+◌, ◌*◌, ◌||◌, Bool, not, nat_lt, if◌then◌else◌, ℤ, Option, List, [], ◌∷◌, ◌++◌, map, length, unwrap_or}
 use Rattle.std.specs.FinMap.{entries}
 use Rattle.h5_bytes.specs.Texts.{pad8}
+use Rattle.h5_model.specs.Format.Messages.{most_messages}
 use Rattle.h5_model.specs.Tree.Places.{cells}
 use Rattle.h5_model.specs.Edits.Refusal.{is_chunked}
 use Rattle.h5_model.specs.Format.Bodies.{padded_body, dataspace_bytes, bounded_bytes, datatype_bytes, fill_bytes, compact_bytes, contiguous_bytes, chunked_bytes, attribute_bytes}
@@ -40,9 +41,9 @@ type_message t = (datatype_kind, padded_body (datatype_bytes t))
 abbrev pub fill_message : Bool → Fixed → ℤ → ℕ × List ℕ
 fill_message chunked t fill = (fill_value_kind, padded_body (fill_bytes (if chunked then 3 else 1) t fill))
 
--- the fill is left out where a header with so many other messages would have more than 65535
+-- the fill is left out where a header with so many other messages would have too many
 abbrev pub fill_messages : Bool → Fixed → ℤ → ℕ → List (ℕ × List ℕ)
-fill_messages chunked t fill others = if nat_lt 65535 (4 + others) then [] else fill_message chunked t fill ∷ []
+fill_messages chunked t fill others = if nat_lt most_messages (4 + others) then [] else fill_message chunked t fill ∷ []
 
 -- how so many cells of this type are stored: these are their bytes; or they are in one block at this address, or nowhere; or in chunks
 -- of these sizes, with their tree at this address, or none

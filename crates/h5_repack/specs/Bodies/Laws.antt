@@ -7,7 +7,8 @@ use Rattle.std.specs.FinMap.{FinMap}
 use Rattle.h5_bytes.specs.Blocks.{block, CoverOnce, Run}
 use Rattle.h5_bytes.specs.declared.Block.{Block}
 use Rattle.h5_bytes.specs.Bytes.{part}
-use Rattle.h5_model.specs.Format.Messages.{prefix_at, reference_count}
+use Rattle.h5_model.specs.Format.Limits.{most_bytes}
+use Rattle.h5_model.specs.Format.Messages.{prefix_at, reference_count, most_messages}
 use Rattle.h5_model.specs.Format.Plain.{header_bytes}
 use Rattle.h5_model.specs.Format.Reads.{Placed, ReadsAs, HasObject, all_blocks}
 use Rattle.h5_model.specs.Format.Sizes.{header_size}
@@ -35,7 +36,7 @@ counted_header count p d address = header_bytes count (array_messages d address 
 -- data, without gaps.
 abbrev pub ArrayReads : Type 0
 ArrayReads = (image : List ℕ) (table : FinMap nat_cmp ℕ) (at place count k : ℕ) (p : Object) (d : Dataset) (stored : List (List ℕ)) → IsPlainObject p → p.content ≡ Array d
-    → IsPlainArray d (length (others_of p)) → AreStoredFor stored d → 3 + length (others_of p) ≤ 65535 → count < 2 ^ 32 → header_size p < 2 ^ 31
+    → IsPlainArray d (length (others_of p)) → AreStoredFor stored d → 3 + length (others_of p) ≤ most_messages → count < 2 ^ 32 → header_size p < most_bytes
     → chunk_k image ≡ k → 1 ≤ k → k ≤ 32767 → IsLowStorage k (length stored) d.storage
     → place + length (data_of k stored d place) < 2 ^ 63
     → part at (header_size p) image ≡ counted_header count p d (if is_stored stored d.storage then Some place else None)

@@ -1,8 +1,10 @@
 -- Which objects the plain layout can hold: those that an image reads as, or that an accepted edit makes of them.
-use Rattle.std.specs.Prelude.{◌≡◌, ℕ, ◌+◌, ◌*◌, ◌^◌, ◌%◌, ◌<◌, ◌≤◌, ◌==◌, ◌||◌, true, false, IsTrue, IfSome, pos, Option, Some, None, List, length, replicate}
+use Rattle.std.specs.Prelude.{◌≡◌, ℕ, ◌+◌, ◌*◌, ◌%◌, ◌<◌, ◌≤◌, ◌==◌, ◌||◌, true, false, IsTrue, IfSome, pos, Option, Some, None, List, length, replicate}
 use Rattle.std.specs.List.{AllByRecursion, AllZip, list_any}
 use Rattle.std.specs.FinMap.{entries}
 use Rattle.h5_bytes.specs.Bytes.{undefined_address}
+use Rattle.h5_model.specs.Format.Limits.{most_cells, most_chunk_bytes, most_dimensions}
+use Rattle.h5_model.specs.Format.Messages.{most_messages}
 use Rattle.h5_model.specs.Format.AttributeBody.{attribute_of}
 use Rattle.h5_model.specs.Format.Fixed.{Fixed, IsFixed}
 use Rattle.h5_model.specs.Tree.Places.{cells, extent_cells}
@@ -28,10 +30,10 @@ pub record IsPlainAttribute (e : List ℕ × Attribute) : Type 0 where
   pub named : 1 ≤ length e.0
   pub text : has_zero e.0 ≡ false
   pub fixed : IsFixed (e.1).fixed
-  pub ranked : length (e.1).sizes ≤ 32
+  pub ranked : length (e.1).sizes ≤ most_dimensions
   pub counted : length (e.1).values ≡ cells (e.1).sizes
   pub of_type : AreOf (e.1).fixed (e.1).values
-  pub few : extent_cells (e.1).sizes ≤ 2 ^ 40
+  pub few : extent_cells (e.1).sizes ≤ most_cells
   pub body : IsPlainBody e.0 e.1 (e.1).body
 
 pub record IsPlainObject (o : Object) : Type 0 where
@@ -50,7 +52,7 @@ IsUnset d = d.cells ≡ replicate (cells d.sizes) d.fill
 pub record ArePlainChunks (t : Fixed) (chunk : List ℕ) : Type 0 where
   pub ranked : 1 ≤ length chunk
   pub some : list_any (λ n. n == 0) chunk ≡ false
-  pub small : cells chunk * t.size ≤ 2 ^ 30
+  pub small : cells chunk * t.size ≤ most_chunk_bytes
 
 -- compact cells fit in a message; there are contiguous cells where they are stored; chunks fit in their bounds
 abbrev pub IsPlainStorage : Dataset → Storage → Type 0
@@ -61,10 +63,10 @@ IsPlainStorage d (Chunked chunk) = ArePlainChunks d.fixed chunk
 
 -- an array in this layout; a fill that is not written, beside so many other messages, is 0
 pub record IsPlainArray (d : Dataset) (others : ℕ) : Type 0 where
-  pub ranked : length d.sizes ≤ 32
+  pub ranked : length d.sizes ≤ most_dimensions
   pub bounded : AllZip IsBound d.sizes d.maxima
-  pub few : extent_cells d.sizes ≤ 2 ^ 40
+  pub few : extent_cells d.sizes ≤ most_cells
   pub fixed : IsFixed d.fixed
   pub sound : IsDataset d
   pub stored : IsPlainStorage d d.storage
-  pub unwritten : 65535 < 4 + others → d.fill ≡ pos 0
+  pub unwritten : most_messages < 4 + others → d.fill ≡ pos 0

@@ -1,5 +1,6 @@
 -- What is shown of plain images: they read as their trees, their blocks hold each byte once, and their length is the plain length.
-use Rattle.std.specs.Prelude.{◌≡◌, ℕ, ◌^◌, ◌≤◌, List, length}
+use Rattle.std.specs.Prelude.{◌≡◌, ℕ, ◌≤◌, List, length}
+use Rattle.h5_model.specs.Format.Limits.{most_bytes}
 use Rattle.h5_model.specs.Format.PlainLength.{plain_length}
 use Rattle.h5_model.specs.Tree.Objects.{Tree, Object}
 use Rattle.h5_repack.specs.Bodies.Laws.{IsPlainReading}
@@ -9,7 +10,7 @@ use Rattle.h5_model.specs.declared.k_values.KValues.{KValues}
 
 abbrev pub ImageReads : Type 0
 ImageReads = (k : KValues) (stored : StoredIn) (tree : Tree) (order : List (ℕ × Object)) → IsPlainTree k stored tree
-    → IsOrder tree order → image_end k (counts_of stored) order ≤ 2 ^ 31
+    → IsOrder tree order → image_end k (counts_of stored) order ≤ most_bytes
     → IsPlainReading (plain_image k stored tree order) k (table_of k (counts_of stored) order) tree
 
 -- whatever chunks are stored

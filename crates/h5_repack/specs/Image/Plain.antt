@@ -1,6 +1,7 @@
 -- Which trees the plain layout can hold: those that an image reads as, or that an accepted edit gives.
 use Rattle.std.specs.Prelude.{◌≡◌, ℕ, ◌+◌, ◌*◌, ◌≤◌, Some, length}
 use Rattle.std.specs.FinMap.{get, len}
+use Rattle.h5_model.specs.Format.Messages.{most_messages}
 use Rattle.h5_model.specs.Format.PlainLength.{rows_of}
 use Rattle.h5_model.specs.Tree.Objects.{Tree, Object, Content, Group, Array, Dataset, Links}
 use Rattle.h5_btree.specs.Writing.Written.{root_level}
@@ -14,8 +15,8 @@ use Rattle.h5_model.specs.declared.k_values.KValues.{KValues}
 
 -- the messages can be counted
 abbrev pub IsPlainContent : ℕ → Content → Type 0
-IsPlainContent others (Group links) = 1 + others ≤ 65535
-IsPlainContent others (Array d) = IsPlainArray d others × (3 + others ≤ 65535)
+IsPlainContent others (Group links) = 1 + others ≤ most_messages
+IsPlainContent others (Array d) = IsPlainArray d others × (3 + others ≤ most_messages)
 
 pub record IsPlain (o : Object) : Type 0 where
   pub others : IsPlainObject o
