@@ -24,48 +24,38 @@ use std::marker::Model;
 /// An array in chunks, and the image in which they stand, with what was found of it last. The sizes of both are lent.
 #[derive(Debug, Drop)]
 pub(crate) struct ChunkGrid<'a, 'r> {
-    image: &'a Image,
-    root: u64,
-    sizes: &'r [u64],
-    chunk: &'r ChunkSizes<'r>,
-    chunk_bytes: u64,
+    grid: GridRef<'a, 'r>,
     cursor: RowCursor,
     row: FoundRow,
 }
 
 impl<'a, 'r> Model for ChunkGrid<'a, 'r> {
-    ghost use Rattle.h5_layout.specs.ChunkCells.{Grid, IsGrid};
-    ghost use Rattle.h5_layout.specs.GridKept.{IsGridKept};
+    ghost use Rattle.h5_layout.specs.ChunkCells.{Grid};
+    ghost use Rattle.h5_layout.specs.GridKept.{IsFoundIn};
 
     ghost Value = { Grid };
 
-    ghost view = { λ g. record {
-      image = g.image.now.bytes;
-      sizes = g.sizes.now;
-      shape = record { sizes = g.chunk.now; bytes = g.chunk_bytes };
-      root = g.root;
-    } };
+    ghost view = { λ g. g.grid };
 
-    ghost invariant = { λ g. IsGridKept g.image.now.bytes (record {
-      sizes = g.sizes.now;
-      shape = record { sizes = g.chunk.now; bytes = g.chunk_bytes };
-      root = g.root;
-      cursor = g.cursor;
-      row = g.row;
-    }) };
+    ghost invariant = { λ g. IsFoundIn g.grid g.cursor g.row };
 }
 
 /// An array in chunks, and the image in which they stand, with the sizes of both lent.
-#[derive(Drop)]
+#[derive(Debug, Drop)]
 pub(crate) struct GridRef<'a, 'g> {
     image: &'a Image,
     root: u64,
     sizes: &'g [u64],
     chunk: &'g ChunkSizes<'g>,
     chunk_bytes: u64,
+    /// How many columns the array has: its last size, or 0 where it has no dimensions.
+    columns: u64,
+    /// How many of them a chunk has: its last size.
+    width: u64,
 }
 
 impl<'a, 'g> Model for GridRef<'a, 'g> {
+    ghost use Rattle.std.specs.Prelude.{◌≡◌, ◌-◌, length, get_or};
     ghost use Rattle.h5_layout.specs.ChunkCells.{Grid, IsGrid};
 
     ghost Value = { Grid };
@@ -82,7 +72,8 @@ impl<'a, 'g> Model for GridRef<'a, 'g> {
       sizes = g.sizes.now;
       shape = record { sizes = g.chunk.now; bytes = g.chunk_bytes };
       root = g.root;
-    }) };
+    }) × (g.columns ≡ get_or g.sizes.now (length g.sizes.now - 1) 0)
+        × (g.width ≡ get_or g.chunk.now (length g.sizes.now - 1) 0) };
 }
 
 /// Where some cells stand one behind the other in a chunk.
@@ -118,12 +109,9 @@ impl<'a, 'r> ChunkGrid<'a, 'r> {
           root = root;
         } }
     {
+        let chunk_bytes = chunk_bytes(chunk_sizes, size);
         ChunkGrid {
-            image,
-            root,
-            sizes: dims.sizes(),
-            chunk: chunk_sizes,
-            chunk_bytes: chunk_bytes(chunk_sizes, size),
+            grid: GridRef::new(image, dims.sizes(), chunk_sizes, chunk_bytes, root),
             cursor: RowCursor::new(),
             row: FoundRow::none(),
         }
@@ -142,14 +130,7 @@ impl<'a, 'r> ChunkGrid<'a, 'r> {
         ensures at { result.at ≡ chunk_of self.old place }
         ensures inside { IfSome result.at (λ at. at + self.old.shape.bytes ≤ length self.old.image) }
     {
-        let grid = GridRef::lent(
-            self.image,
-            self.sizes,
-            self.chunk,
-            self.chunk_bytes,
-            self.root,
-        );
-        grid.row_at(&mut self.cursor, &mut self.row, place)
+        self.grid.row_at(&mut self.cursor, &mut self.row, place)
     }
 
     /// The bytes of the chunk at this address, where it is stored.
@@ -157,12 +138,7 @@ impl<'a, 'r> ChunkGrid<'a, 'r> {
         requires { IfSome at (λ at. at + self.now.shape.bytes ≤ length self.now.image) }
         ensures { AreChunkBytes self.now at (option_map (λ b. b.now) result) }
     {
-        let Some(at) = at else {
-            return None;
-        };
-        let bytes = self.image.bytes();
-        let end = at + self.chunk_bytes;
-        Some(&bytes[at as usize..end as usize])
+        self.grid.bytes_at(at)
     }
 }
 
@@ -170,7 +146,7 @@ impl<'a, 'g> GridRef<'a, 'g> {
     /// The array of these sizes, in chunks of these sizes and of so many bytes, below this root.
     ///
     /// That it is one, whose chunks stand in the image, is the caller's condition.
-    pub(crate) fn lent(
+    pub(crate) fn new(
         image: &'a Image,
         sizes: &'g [u64],
         chunk: &'g ChunkSizes<'g>,
@@ -190,12 +166,18 @@ impl<'a, 'g> GridRef<'a, 'g> {
           root = root;
         } }
     {
+        let (columns, width) = match sizes.last() {
+            Some(columns) => (*columns, u64::from(chunk.size(sizes.len() - 1))),
+            None => (0, 0),
+        };
         GridRef {
             image,
             root,
             sizes,
             chunk,
             chunk_bytes,
+            columns,
+            width,
         }
     }
 
@@ -221,6 +203,19 @@ impl<'a, 'g> GridRef<'a, 'g> {
             place: row.inner + on,
             cells: row.cells - on,
         }
+    }
+
+    /// The bytes of the chunk at this address, where it is stored.
+    fn bytes_at(&self, at: Option<u64>) -> Option<&'a [u8]>
+        requires { IfSome at (λ at. at + self.now.shape.bytes ≤ length self.now.image) }
+        ensures { AreChunkBytes self.now at (option_map (λ b. b.now) result) }
+    {
+        let Some(at) = at else {
+            return None;
+        };
+        let bytes = self.image.bytes();
+        let end = at + self.chunk_bytes;
+        Some(&bytes[at as usize..end as usize])
     }
 
     /// Makes the row that was found last one that has this place.
@@ -332,16 +327,15 @@ impl<'a, 'g> GridRef<'a, 'g> {
         ensures row { IsRowOf self.now (record row.new { at = chunk_of self.now row.new.start }) }
         ensures some { 0 < row.new.cells }
     {
-        let last = self.sizes.len() - 1;
-        let size = u64::from(self.chunk.size(last));
+        let width = self.width;
         let number = next_number(row.number);
-        let inner = row.inner + row.cells - size;
+        let inner = row.inner + row.cells - width;
         let corner = ChunkCorner {
-            place: row.corner.place + size,
-            column: row.corner.column + size,
+            place: row.corner.place + width,
+            column: row.corner.column + width,
         };
         row.start = place;
-        row.cells = size.min(self.sizes[last] - corner.column);
+        row.cells = width.min(self.columns - corner.column);
         row.corner = corner;
         row.inner = inner;
         row.number = number;
@@ -352,13 +346,11 @@ impl<'a, 'g> GridRef<'a, 'g> {
     fn goes_on(&self, row: &FoundRow, place: u64) -> bool
         ensures { IsTrue result → HasNext self.now.sizes self.now.shape.sizes row.now place }
     {
-        let rank = self.sizes.len();
-        rank > 0
+        !self.sizes.is_empty()
             && row.cells > 0
             && place >= row.start
             && place - row.start == row.cells
-            && self.sizes[rank - 1].saturating_sub(row.corner.column)
-                > u64::from(self.chunk.size(rank - 1))
+            && self.columns.saturating_sub(row.corner.column) > self.width
     }
 
     /// The address of the chunk that begins there, where it is stored, and its number among those that were found beside
@@ -409,15 +401,14 @@ impl<'a, 'g> GridRef<'a, 'g> {
         ensures { IsNumberBeside self.now.shape.sizes (index_of self.now.sizes first.place)
             (index_of self.now.sizes corner.place) result }
     {
-        let last = self.sizes.len().checked_sub(1)?;
-        if corner.place < first.place || corner.column < first.column {
+        if self.sizes.is_empty() || corner.place < first.place || corner.column < first.column {
             return None;
         }
         let columns = corner.column - first.column;
         if corner.place - first.place != columns {
             return None;
         }
-        Some(columns / u64::from(self.chunk.size(last)))
+        Some(columns / self.width)
     }
 
     /// The address of the chunk whose first cell has this place, where it is stored.

@@ -129,7 +129,7 @@ impl ChunkIndex {
     {
         let chunk = ChunkSizes::new(&self.chunk[..self.rank]);
         let sizes = &self.sizes[..self.rank];
-        let grid = GridRef::lent(image, sizes, &chunk, self.chunk_bytes, self.root);
+        let grid = GridRef::new(image, sizes, &chunk, self.chunk_bytes, self.root);
         grid.row_at(&mut self.cursor, &mut self.row, place)
     }
 }

@@ -10,9 +10,9 @@ invariant_of-result c =
     let some : cells chunk * 1 ≤ cells chunk * c.args.size = mul-le-mul_left (cells chunk) c.requires.cell in
     let made = kept_new c.args.image.now.bytes c.args.dims.now chunk (cells chunk * c.args.size) c.args.root (record {
       rank = c.requires.rank;
-      sizes = c.chunk_bytes.ensures.sound;
+      sizes = c.chunk_bytes-chunk_bytes.ensures.sound;
       few = c.requires.few;
       small = omega (arith, c.requires.small, some);
       stored = c.requires.stored;
     }) in
-    rw (c.sizes.ensures.numbers, c.chunk_bytes.ensures.exact, c.new.ensures, c.none.ensures) made
+    rw (c.new.ensures, c.new-2.ensures, c.none.ensures, c.sizes.ensures.numbers, c.chunk_bytes-chunk_bytes.ensures.exact) made

@@ -3,7 +3,7 @@ use Rattle.h5_bytes.specs.Bytes.{part}
 use Rattle.h5_bytes.proofs.PartLaws.{length-part}
 use Rattle.h5_layout.specs.ChunkCells.{Grid}
 use Rattle.h5_layout.proofs.GridLaws.{slice_part}
-use Rattle.h5_layout.proofs.grid.ChunkGrid.bytes_at.Goals as goal
+use Rattle.h5_layout.proofs.grid.GridRef.bytes_at.Goals as goal
 
 -- the chunk lies in the image
 end : (image : List ℕ) (len at : ℕ) (g h : Grid) (found : Option ℕ) → found ≡ Some at → IfSome found (λ at. at + h.shape.bytes ≤ length h.image) → g ≡ h → g.image ≡ image → len ≡ g.shape.bytes
