@@ -50,7 +50,7 @@ loop-object-preserved c =
     = λ number low. c.count_group.ensures.counted number (subst (λ (ns : List ℕ). number < length ns) (sym sent) low)
     ∙ ap (λ (ns : List ℕ). get_or ns number 0 + times number (targets c.links_of.result.now)) sent
     ∙ ap (λ (ls : List (Link ObjectNo)). get_or old number 0 + times number (targets ls)) c.links_of.ensures in
-    subst (λ (ns : List ℕ). AreCountedTo objects (i + 1) ns) (sym (refilled c.loop-object.counts.len old new length_is c.loop-object.counts.ok.0))
+    subst (λ (ns : List ℕ). AreCountedTo objects (i + 1) ns) (sym (refilled c.loop-object.counts.len new old length_is c.loop-object.counts.ok.0))
     (objects_more objects i x old new c.loop-object-test.true c.object-item.is c.loop-object.invariant length_is each)
 
 pub returns-clause-counted : goal.returns-clause-counted
