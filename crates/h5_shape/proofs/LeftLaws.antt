@@ -24,7 +24,7 @@ join_cells long p e xs low =
     ∙ ap (λ (ys : List ℕ). ys ++ cells_at long xs) (ap (λ (q : ℕ). spaced_places (e - p) 1 p ++ spaced_places long 1 q) (sym at)
     ∙ spaced-append (e - p) long 1 p ∙ ap (λ (n : ℕ). spaced_places n 1 p) all)
 
-begins : (long q at : ℕ) (ys : List ℕ) → 0 < long → (at == q) ≡ false → BeginsElse q (spaced_places long 1 at ++ ys)
+pub begins : (long q at : ℕ) (ys : List ℕ) → 0 < long → (at == q) ≡ false → BeginsElse q (spaced_places long 1 at ++ ys)
 begins zero q at ys some else = absurd (omega arith)
 begins (suc long) q at ys some else = else
 

@@ -1,6 +1,6 @@
 -- Selected cells as rows of groups: the groups of a row stand a step apart, and each has so many consecutive cells (HDF5 dataspace
 -- reference, H5Sselect_hyperslab).
-use Rattle.std.specs.Prelude.{◌≡◌, ℕ, zero, suc, ◌+◌, ◌*◌, ◌/◌, ◌%◌, ◌^◌, ◌<◌, ◌≤◌, Bool, true, false, if◌then◌else◌, ⊤, List, [], ◌∷◌, ◌++◌, length}
+use Rattle.std.specs.Prelude.{◌≡◌, ℕ, zero, suc, ◌+◌, ◌*◌, ◌/◌, ◌%◌, ◌^◌, ◌<◌, ◌≤◌, ◌≢◌, Bool, true, false, if◌then◌else◌, ⊤, List, [], ◌∷◌, ◌++◌, length}
 use Rattle.std.specs.List.{flat_map, list_any}
 use Rattle.h5_model.specs.Tree.Places.{cells, index_of, place_of}
 use Rattle.h5_model.specs.Views.Selection.{Slab, fits_all, overlaps, selects_none}
@@ -19,6 +19,10 @@ row_cells r = (r.more + 1) * r.length
 
 abbrev pub cells_in : CellRows → ℕ
 cells_in r = r.count * row_cells r
+
+-- the groups of a row do not touch
+abbrev pub HasGaps : CellRows → Type 0
+HasGaps r = 0 < r.more → r.step ≢ r.length
 
 -- numbered cells, with the place of each, stand in these rows
 pub record IsRowed (place : ℕ → ℕ) (r : CellRows) : Type 0 where
@@ -55,6 +59,8 @@ pub record IsWalk (w : RowWalk) : Type 0 where
   pub few : cells (selection_shape w.axes.now) ≤ 2 ^ 40
   pub ahead : w.next + w.behind * row_cells w.rows ≤ cells (selection_shape w.axes.now)
   pub long : 0 < w.rows.length
+  pub left : w.left ≤ w.rows.more
+  pub gaps : HasGaps w.rows
 
 -- the cells from the group at this place on, or none
 abbrev pub left_of : RowWalk → ℕ → Bool → List ℕ

@@ -1,11 +1,11 @@
 //! Selected cells as rows of groups (HDF5 dataspace reference, H5Sselect_hyperslab).
-ghost use Rattle.std.specs.Prelude.{◌≡◌, ℕ, ◌*◌, ◌/◌, ◌%◌, ◌^◌, ◌<◌, ◌≤◌, ◌∷◌, [], MatchOption, false, true, length};
+ghost use Rattle.std.specs.Prelude.{◌≡◌, ℕ, ◌+◌, ◌*◌, ◌/◌, ◌%◌, ◌^◌, ◌<◌, ◌≤◌, ◌≢◌, ◌∷◌, [], MatchOption, false, true, length};
 ghost use Rattle.std.specs.List.{list_any};
 ghost use Rattle.h5_model.specs.Tree.Places.{cells};
 ghost use Rattle.h5_model.specs.Views.Selection.{fits_all, overlaps, selection_of, selects_none};
 ghost use Rattle.h5_shape.specs.SpacedPlaces.{ArePlacesBelow};
 ghost use Rattle.h5_shape.specs.PartCells.{selection_shape};
-ghost use Rattle.h5_shape.specs.Rows.{IsRowed, IsWalk, cells_at, cells_in, groups_ahead, repeated, row_cells, selected_place};
+ghost use Rattle.h5_shape.specs.Rows.{HasGaps, IsRowed, IsWalk, cells_at, cells_in, groups_ahead, repeated, row_cells, selected_place};
 
 use crate::axes::Axes;
 
@@ -41,7 +41,7 @@ pub(crate) struct RowWalk<'a> {
     axes: &'a Axes<'a>,
     pub(crate) rows: CellRows,
     /// How many groups of the row under way are to come.
-    left: u64,
+    pub(crate) left: u64,
     /// How many rows are to come.
     behind: u64,
     /// The number of the first cell of the next row among those selected.
@@ -73,6 +73,7 @@ impl CellRows {
         ensures all { cells_in self.new ≡ cells (selection_shape axes.now) }
         ensures few { cells_in self.new ≤ cells sizes.now }
         ensures rowed { IsRowed (selected_place sizes.now axes.now) self.new }
+        ensures gaps { HasGaps self.new }
     {
         let [size, sizes @ ..] = sizes else {
             return 1;
@@ -94,9 +95,11 @@ impl CellRows {
         requires room { cells_in self.old * count ≤ 2 ^ 40 }
         requires long { 0 < self.old.length }
         requires rows { 0 < self.old.count }
+        requires gaps { HasGaps self.old }
         ensures cells { cells_in self.new ≡ cells_in self.old * count }
         ensures rowed { (place : ℕ → ℕ) → IsRowed place self.old
             → IsRowed (repeated place (cells_in self.old) step) self.new }
+        ensures gaps { HasGaps self.new }
     {
         if count == 1 {
             return;
@@ -165,6 +168,23 @@ impl<'a> RowWalk<'a> {
         (walk, place)
     }
 
+    /// Goes to the next group of the row from the one at this place, and returns its place. The two do not touch.
+    ///
+    /// That the row has one is the caller's condition.
+    #[inline(always)]
+    pub(crate) fn step_in_row(&mut self, place: u64) -> u64
+        requires some { 0 < self.old.left }
+        requires walk { IsWalk self.old }
+        requires small { ArePlacesBelow (2 ^ 64) (groups_ahead self.old place) }
+        ensures next { groups_ahead self.old place ≡ result ∷ groups_ahead self.new result }
+        ensures gap { result ≢ place + self.old.rows.length }
+        ensures walk { IsWalk self.new }
+        ensures rows { self.new.rows ≡ self.old.rows }
+    {
+        self.left -= 1;
+        place + self.rows.step
+    }
+
     /// Goes to the next group from the one at this place, or to none behind the last.
     pub(crate) fn next_place(&mut self, place: u64) -> Option<u64>
         requires walk { IsWalk self.old }
@@ -175,8 +195,7 @@ impl<'a> RowWalk<'a> {
         ensures rows { self.new.rows ≡ self.old.rows }
     {
         if self.left > 0 {
-            self.left -= 1;
-            return Some(place + self.rows.step);
+            return Some(self.step_in_row(place));
         }
         if self.behind == 0 {
             return None;

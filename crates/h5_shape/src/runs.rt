@@ -78,12 +78,19 @@ impl<'a> Iterator for CellRuns<'a> {
 
     ghost remaining = { item_count (λ left. left) };
 
+    // Inlined: most runs are one group of a row, with little to do.
+    #[inline(always)]
     fn next(&mut self) -> Option<CellRun> {
         if !self.has_more {
             return None;
         }
         let place = self.place;
-        let mut end = place + self.walk.rows.length;
+        let length = self.walk.rows.length;
+        if self.walk.left > 0 {
+            self.place = self.walk.step_in_row(place);
+            return Some(CellRun { place, length });
+        }
+        let mut end = place + length;
         self.has_more = false;
         while let Some(next) = self.walk.next_place(self.place) {
             self.place = next;

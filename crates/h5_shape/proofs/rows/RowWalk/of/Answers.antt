@@ -27,6 +27,8 @@ returns-clause-walk c =
       few = omega (arith, c.select.ensures.all, c.select.ensures.few, c.requires.small);
       ahead = omega (arith, c.row_cells.ensures, all, c.select.ensures.all);
       long = h.long;
+      left = omega arith;
+      gaps = c.select.ensures.gaps;
     }
 
 pub returns-clause-long : goal.returns-clause-long

@@ -7,10 +7,72 @@ use Rattle.h5_shape.specs.SpacedPlaces.{spaced_places, ArePlacesBelow}
 use Rattle.h5_shape.specs.Rows.{IsWalk, IsWalkIfMore, cells_at, groups_ahead, left_of}
 use Rattle.h5_shape.specs.Runs.{cell_runs}
 use Rattle.h5_shape.proofs.SpacedLaws.{below-right}
-use Rattle.h5_shape.proofs.LeftLaws.{start_room, places_small, join_cells, begins_else, run_end}
-use Rattle.h5_shape.proofs.RunLaws.{BeginsElse}
+use Rattle.h5_shape.proofs.LeftLaws.{start_room, places_small, join_cells, begins, begins_else, run_end}
+use Rattle.h5_shape.proofs.RunLaws.{BeginsElse, runs_spaced}
 use Rattle.h5_shape.proofs.runs.CellRunsIterator.next.Goals as goal
 use Rattle.h5_shape.proofs.runs.CellRunsIterator.next.Goals.{in-Some+then-next-end, in_default}
+
+-- ---- a group of the row follows
+
+pub step_in_row-self-inside-requires-clause-small : goal.step_in_row-self-inside-requires-clause-small
+step_in_row-self-inside-requires-clause-small c =
+    let o = c.self.inside.walk in
+    let p = c.self.inside.place in
+    let more : c.self.inside.has_more ≡ true = cc in
+    let walk : IsWalk o = subst (IsWalkIfMore o) more c.self.invariant.walk in
+    let small : ArePlacesBelow (2 ^ 41) (cells_at o.rows.length (p ∷ groups_ahead o p)) = subst (λ (b : Bool). ArePlacesBelow (2 ^ 41) (left_of o p b)) more c.self.invariant.small in
+    places_small o.rows.length (groups_ahead o p) walk.long (below-right (2 ^ 41) (spaced_places o.rows.length 1 p) (cells_at o.rows.length (groups_ahead o p)) small)
+
+pub invariant_of-self : goal.invariant_of-self
+invariant_of-self c =
+    let o = c.self.inside.walk in
+    let p = c.self.inside.place in
+    let step = c.step_in_row-self-inside in
+    let new = step.new.self in
+    let n = step.result in
+    let l = o.rows.length in
+    let more : c.self.inside.has_more ≡ true = cc in
+    let small : ArePlacesBelow (2 ^ 41) (cells_at l (p ∷ groups_ahead o p)) = subst (λ (b : Bool). ArePlacesBelow (2 ^ 41) (left_of o p b)) more c.self.invariant.small in
+    let rest : ArePlacesBelow (2 ^ 41) (cells_at l (groups_ahead o p)) = below-right (2 ^ 41) (spaced_places l 1 p) (cells_at l (groups_ahead o p)) small in
+    let long : new.rows.length ≡ l = ap (λ (r : CellRows). r.length) step.ensures.rows in
+    let same : cells_at l (groups_ahead o p) ≡ cells_at new.rows.length (n ∷ groups_ahead new n) =
+    ap (cells_at l) step.ensures.next ∙ ap (λ (x : ℕ). cells_at x (n ∷ groups_ahead new n)) (sym long) in
+    record {
+      small = subst (λ (b : Bool). ArePlacesBelow (2 ^ 41) (left_of new n b)) (sym more) (subst (ArePlacesBelow (2 ^ 41)) same rest);
+      walk = subst (IsWalkIfMore new) (sym more) step.ensures.walk;
+    }
+
+pub returns-then-self-gt0-clause-steps : goal.returns-then-self-gt0-clause-steps
+returns-then-self-gt0-clause-steps c =
+    let o = c.self.inside.walk in
+    let p = c.self.inside.place in
+    let step = c.step_in_row-self-inside in
+    let new = step.new.self in
+    let n = step.result in
+    let l = o.rows.length in
+    let more : c.self.inside.has_more ≡ true = cc in
+    let walk : IsWalk o = subst (IsWalkIfMore o) more c.self.invariant.walk in
+    let long : new.rows.length ≡ l = ap (λ (r : CellRows). r.length) step.ensures.rows in
+    let behind = groups_ahead new n in
+    let gap : (n == p + l) ≡ false = grind (arith, nat_tests, step.ensures.gap) in
+    let before : c.args.self.now ≡ cell_runs (spaced_places l 1 p ++ cells_at l (groups_ahead o p)) =
+    sym c.self.view_is ∙ ap (λ (b : Bool). cell_runs (left_of o p b)) more in
+    let one : cell_runs (spaced_places l 1 p ++ cells_at l (n ∷ behind)) ≡ record { place = p; length = l } ∷ cell_runs (cells_at l (n ∷ behind)) =
+    runs_spaced l p (cells_at l (n ∷ behind)) walk.long (begins l (p + l) n (cells_at l behind) walk.long gap) in
+    let left : cells_at l (n ∷ behind) ≡ left_of new n c.self.inside.has_more =
+    ap (λ (x : ℕ). cells_at x (n ∷ behind)) (sym long) ∙ ap (left_of new n) (sym more) in
+    before
+    ∙ ap (λ (xs : List ℕ). cell_runs (spaced_places l 1 p ++ cells_at l xs)) step.ensures.next
+    ∙ one
+    ∙ ap (λ (xs : List ℕ). record { place = p; length = l } ∷ cell_runs xs) left
+
+pub returns-then-self-gt0-clause-goes : goal.returns-then-self-gt0-clause-goes
+returns-then-self-gt0-clause-goes c =
+    let steps = returns-then-self-gt0-clause-steps c in
+    let fewer = ap (λ (rs : List CellRun). length rs) steps in
+    search rules
+
+-- ---- behind the last group of the row
 
 pub overflow_add-end : goal.overflow_add-end
 overflow_add-end c =
@@ -87,8 +149,8 @@ loop-next-preserved c =
           ∙ ap (λ (n : ℕ). spaced_places ((c.loop-next.end + n) - p) 1 p ++ cells_at o.rows.length ahead) (sym long);
     }
 
-pub invariant_of-self : goal.invariant_of-self
-invariant_of-self c =
+pub invariant_of-self-then-next-end : goal.invariant_of-self-then-next-end
+invariant_of-self-then-next-end c =
     let o = c.self.inside.walk in
     let p = c.self.inside.place in
     let now = c.loop-next.self-inside.walk in
