@@ -77,6 +77,8 @@ impl<'a, 'r> Iterator for Runs<'a, 'r> {
 }
 
 /// What is left of a run, or where nothing is the run that follows.
+// Inlined, as `CellRuns::next` is.
+#[inline(always)]
 fn run_under_way(run: CellRun, runs: &mut Option<CellRuns<'_>>) -> Option<CellRun>
     ensures step { MatchOption result
         ((places_left run runs.old ≡ []) × (runs.new ≡ runs.old))
