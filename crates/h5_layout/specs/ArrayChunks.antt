@@ -1,6 +1,7 @@
 -- The chunks of an array by its header, without its image (File Format Specification 3.0, sections III.A.1 and IV.A.2.i).
 use Rattle.std.specs.Prelude.{◌≡◌, ℕ, ◌*◌, ◌^◌, ◌<◌, ◌≤◌, true, ℤ, Option, List, length}
 use Rattle.std.specs.List.{AllByRecursion}
+use Rattle.h5_model.specs.Format.Limits.{most_chunk_bytes}
 use Rattle.h5_model.specs.Format.Fixed.{Fixed, IsFixed, fits}
 use Rattle.h5_model.specs.Format.Layout.{InChunks, Layout}
 use Rattle.h5_model.specs.Format.Described.{Described}
@@ -21,7 +22,7 @@ pub record ArrayChunks : Type 0 where
 pub record AreSoundChunks (k : ArrayChunks) : Type 0 where
   pub sizes : AreChunkSizes k.chunk
   pub short : AllByRecursion (λ size. size < 2 ^ 32) k.chunk
-  pub small : cells k.chunk * (k.fixed).size ≤ 2 ^ 30
+  pub small : cells k.chunk * (k.fixed).size ≤ most_chunk_bytes
   pub sound : IsFixed k.fixed
   pub of_type : fits k.fixed k.fill ≡ true
 

@@ -1,7 +1,8 @@
 -- The data of an array where they stand in an image: its stored chunks, and its blocks (File Format Specification 3.0, sections
 -- III.A.1 and IV.A.2.i).
-use Rattle.std.specs.Prelude.{◌≡◌, ℕ, ◌+◌, ◌*◌, ◌^◌, ◌≤◌, true, Some, None, List, [], ◌∷◌, length}
+use Rattle.std.specs.Prelude.{◌≡◌, ℕ, ◌+◌, ◌*◌, ◌≤◌, true, Some, None, List, [], ◌∷◌, length}
 use Rattle.std.specs.FinMap.{empty}
+use Rattle.h5_model.specs.Format.Limits.{most_cells}
 use Rattle.h5_bytes.specs.declared.Block.{Block}
 use Rattle.h5_model.specs.Format.Chunks.{Chunks}
 use Rattle.h5_model.specs.Format.Fixed.{Fixed, IsFixed, fits}
@@ -49,4 +50,4 @@ pub record IsSoundDataset (d : Dataset) : Type 0 where
   pub fixed : IsFixed d.fixed
   pub fill : fits d.fixed d.fill ≡ true
   pub counted : length d.cells ≡ cells d.sizes
-  pub few : cells d.sizes ≤ 2 ^ 40
+  pub few : cells d.sizes ≤ most_cells

@@ -1,6 +1,7 @@
 -- Other sizes in the header of an array in chunks (File Format Specification 3.0, section IV.A.2.b).
-use Rattle.std.specs.Prelude.{◌≡◌, ℕ, ◌+◌, ◌*◌, ◌^◌, ◌<◌, ◌≤◌, Bool, true, false, not, if◌then◌else◌, List, length}
+use Rattle.std.specs.Prelude.{◌≡◌, ℕ, ◌+◌, ◌*◌, ◌<◌, ◌≤◌, Bool, true, false, not, if◌then◌else◌, List, length}
 use Rattle.std.specs.Option.{option_map_or}
+use Rattle.h5_model.specs.Format.Limits.{most_cells}
 use Rattle.h5_model.specs.Edits.Refusal.{is_chunked, some_above}
 use Rattle.h5_model.specs.Format.Extent.{has_maxima}
 use Rattle.h5_model.specs.Format.MessageTypes.{dataspace_kind}
@@ -23,7 +24,7 @@ pub record CanHaveSizes (a : Described) (sizes : List ℕ) : Type 0 where
   pub chunked : is_chunked (storage_of a.sizes a.layout) ≡ true
   pub ranked : length sizes ≡ length a.sizes
   pub below : some_above sizes a.maxima ≡ false
-  pub few : extent_cells sizes ≤ 2 ^ 40
+  pub few : extent_cells sizes ≤ most_cells
 
 -- how many bytes a Dataspace message with maxima may take that is new: its body in a block with 32 bytes more
 abbrev pub extent_room : List Message → List ℕ → ℕ

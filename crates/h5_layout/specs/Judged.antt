@@ -2,6 +2,7 @@
 -- IV.A.2).
 use Rattle.std.specs.Prelude.{ℕ, ◌*◌, ◌^◌, ◌||◌, Bool, false, nat_lt, is_none, if◌then◌else◌, ℤ, Option, Some, None, List}
 use Rattle.std.specs.Option.{option_map_or, option_or}
+use Rattle.h5_model.specs.Format.Limits.{most_cells, most_chunk_bytes}
 use Rattle.h5_model.specs.Format.MessageTypes.{old_fill_value_kind, fill_value_kind}
 use Rattle.h5_model.specs.Format.Messages.{Message, first_body}
 use Rattle.h5_model.specs.Format.Fixed.{Fixed}
@@ -16,7 +17,7 @@ use Rattle.h5_model.specs.declared.open_fault.Cause.TheVariants.{DataspaceForm, 
 -- the sizes are not told, or are those of too many cells
 abbrev pub space_breach : Option Extent → Option Cause
 space_breach None = Some DataspaceForm
-space_breach (Some e) = if nat_lt (2 ^ 40) (extent_cells e.sizes) then Some TooLarge else None
+space_breach (Some e) = if nat_lt most_cells (extent_cells e.sizes) then Some TooLarge else None
 
 abbrev pub type_breach : Option Fixed → Option Cause
 type_breach None = Some DatatypeForm
@@ -37,7 +38,7 @@ fill_breach ms (Some t) =
 abbrev pub is_chunk_large : Fixed → Layout → Bool
 is_chunk_large t (InMessage bytes) = false
 is_chunk_large t (InBlock b) = false
-is_chunk_large t (InChunks sizes root) = nat_lt (2 ^ 30) (cells sizes * t.size)
+is_chunk_large t (InChunks sizes root) = nat_lt most_chunk_bytes (cells sizes * t.size)
 
 -- the layout is not told, or is one of too large chunks
 abbrev pub layout_breach : Option Fixed → Option Layout → Option Cause

@@ -3,6 +3,7 @@
 use Rattle.std.specs.Prelude.{◌≡◌, ℕ, ◌-◌, ◌*◌, ◌^◌, ◌<◌, ◌≤◌, true, min, if◌then◌else◌, ℤ, Option, None, Some, List, [], ◌∷◌, length, map, take}
 use Rattle.std.specs.FinMap.{empty}
 use Rattle.std.specs.List.{AllByRecursion}
+use Rattle.h5_model.specs.Format.Limits.{most_chunk_bytes}
 use Rattle.h5_bytes.specs.Bytes.{part}
 use Rattle.h5_bytes.specs.Tables.{table}
 use Rattle.h5_model.specs.Format.Cells.{value_in}
@@ -80,7 +81,7 @@ pub record AreKept (k : KeptChunks) (places : List ChunkPlace) : Type 0 where
   pub sizes : AreChunkSizes k.chunk
   pub rank : length k.kept ≡ length k.chunk
   pub short : AllByRecursion (λ size. size < 2 ^ 32) k.chunk
-  pub small : cells k.chunk * (k.fixed).size ≤ 2 ^ 30
+  pub small : cells k.chunk * (k.fixed).size ≤ most_chunk_bytes
   pub sound : IsFixed k.fixed
   pub of_type : fits k.fixed k.fill ≡ true
   pub there : AllByRecursion (IsChunkPlace k.image (chunk_shape k.fixed k.chunk)) places

@@ -1,5 +1,6 @@
 -- Where the cells of an array stand, by its layout (File Format Specification 3.0, section IV.A.2.i).
-use Rattle.std.specs.Prelude.{◌≡◌, ◌≢◌, ℕ, ◌+◌, ◌*◌, ◌^◌, ◌≤◌, ◌==◌, Bool, true, false, nat_le, Option, None, Some, List, length, replicate}
+use Rattle.std.specs.Prelude.{◌≡◌, ◌≢◌, ℕ, ◌+◌, ◌*◌, ◌≤◌, ◌==◌, Bool, true, false, nat_le, Option, None, Some, List, length, replicate}
+use Rattle.h5_model.specs.Format.Limits.{most_cells}
 use Rattle.h5_model.specs.Tree.Places.{cells, extent_cells}
 use Rattle.h5_model.specs.Format.Layout.{Layout, InMessage, InBlock, InChunks}
 use Rattle.h5_model.specs.Format.Described.{Described}
@@ -17,7 +18,7 @@ has_room sizes size (InChunks chunk_sizes root) = length chunk_sizes == length s
 
 -- what every array that messages describe keeps to
 pub record IsArray (a : Described) : Type 0 where
-  pub small : extent_cells a.sizes ≤ 2 ^ 40
+  pub small : extent_cells a.sizes ≤ most_cells
   pub room : has_room a.sizes a.fixed.size a.layout ≡ true
   pub chunk_small : is_chunk_large a.fixed a.layout ≡ false
 

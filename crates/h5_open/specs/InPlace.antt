@@ -1,9 +1,10 @@
 -- An edit in place: what it moves in the image, and what it leaves of the objects (File Format Specification 3.0, sections II.A, III and
 -- IV.A).
-use Rattle.std.specs.Prelude.{◌≡◌, ℕ, ◌^◌, ◌≤◌, Bool, not, List, ◌∷◌, map, length}
+use Rattle.std.specs.Prelude.{◌≡◌, ℕ, ◌≤◌, Bool, not, List, ◌∷◌, map, length}
 use Rattle.std.specs.Ordering.{nat_cmp}
 use Rattle.std.specs.FinMap.{FinMap, get, entries}
 use Rattle.std.specs.List.{AllByRecursion, filter, flat_map}
+use Rattle.h5_model.specs.Format.Limits.{most_bytes}
 use Rattle.h5_bytes.specs.Blocks.{Inside}
 use Rattle.h5_bytes.specs.declared.Block.{Block}
 use Rattle.h5_model.specs.Format.Superblock.{end_of_file, end_field}
@@ -38,7 +39,7 @@ pub record IsRemade (new : List ℕ) (table' : FinMap nat_cmp ℕ) (tree' : Tree
 pub record IsInPlace (old new : Space) (table table' : FinMap nat_cmp ℕ) (tree tree' : Tree) (placed placed' : List Placed) (touched : ℕ → Bool) : Type 0 where
   pub moves : Moves old new (end_field old.bytes ∷ touched_blocks touched placed) (end_field new.bytes ∷ touched_blocks touched placed')
   pub end : end_of_file new.bytes ≡ length new.bytes
-  pub small : length new.bytes ≤ 2 ^ 31
+  pub small : length new.bytes ≤ most_bytes
   pub root : get table' 0 ≡ get table 0
   pub numbered : entries table' ≡ map (λ x. (x.number, x.header)) placed'
   pub objects : entries tree' ≡ map (λ x. (x.number, x.object)) placed'

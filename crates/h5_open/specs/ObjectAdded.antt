@@ -1,9 +1,10 @@
 -- An object that is added to an opened image where it stands: its bytes, and what they have to be at the place where they will stand (File
 -- Format Specification 3.0, sections III.A.1, III.D and IV.A).
-use Rattle.std.specs.Prelude.{◌≡◌, ℕ, ◌+◌, ◌^◌, ◌≤◌, IsTrue, true, List, [], ◌∷◌, ◌++◌, ⊤, length, replicate}
+use Rattle.std.specs.Prelude.{◌≡◌, ℕ, ◌+◌, ◌≤◌, IsTrue, true, List, [], ◌∷◌, ◌++◌, ⊤, length, replicate}
 use Rattle.std.specs.Ordering.{nat_cmp}
 use Rattle.std.specs.FinMap.{FinMap, insert}
 use Rattle.std.specs.List.{AllByRecursion}
+use Rattle.h5_model.specs.Format.Limits.{most_bytes}
 use Rattle.h5_bytes.specs.Blocks.{Run, block}
 use Rattle.h5_bytes.specs.Bytes.{part}
 use Rattle.h5_model.specs.Format.Fixed.{fits}
@@ -89,7 +90,7 @@ pub record IsContentMade (image : List ℕ) (ms : List Message) (c : OpenedConte
 -- Wherever these bytes are at the place where the file has room for them, in an image with its K values, they are this object: its header,
 -- with one link counted, and then its content.
 pub record IsToBeMade (f : FileState) (b : ObjectBytes) (object : Object) : Type 0 where
-  pub low : object_place f b + length (object_bytes b) ≤ 2 ^ 31
+  pub low : object_place f b + length (object_bytes b) ≤ most_bytes
   pub of_type : IsOfType b.content
   pub messages : List Message
   pub header : IsHeaderBytes b.header.now (object_place f b) messages
@@ -132,7 +133,7 @@ pub record IsObjectStored (old taken linked new : Space) (t : SymbolTable) (name
   pub k : k_values linked.bytes ≡ k_values taken.bytes
   pub later : Moves linked new (end_field linked.bytes ∷ []) (end_field new.bytes ∷ [])
   pub end : end_of_file new.bytes ≡ length new.bytes
-  pub small : length new.bytes ≤ 2 ^ 31
+  pub small : length new.bytes ≤ most_bytes
 
 -- the tree with an object of this number more, to which a link in one of its groups leads
 abbrev pub tree_with : Tree → ℕ → List ℕ → ℕ → Object → Tree

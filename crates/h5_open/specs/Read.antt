@@ -1,6 +1,7 @@
 -- An object that was read in a walk (File Format Specification 3.0, sections III.C and IV.A).
 use Rattle.std.specs.Prelude.{◌≡◌, ◌≢◌, ℕ, ◌+◌, ◌-◌, ◌≤◌, ◌⊎◌, true, IsTrue, Option, None, List, [], ◌∷◌, ◌++◌, length}
 use Rattle.std.specs.List.{AllByRecursion, Contains}
+use Rattle.h5_model.specs.Format.Limits.{most_names}
 use Rattle.h5_bytes.specs.Blocks.{cover, Inside}
 use Rattle.h5_bytes.specs.declared.Block.{Block}
 use Rattle.h5_model.specs.Format.Addresses.{SymbolTable}
@@ -30,7 +31,7 @@ pub record IsObjectRead (image : List ℕ) (held now : List Block) (header depth
   pub kept : IsObjectKept image o
   pub header_is : o.messages.header ≡ header
   pub top : depth ≡ 0 → IsGroupContent o.content
-  pub shallow : 1 ≤ length (content_links image o.content) → depth + 1 ≤ 64
+  pub shallow : 1 ≤ length (content_links image o.content) → depth + 1 ≤ most_names
   pub inside : Inside (length image) (object_blocks image o)
   pub claimed : (p : ℕ) → cover p now ≡ cover p held + cover p (object_blocks image o)
 

@@ -1,10 +1,11 @@
 -- An edit in place by what is kept of the objects: what it has to show of those that it touches (File Format Specification 3.0, section
 -- IV.A).
-use Rattle.std.specs.Prelude.{◌≡◌, ℕ, ◌+◌, ◌==◌, ◌^◌, ◌<◌, ◌≤◌, ◌++◌, if◌then◌else◌, Bool, true, false, IsSome, Option, Some, None, List, [], ◌∷◌, length, slice_get}
+use Rattle.std.specs.Prelude.{◌≡◌, ℕ, ◌+◌, ◌==◌, ◌<◌, ◌≤◌, ◌++◌, if◌then◌else◌, Bool, true, false, IsSome, Option, Some, None, List, [], ◌∷◌, length, slice_get}
 use Rattle.std.specs.Option.{option_flatten, option_map_or}
 use Rattle.std.specs.Ordering.{nat_cmp}
 use Rattle.std.specs.FinMap.{FinMap, get}
 use Rattle.std.specs.List.{flat_map}
+use Rattle.h5_model.specs.Format.Limits.{most_bytes}
 use Rattle.h5_bytes.specs.declared.Block.{Block}
 use Rattle.h5_model.specs.Format.Messages.{prefix_at, reference_count}
 use Rattle.h5_model.specs.Format.Superblock.{end_of_file, end_field}
@@ -45,7 +46,7 @@ pub record IsTouchedObject (new : List ℕ) (table' : FinMap nat_cmp ℕ) (tree'
 pub record IsSlotsInPlace (old new : Space) (slots slots' : List (Option OpenedObject)) (tree tree' : Tree) (touched : ℕ → Bool) : Type 0 where
   pub moves : Moves old new (end_field old.bytes ∷ slot_blocks old.bytes touched slots) (end_field new.bytes ∷ slot_blocks new.bytes touched slots')
   pub end : end_of_file new.bytes ≡ length new.bytes
-  pub small : length new.bytes ≤ 2 ^ 31
+  pub small : length new.bytes ≤ most_bytes
   pub slots_moved : AreSlotsMoved slots slots' touched
   pub same : (n : ℕ) → touched n ≡ false → get tree' n ≡ get tree n
   pub counts : (n : ℕ) → touched n ≡ false → IsSome (get tree' n) → hard_links tree' n ≡ hard_links tree n
@@ -72,7 +73,7 @@ pub record IsOneRemade (old new : Space) (slots slots' : List (Option OpenedObje
   pub counted : reference_count (prefix_at new.bytes (header_of p)) ≡ reference_count (prefix_at old.bytes (header_of p))
   pub moves : Moves old new (end_field old.bytes ∷ object_blocks old.bytes p) (end_field new.bytes ∷ object_blocks new.bytes p')
   pub end : end_of_file new.bytes ≡ length new.bytes
-  pub small : length new.bytes ≤ 2 ^ 31
+  pub small : length new.bytes ≤ most_bytes
 
 -- the blocks of the object of a number, if there is one
 abbrev pub blocks_at : List ℕ → List (Option OpenedObject) → ℕ → List Block
@@ -94,4 +95,4 @@ pub record IsObjectMade (old new : Space) (slots : List (Option OpenedObject)) (
   pub made : IsTouchedObject new.bytes (table_of (slots ++ Some o ∷ [])) tree' (length slots) o
   pub moves : Moves old new (end_field old.bytes ∷ object_blocks old.bytes p) (end_field new.bytes ∷ object_blocks new.bytes o ++ object_blocks new.bytes p)
   pub end : end_of_file new.bytes ≡ length new.bytes
-  pub small : length new.bytes ≤ 2 ^ 31
+  pub small : length new.bytes ≤ most_bytes

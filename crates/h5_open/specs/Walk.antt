@@ -1,8 +1,9 @@
 -- How far the walk of opening has come (File Format Specification 3.0, section IV.A).
-use Rattle.std.specs.Prelude.{◌≡◌, ℕ, ◌+◌, ◌-◌, ◌^◌, ◌<◌, ◌≤◌, ◌⊎◌, true, Option, List, [], ◌∷◌, ◌++◌, length}
+use Rattle.std.specs.Prelude.{◌≡◌, ℕ, ◌+◌, ◌-◌, ◌<◌, ◌≤◌, ◌⊎◌, true, Option, List, [], ◌∷◌, ◌++◌, length}
 use Rattle.std.specs.List.{AllByRecursion, Contains, IsDistinct, flat_map}
 use Rattle.std.specs.Ordering.{nat_cmp, eq_by_cmp}
 use Rattle.std.specs.BTreeMap.{BTreeMap}
+use Rattle.h5_model.specs.Format.Limits.{most_bytes, most_names}
 use Rattle.h5_bytes.specs.Blocks.{cover, Separate, Inside}
 use Rattle.h5_bytes.specs.declared.Block.{Block}
 use Rattle.h5_model.specs.Format.Reached.{Named, naming_of, ObjectHeader}
@@ -25,7 +26,7 @@ pub record IsNumbered (slots : List (Option OpenedObject)) (numbers : BTreeMap �
   pub all : IsDense slots
   pub index : IsIndex (table_of slots) numbers
   pub distinct : IsDistinct (eq_by_cmp nat_cmp) (headers (objects_of slots))
-  pub low : AllByRecursion (λ h. h < 2 ^ 31) (headers (objects_of slots))
+  pub low : AllByRecursion (λ h. h < most_bytes) (headers (objects_of slots))
 
 -- a field that was followed names the header of this object
 abbrev pub IsNamedBy : List Named → OpenedObject → Type 0
@@ -72,7 +73,7 @@ pub record IsTreeRead (image : List ℕ) (held now : List Block) (followed : Lis
   pub others : List OpenedObject
   pub header_is : object.messages.header ≡ header
   pub top : depth ≡ 0 → IsGroupContent object.content
-  pub shallow : HasHeight image objects' (64 - depth) object
+  pub shallow : HasHeight image objects' (most_names - depth) object
   pub further : AreFurtherObjects image held now followed field objects objects' (object ∷ others)
 
 -- the walk has come to a link of an object so many links below the root
@@ -119,7 +120,7 @@ pub record IsPartly (image : List ℕ) (held now : List Block) (followed : List 
   pub others : List OpenedObject
   pub header_is : object.messages.header ≡ header
   pub top : depth ≡ 0 → IsGroupContent object.content
-  pub shallow : 1 ≤ length (content_links image object.content) → depth + 1 ≤ 64
+  pub shallow : 1 ≤ length (content_links image object.content) → depth + 1 ≤ most_names
   pub first : List (List ℕ × Target)
   pub links_are : content_links image object.content ≡ first ++ left
   pub grown : objects' ≡ (objects ++ object ∷ []) ++ others

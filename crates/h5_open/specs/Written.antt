@@ -1,7 +1,8 @@
 -- Cells of an array that are written where they stand (File Format Specification 3.0, section IV.A.2.i).
-use Rattle.std.specs.Prelude.{◌≡◌, ℕ, ◌+◌, ◌^◌, ◌<◌, ◌≤◌, ℤ, true, Some, List, [], ◌∷◌, length}
+use Rattle.std.specs.Prelude.{◌≡◌, ℕ, ◌+◌, ◌<◌, ◌≤◌, ℤ, true, Some, List, [], ◌∷◌, length}
 use Rattle.std.specs.FinMap.{get}
 use Rattle.std.specs.List.{AllByRecursion, Contains, list_all, range_with_len}
+use Rattle.h5_model.specs.Format.Limits.{most_cells}
 use Rattle.h5_bytes.specs.Blocks.{cover}
 use Rattle.h5_bytes.specs.Bytes.{byte_at}
 use Rattle.h5_bytes.specs.declared.Block.{Block}
@@ -54,7 +55,7 @@ pub record IsStoredRun (f : FileState) (number place : ℕ) (values : List ℤ) 
 -- the array has a cell for each of these values in the runs; the cells are stored, and the values are of its type
 pub record AreRunsStored (f : FileState) (number : ℕ) (runs : List CellRun) (values : List ℤ) (d : Dataset) : Type 0 where
   pub array : dataset_of f.tree number ≡ Some d
-  pub few : cells d.sizes ≤ 2 ^ 40
+  pub few : cells d.sizes ≤ most_cells
   pub some : AllByRecursion (λ (r : CellRun). 0 < r.length) runs
   pub inside : AllByRecursion (λ place. place < cells d.sizes) (places_in runs)
   pub counted : length values ≡ length (places_in runs)
