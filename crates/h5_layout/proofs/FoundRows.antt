@@ -5,7 +5,7 @@ use Rattle.h5_model.specs.Tree.Grid.{corner_of, inner_of}
 use Rattle.h5_model.specs.Tree.Places.{cells, index_of, place_of}
 use Rattle.h5_chunks.specs.Told.{chunks_told}
 use Rattle.h5_layout.specs.ChunkCells.{AreBeside, Grid, IsGrid, chunk_of, place_in_chunk}
-use Rattle.h5_layout.specs.GridKept.{IsFoundIn, IsGridKept, IsRowOf, no_row, no_chunk_found}
+use Rattle.h5_layout.specs.GridKept.{IsChunkRow, IsFoundIn, IsGridKept, IsRowOf, no_row, no_chunk_found}
 use Rattle.h5_layout.specs.declared.beside.RowCursor.{RowCursor}
 use Rattle.h5_layout.specs.declared.index.FoundRow.{FoundRow}
 use Rattle.h5_layout.proofs.FoundBeside.{none_beside}
@@ -30,7 +30,7 @@ module _ (g : Grid) (row : FoundRow) (is : IsRowOf g row) (place : ℕ) (since :
   inner : place_of g.shape.sizes (inner_of g.shape.sizes (index_of g.sizes place)) ≡ place_of g.shape.sizes (inner_of g.shape.sizes (index_of g.sizes row.start)) + on
   inner = ap (λ (p : ℕ). place_of g.shape.sizes (inner_of g.shape.sizes (index_of g.sizes p))) here ∙ is.beside.inner on low
 
-  pub left_beside : AreBeside g.sizes g.shape.sizes place (row.cells - on)
+  left_beside : AreBeside g.sizes g.shape.sizes place (row.cells - on)
   left_beside = record {
     corner = λ j few. ap (λ (p : ℕ). corner_of g.shape.sizes (index_of g.sizes p)) (there j) ∙ is.beside.corner (on + j) (omega (arith, few)) ∙ sym corner;
     inner = λ j few.
@@ -38,18 +38,28 @@ module _ (g : Grid) (row : FoundRow) (is : IsRowOf g row) (place : ℕ) (since :
         omega (arith, moved, inner);
   }
 
-  pub left_inner : row.inner + on ≡ place_in_chunk g place
+  left_inner : row.inner + on ≡ place_in_chunk g place
   left_inner = omega (arith, is.inner, inner)
 
-  pub left_at : row.at ≡ chunk_of g place
+  left_at : row.at ≡ chunk_of g place
   left_at = is.at ∙ ap (get (chunks_told g.image g.shape g.root)) (sym corner)
 
   module _ (grid : IsGrid g) where
-    pub left_room : (row.inner + on) + (row.cells - on) ≤ cells g.shape.sizes
+    left_room : (row.inner + on) + (row.cells - on) ≤ cells g.shape.sizes
     left_room = row_room g place (row.cells - on) (row.inner + on) grid left_beside (omega (arith, low)) left_inner
 
-    pub left_inside : IfSome row.at (λ at. at + g.shape.bytes ≤ length g.image)
+    left_inside : IfSome row.at (λ at. at + g.shape.bytes ≤ length g.image)
     left_inside = found_inside g.image g.shape g.root grid.stored (corner_of g.shape.sizes (index_of g.sizes place)) row.at left_at
+
+    pub left_row : IsChunkRow g place (record { at = row.at; place = row.inner + on; cells = row.cells - on })
+    left_row = record {
+      some = omega (arith, low);
+      beside = left_beside;
+      inner = left_inner;
+      room = left_room;
+      at = left_at;
+      inside = left_inside;
+    }
 
   pub left_low : IsGrid g → row.inner + on < 2 ^ 64
   left_low grid = omega (arith, left_room grid, grid.small)

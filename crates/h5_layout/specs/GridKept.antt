@@ -1,13 +1,14 @@
 -- An array in chunks, and what was found of it last (File Format Specification 3.0, section III.A.1).
-use Rattle.std.specs.Prelude.{◌≡◌, ℕ, ◌+◌, ◌-◌, ◌<◌, None, List, length, get_or, replicate}
+use Rattle.std.specs.Prelude.{◌≡◌, ℕ, ◌+◌, ◌-◌, ◌<◌, ◌≤◌, None, IfSome, List, length, get_or, replicate}
 use Rattle.h5_chunks.specs.Cursor.{IsCursor}
 use Rattle.h5_chunks.specs.Told.{chunks_told}
 use Rattle.h5_model.specs.Format.Reached.{Shape}
 use Rattle.h5_model.specs.Tree.Grid.{corner_of}
-use Rattle.h5_model.specs.Tree.Places.{index_of}
+use Rattle.h5_model.specs.Tree.Places.{cells, index_of}
 use Rattle.h5_layout.specs.ChunkCells.{AreBeside, Grid, IsGrid, chunk_of, left_in_row, place_in_chunk}
 use Rattle.h5_layout.specs.FoundChunks.{AreChunksBeside, IsFirstCell, IsNumberBeside}
 use Rattle.h5_layout.specs.declared.beside.RowCursor.{RowCursor}
+use Rattle.h5_layout.specs.declared.grid.ChunkRow.{ChunkRow}
 use Rattle.h5_layout.specs.declared.index.FoundRow.{FoundRow}
 
 -- nothing yet
@@ -25,6 +26,15 @@ pub record IsRowOf (g : Grid) (row : FoundRow) : Type 0 where
   pub first : IsFirstCell g.sizes g.shape.sizes row.corner
   pub corner : index_of g.sizes row.corner.place ≡ corner_of g.shape.sizes (index_of g.sizes row.start)
   pub all : 0 < length g.sizes → row.cells ≡ left_in_row g.sizes g.shape.sizes row.start
+
+-- some cells from this place on stand one behind another in a chunk, from a place in it on; its address, where it is stored
+pub record IsChunkRow (g : Grid) (place : ℕ) (row : ChunkRow) : Type 0 where
+  pub some : 0 < row.cells
+  pub beside : AreBeside g.sizes g.shape.sizes place row.cells
+  pub inner : row.place ≡ place_in_chunk g place
+  pub room : row.place + row.cells ≤ cells g.shape.sizes
+  pub at : row.at ≡ chunk_of g place
+  pub inside : IfSome row.at (λ at. at + g.shape.bytes ≤ length g.image)
 
 -- this place is behind these cells, and the array's row of cells goes on in the next chunk
 pub record HasNext (sizes chunk : List ℕ) (row : FoundRow) (place : ℕ) : Type 0 where

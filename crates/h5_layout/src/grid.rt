@@ -197,12 +197,7 @@ impl<'a, 'g> GridRef<'a, 'g> {
         ensures inside { IfSome result.at (λ at. at + self.now.shape.bytes ≤ length self.now.image) }
     {
         self.seek(cursor, row, place);
-        let on = place - row.start;
-        ChunkRow {
-            at: row.at,
-            place: row.inner + on,
-            cells: row.cells - on,
-        }
+        row.cells_from(place)
     }
 
     /// The bytes of the chunk at this address, where it is stored.
@@ -220,7 +215,7 @@ impl<'a, 'g> GridRef<'a, 'g> {
 
     /// Makes the row that was found last one that has this place.
     #[inline(always)]
-    fn seek(&self, cursor: &mut RowCursor, row: &mut FoundRow, place: u64)
+    pub(crate) fn seek(&self, cursor: &mut RowCursor, row: &mut FoundRow, place: u64)
         requires below { place < cells_of self.now.sizes }
         requires found { IsFoundIn self.now cursor.old row.old }
         ensures found { IsFoundIn self.now cursor.new row.new }

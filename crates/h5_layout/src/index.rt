@@ -1,10 +1,10 @@
 //! The chunks of an array by its sizes, those of a chunk, and their tree (File Format Specification 3.0, section III.A.1).
 
-ghost use Rattle.std.specs.Prelude.{◌≡◌, ◌+◌, ◌*◌, ◌^◌, ◌<◌, ◌≤◌, IfSome, length};
+ghost use Rattle.std.specs.Prelude.{◌≡◌, ◌+◌, ◌*◌, ◌^◌, ◌<◌, ◌≤◌, IfSome, IsTrue, length};
 ghost use Rattle.h5_model.specs.Tree.Places.{cells as cells_of};
 ghost use Rattle.h5_chunks.specs.Shapes.{AreChunkSizes};
-ghost use Rattle.h5_layout.specs.ChunkCells.{AreBeside, chunk_of, place_in_chunk};
-ghost use Rattle.h5_layout.specs.GridKept.{IsGridKept, grid_in, no_row, no_chunk_found};
+ghost use Rattle.h5_layout.specs.ChunkCells.{AreBeside, Grid, IsGrid, chunk_of, place_in_chunk};
+ghost use Rattle.h5_layout.specs.GridKept.{IsChunkRow, IsGridKept, IsRowOf, grid_in, no_row, no_chunk_found};
 
 use crate::beside::{ChunkCorner, RowCursor};
 use crate::grid::{ChunkRow, GridRef, chunk_bytes, copy_short_sizes};
@@ -45,6 +45,33 @@ impl FoundRow {
                 column: 0,
             },
             number: None,
+        }
+    }
+
+    /// Whether it has the cell at this place.
+    #[inline(always)]
+    pub(crate) fn has(&self, place: u64) -> bool
+        ensures since { IsTrue result → self.now.start ≤ place }
+        ensures until { IsTrue result → place < self.now.start + self.now.cells }
+    {
+        place >= self.start && place - self.start < self.cells
+    }
+
+    /// Its cells from this place on.
+    ///
+    /// That it is a row of an array in chunks, and has the place, are the caller's conditions.
+    #[inline(always)]
+    pub(crate) fn cells_from(&self, place: u64) -> ChunkRow
+        requires row { (g : Grid) × IsGrid g × IsRowOf g self.now }
+        requires since { self.now.start ≤ place }
+        requires until { place < self.now.start + self.now.cells }
+        ensures { (g : Grid) → IsGrid g → IsRowOf g self.now → IsChunkRow g place result }
+    {
+        let on = place - self.start;
+        ChunkRow {
+            at: self.at,
+            place: self.inner + on,
+            cells: self.cells - on,
         }
     }
 }
@@ -127,9 +154,27 @@ impl ChunkIndex {
         ensures at { result.at ≡ chunk_of (grid_in image.now.bytes self.old) place }
         ensures inside { IfSome result.at (λ at. at + self.old.shape.bytes ≤ length image.now.bytes) }
     {
+        self.seek(image, place);
+        self.row.cells_from(place)
+    }
+
+    /// Makes the row that was found last one that has this place.
+    // The grid is made where something is sought alone: it is written to memory, behind all cells that were written before.
+    #[inline(always)]
+    fn seek(&mut self, image: &Image, place: u64)
+        requires kept { IsGridKept image.now.bytes self.old }
+        requires below { place < cells_of self.old.sizes }
+        ensures same { self.new ≡ record self.old { cursor = self.new.cursor; row = self.new.row } }
+        ensures kept { IsGridKept image.now.bytes self.new }
+        ensures since { self.new.row.start ≤ place }
+        ensures until { place < self.new.row.start + self.new.row.cells }
+    {
+        if self.row.has(place) {
+            return;
+        }
         let chunk = ChunkSizes::new(&self.chunk[..self.rank]);
         let sizes = &self.sizes[..self.rank];
         let grid = GridRef::new(image, sizes, &chunk, self.chunk_bytes, self.root);
-        grid.row_at(&mut self.cursor, &mut self.row, place)
+        grid.seek(&mut self.cursor, &mut self.row, place);
     }
 }

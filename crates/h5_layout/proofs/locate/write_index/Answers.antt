@@ -1,4 +1,4 @@
-use Rattle.std.proofs.Common.{◌≡◌, ℕ, ◌-◌, ◌%◌, ◌<◌, List, length, get_or, refl, sym, ap, ◌∙◌, arith, drop}
+use Rattle.std.proofs.Common.{◌≡◌, ℕ, ◌-◌, ◌%◌, ◌<◌, get_or, refl, sym, ap, ◌∙◌, arith, drop}
 use Rattle.std.proofs.lemmas.List.{length-set}
 use Rattle.h5_model.specs.Tree.Places.{cells}
 use Rattle.h5_layout.proofs.LocateLaws.{all_from, index_from, some_size, written_index, written_rest}

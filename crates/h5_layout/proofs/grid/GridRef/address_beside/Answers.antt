@@ -1,4 +1,4 @@
-use Rattle.std.proofs.Common.{ℕ, Option, sym, subst}
+use Rattle.std.proofs.Common.{sym, subst}
 use Rattle.h5_chunks.specs.Told.{chunks_told}
 use Rattle.h5_model.specs.Tree.Places.{index_of}
 use Rattle.h5_layout.specs.FoundChunks.{IsNumberBeside}
