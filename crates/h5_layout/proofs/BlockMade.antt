@@ -1,5 +1,5 @@
 -- The storage of a contiguous array was made: its block, each cell of which is the fill.
-use Rattle.std.proofs.Common.{◌≡◌, ℕ, ◌+◌, ◌*◌, ◌≤◌, ◌^◌, List, [], ◌∷◌, ◌++◌, length, length-append, replicate, true, false, Some, None, ℤ, refl, sym, ap, ◌∙◌, subst, arith}
+use Rattle.std.proofs.Common.{◌≡◌, ℕ, ◌+◌, ◌*◌, ◌≤◌, List, [], ◌∷◌, ◌++◌, length, length-append, replicate, true, false, Some, None, ℤ, refl, sym, ap, ◌∙◌, subst, arith}
 use Rattle.std.specs.Prelude.{if◌then◌else◌, nat_le}
 use Rattle.std.specs.FinMap.{empty}
 use Rattle.std.specs.List.{list_any}
@@ -14,6 +14,7 @@ use Rattle.h5_model.specs.Format.Cells.{cells_of}
 use Rattle.h5_model.specs.Format.Fixed.{IsFixed, fits}
 use Rattle.h5_model.specs.Format.Layout.{InBlock, Layout, layout_of}
 use Rattle.h5_model.specs.Format.Described.{storage_of, Described}
+use Rattle.h5_model.specs.Format.Limits.{most_bytes}
 use Rattle.h5_model.specs.Tree.Places.{cells}
 use Rattle.h5_model.specs.Views.Selection.{Slab, selection_of}
 use Rattle.h5_space.specs.Lending.{with_bytes_at}
@@ -34,7 +35,7 @@ use Rattle.h5_layout.proofs.LackingLaws.{all_fail}
 use Rattle.h5_layout.proofs.LayoutBodies.{block_named}
 
 module _ (old mid new : Space) (m : Listed) (was : IsArrayApart old m) (none : (described_in old.bytes m).layout ≡ InBlock None) (at len : ℕ)
-    (inside : at + len ≤ length mid.bytes) (short : length mid.bytes ≤ 2 ^ 31) (taken : Moves old mid [] (block at len ∷ []))
+    (inside : at + len ≤ length mid.bytes) (short : length mid.bytes ≤ most_bytes) (taken : Moves old mid [] (block at len ∷ []))
     (room : len ≡ cells (described_in old.bytes m).sizes * (described_in old.bytes m).fixed.size)
     (wrote : IsLayoutWritten mid new m.list 2 (little_bytes 8 at ++ little_bytes 8 len)) where
   abbrev a : Described

@@ -1,9 +1,10 @@
 -- The first rule that a dataset's messages break is one that they break, and messages that describe an array break none.
-use Rattle.std.proofs.Common.{◌≡◌, ℕ, ◌*◌, ◌<◌, ◌≤◌, ◌^◌, List, Option, Some, None, ℤ, Bool, true, false, cond, ◌||◌, ◌⊎◌, inl, inr, refl, sym, ap, ◌∙◌, subst, arith}
+use Rattle.std.proofs.Common.{◌≡◌, ℕ, ◌*◌, ◌<◌, ◌≤◌, List, Option, Some, None, ℤ, Bool, true, false, cond, ◌||◌, ◌⊎◌, inl, inr, refl, sym, ap, ◌∙◌, subst, arith}
 use Rattle.std.specs.Prelude.{option_and_then, nat_lt, is_none}
 use Rattle.std.specs.Option.{option_or}
 use Rattle.std.proofs.lemmas.Bool.Decides.{nat_tests}
 use Rattle.std.proofs.lemmas.Option.{same_Some}
+use Rattle.h5_model.specs.Format.Limits.{most_cells, most_chunk_bytes}
 use Rattle.h5_model.specs.Format.MessageTypes.{data_layout_kind, fill_value_kind, old_fill_value_kind}
 use Rattle.h5_model.specs.Format.Messages.{Message, first_body}
 use Rattle.h5_model.specs.Format.Fixed.{Fixed}
@@ -35,7 +36,7 @@ small_chunk t (InChunks sizes root) h = grind (arith, nat_tests)
 
 pub no_breach : (ms : List Message) (a : Described) → HasArray ms a → breach_in ms ≡ None
 no_breach ms a h =
-    let small : nat_lt (2 ^ 40) (extent_cells a.sizes) ≡ false = let few = h.small in grind (arith, nat_tests) in
+    let small : nat_lt most_cells (extent_cells a.sizes) ≡ false = let few = h.small in grind (arith, nat_tests) in
     let old = sound_fill (old_fill_value a.fixed) (first_body old_fill_value_kind ms) (h.filled).old_fill (h.filled).old_filled in
     let new = sound_fill (fill_value a.fixed) (first_body fill_value_kind ms) (h.filled).new_fill (h.filled).new_filled in
     let chunk = small_chunk a.fixed a.layout h.chunk_small in
@@ -54,9 +55,9 @@ module _ (image : List ℕ) (header : ℕ) (ms : List Message) (of : IsOfDataset
   of_space : space_breach (extent_among ms) ≡ Some cause → ListBreach image header ms cause
   of_space h = elim (extent_among ms) as (λ o. extent_among ms ≡ o → space_breach o ≡ Some cause → ListBreach image header ms cause) [
     | None ↦ λ e is. is_cause DataspaceForm (among_none extent_of 1 ms of.once.0 e) is
-    | Some x ↦ λ e is. elim (nat_lt (2 ^ 40) (extent_cells x.sizes)) as (λ b. nat_lt (2 ^ 40) (extent_cells x.sizes) ≡ b → cond b (Some TooLarge) None ≡ Some cause → ListBreach image header ms cause) [
+    | Some x ↦ λ e is. elim (nat_lt most_cells (extent_cells x.sizes)) as (λ b. nat_lt most_cells (extent_cells x.sizes) ≡ b → cond b (Some TooLarge) None ≡ Some cause → ListBreach image header ms cause) [
       | true ↦ λ large same.
-          let above : 2 ^ 40 < extent_cells x.sizes = grind (arith, nat_tests) in
+          let above : most_cells < extent_cells x.sizes = grind (arith, nat_tests) in
           let s = among_some extent_of 1 ms x e in
           is_cause TooLarge (inl (s.0, s.1, s.2, (x, s.3, above))) same
       | false ↦ λ large same. absurd (cc)
@@ -97,7 +98,7 @@ module _ (image : List ℕ) (header : ℕ) (ms : List Message) (of : IsOfDataset
   large_chunk t (InMessage bytes) large e l = absurd (cc)
   large_chunk t (InBlock b) large e l = absurd (cc)
   large_chunk t (InChunks sizes root) large e l =
-      let above : 2 ^ 30 < cells sizes * t.size = grind (arith, nat_tests) in
+      let above : most_chunk_bytes < cells sizes * t.size = grind (arith, nat_tests) in
       inr (inr (t, sizes, root, e, l, above))
 
   among_layout : (e : Extent) (t : Fixed) → extent_among ms ≡ Some e → type_among ms ≡ Some t → layout_among ms ≡ option_and_then (layout_of e.sizes t.size) (first_body data_layout_kind ms)
@@ -138,10 +139,10 @@ module _ (image : List ℕ) (header : ℕ) (ms : List Message) (of : IsOfDataset
 -- ---- the layout is judged last
 
 -- the layout breaks the first rule where sizes, type and fill values break none
-pub late_breach : (ms : List Message) (e : Extent) (t : Fixed) (fill : ℤ) (cause : Cause) → extent_among ms ≡ Some e → extent_cells e.sizes ≤ 2 ^ 40 → type_among ms ≡ Some t → HasFill ms t fill
+pub late_breach : (ms : List Message) (e : Extent) (t : Fixed) (fill : ℤ) (cause : Cause) → extent_among ms ≡ Some e → extent_cells e.sizes ≤ most_cells → type_among ms ≡ Some t → HasFill ms t fill
     → layout_breach (Some t) (option_and_then (layout_of e.sizes t.size) (first_body data_layout_kind ms)) ≡ Some cause → breach_in ms ≡ Some cause
 late_breach ms e t fill cause space small type filled h =
-    let few : nat_lt (2 ^ 40) (extent_cells e.sizes) ≡ false = grind (arith, nat_tests) in
+    let few : nat_lt most_cells (extent_cells e.sizes) ≡ false = grind (arith, nat_tests) in
     let old = sound_fill (old_fill_value t) (first_body old_fill_value_kind ms) filled.old_fill filled.old_filled in
     let new = sound_fill (fill_value t) (first_body fill_value_kind ms) filled.new_fill filled.new_filled in
     rw (space, few, type, old, new) h

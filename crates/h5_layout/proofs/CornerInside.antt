@@ -6,6 +6,7 @@ use Rattle.std.proofs.lemmas.Nat.{div-add-mod', mod-mul-add}
 use Rattle.std.proofs.Math.Nat.{mul-le-mul_left, mul-le-mul_right}
 use Rattle.std.specs.List.{AllZip}
 use Rattle.h5_model.specs.Format.Chunks.{IsOffset}
+use Rattle.h5_model.specs.Format.Limits.{most_cells}
 use Rattle.h5_model.specs.Tree.Grid.{corner_of}
 use Rattle.h5_model.specs.Tree.Places.{IsInside, extent_cells}
 
@@ -34,17 +35,17 @@ some_cells (d ∷ ds) (i ∷ is) h =
     subst (λ b. 1 ≤ cond b 1 d * extent_cells ds) (sym test) (omega (arith, below, less))
 
 -- the first size, and what is left of the product
-split_cells : (d : ℕ) (ds : List ℕ) (i : ℕ) (is : List ℕ) → i < d → IsInside ds is → extent_cells (d ∷ ds) ≤ 2 ^ 40 → (d ≤ 2 ^ 40) × (extent_cells ds ≤ 2 ^ 40)
+split_cells : (d : ℕ) (ds : List ℕ) (i : ℕ) (is : List ℕ) → i < d → IsInside ds is → extent_cells (d ∷ ds) ≤ most_cells → (d ≤ most_cells) × (extent_cells ds ≤ most_cells)
 split_cells d ds i is low inside small =
     let test : (d == 0) ≡ false = grind (arith, nat_tests, low) in
-    let product : d * extent_cells ds ≤ 2 ^ 40 = subst (λ b. cond b 1 d * extent_cells ds ≤ 2 ^ 40) test small in
+    let product : d * extent_cells ds ≤ most_cells = subst (λ b. cond b 1 d * extent_cells ds ≤ most_cells) test small in
     let below : 1 ≤ extent_cells ds = some_cells ds is inside in
     let first : d * 1 ≤ d * extent_cells ds = mul-le-mul_left d below in
     let rest : 1 * extent_cells ds ≤ d * extent_cells ds = mul-le-mul_right (extent_cells ds) (omega (arith, low)) in
     (omega (arith, product, first), omega (arith, product, rest))
 
 -- so it is inside the largest numbers
-pub inside_words : (sizes index : List ℕ) → IsInside sizes index → extent_cells sizes ≤ 2 ^ 40 → IsInside (replicate (length sizes) (2 ^ 64)) index
+pub inside_words : (sizes index : List ℕ) → IsInside sizes index → extent_cells sizes ≤ most_cells → IsInside (replicate (length sizes) (2 ^ 64)) index
 inside_words [] [] h small = tt
 inside_words [] (i ∷ is) h small = absurd h
 inside_words (d ∷ ds) [] h small = absurd h
@@ -56,7 +57,7 @@ inside_words (d ∷ ds) (i ∷ is) h small =
 -- ---- its offsets
 
 pub corner_whole : (sizes chunk index : List ℕ) → length chunk ≡ length sizes → ((d : ℕ) → d < length chunk → 1 ≤ get_or chunk d 0) → IsInside sizes index
-    → extent_cells sizes ≤ 2 ^ 40 → AllZip IsOffset chunk (corner_of chunk index)
+    → extent_cells sizes ≤ most_cells → AllZip IsOffset chunk (corner_of chunk index)
 corner_whole [] [] index same some h small = tt
 corner_whole [] (c ∷ cs) index same some h small = absurd (omega (arith, same))
 corner_whole (d ∷ ds) [] index same some h small = absurd (omega (arith, same))

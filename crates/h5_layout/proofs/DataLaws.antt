@@ -1,5 +1,5 @@
 -- The cells of an array by its layout, and by where they stand.
-use Rattle.std.proofs.Common.{◌≡◌, ℕ, ℤ, ◌+◌, ◌*◌, ◌^◌, ◌<◌, ◌≤◌, List, [], ◌++◌, length, map, Option, Some, None, true, refl, sym, ap, ◌∙◌, subst, arith, append-nil}
+use Rattle.std.proofs.Common.{◌≡◌, ℕ, ℤ, ◌+◌, ◌*◌, ◌<◌, ◌≤◌, List, [], ◌++◌, length, map, Option, Some, None, true, refl, sym, ap, ◌∙◌, subst, arith, append-nil}
 use Rattle.std.specs.Prelude.{nat_le, option_map, slice_index_or}
 use Rattle.std.proofs.lemmas.Option.{same_Some}
 use Rattle.std.specs.Ordering.{nat_cmp}
@@ -16,6 +16,7 @@ use Rattle.h5_model.specs.Format.Cells.{cell_of, value_in}
 use Rattle.h5_model.specs.Format.Fixed.{Fixed, IsFixed, fits}
 use Rattle.h5_model.specs.Format.Layout.{Layout, InMessage, InBlock, InChunks}
 use Rattle.h5_model.specs.Format.Described.{Described}
+use Rattle.h5_model.specs.Format.Limits.{most_cells}
 use Rattle.h5_model.specs.Tree.Places.{cells, index_of}
 use Rattle.h5_model.proofs.PlaceLaws.{place-index}
 use Rattle.h5_shape.proofs.Products.{cells_le}
@@ -57,7 +58,7 @@ room_in_block image t sizes layout (Some b) bytes is same read room =
     let long : length bytes ≡ b.len = ap length (sym (same_Some (part b.at b.len image) bytes same)) ∙ length-part b.at b.len image end in
     grind (arith, nat_tests)
 
-pub few_cells : (sizes lent : List ℕ) (a : Described) → lent ≡ a.sizes → IsArray a → cells lent ≤ 2 ^ 40
+pub few_cells : (sizes lent : List ℕ) (a : Described) → lent ≡ a.sizes → IsArray a → cells lent ≤ most_cells
 few_cells sizes lent a same sound = rw same (omega (arith, cells_le a.sizes, sound.small))
 
 -- ---- the dataset

@@ -1,6 +1,6 @@
 -- Sizes that are not above the maxima that a Dataspace message has: these can stand in one beside them (File Format Specification 3.0,
 -- section IV.A.2.b).
-use Rattle.std.proofs.Common.{◌≡◌, ℕ, zero, suc, ◌+◌, ◌*◌, ◌^◌, ◌≤◌, true, false, cond, ◌==◌, List, [], ◌∷◌, length, map, Option, Some, None, refl, sym, ◌∙◌, subst, arith}
+use Rattle.std.proofs.Common.{◌≡◌, ℕ, zero, suc, ◌+◌, ◌*◌, ◌≤◌, true, false, cond, ◌==◌, List, [], ◌∷◌, length, map, Option, Some, None, refl, sym, ◌∙◌, subst, arith}
 use Rattle.std.proofs.lemmas.Bool.{or_parts}
 use Rattle.std.specs.Prelude.{nat_le, nat_lt}
 use Rattle.std.specs.List.{AllByRecursion, range_with_len}
@@ -9,6 +9,7 @@ use Rattle.std.proofs.lemmas.List.FromFn.{length-map-range_with_len}
 use Rattle.std.proofs.lemmas.Option.{cond_some, option_and_then_some}
 use Rattle.std.proofs.Math.Nat.{mul-le-mul_left, mul-le-mul_right}
 use Rattle.h5_bytes.specs.Bytes.{number_at, undefined_address}
+use Rattle.h5_model.specs.Format.Limits.{most_cells, most_dimensions}
 use Rattle.h5_model.specs.Format.MessageTypes.{dataspace_kind}
 use Rattle.h5_model.specs.Edits.Refusal.{are_maxima, some_above}
 use Rattle.h5_model.specs.Format.Extent.{Extent, extent_in, extent_of, has_maxima, is_dataspace, maximum_from, maximum_in, rank_in, size_in}
@@ -48,7 +49,7 @@ IsUnmarked None = Unit {0}
 IsUnmarked (Some n) = (n == undefined_address) ≡ false
 
 module _ (body : List ℕ) where
-  maximum_unmarked : (k : ℕ) → size_in body k ≤ 2 ^ 40 → IsUnmarked (maximum_in body k)
+  maximum_unmarked : (k : ℕ) → size_in body k ≤ most_cells → IsUnmarked (maximum_in body k)
   maximum_unmarked k low =
       let n = number_at body (8 + 8 * rank_in body + 8 * k) 8 in
       elim (has_maxima body) as (λ b. IsUnmarked (cond b (maximum_from n) (Some (size_in body k)))) [
@@ -59,7 +60,7 @@ module _ (body : List ℕ) where
         | false ↦ grind (arith, nat_tests, low)
       ]
 
-  all_unmarked : (from n : ℕ) → AllByRecursion (λ s. s ≤ 2 ^ 40) (map (size_in body) (range_with_len from n))
+  all_unmarked : (from n : ℕ) → AllByRecursion (λ s. s ≤ most_cells) (map (size_in body) (range_with_len from n))
       → AllByRecursion IsUnmarked (map (maximum_in body) (range_with_len from n))
   all_unmarked from zero low = tt
   all_unmarked from (suc n) low = (maximum_unmarked from low.0, all_unmarked (from + 1) n low.1)
@@ -67,8 +68,8 @@ module _ (body : List ℕ) where
 -- what a body that is read says
 record IsReadExtent (e : Extent) : Type 0 where
   ranked : length e.maxima ≡ length e.sizes
-  few : length e.sizes ≤ 32
-  unmarked : AllByRecursion (λ s. s ≤ 2 ^ 40) e.sizes → AllByRecursion IsUnmarked e.maxima
+  few : length e.sizes ≤ most_dimensions
+  unmarked : AllByRecursion (λ s. s ≤ most_cells) e.sizes → AllByRecursion IsUnmarked e.maxima
 
 read_extent : (body : List ℕ) (e : Extent) → extent_of body ≡ Some e → IsReadExtent e
 unfolding extent_of
@@ -77,7 +78,7 @@ read_extent body e is =
     subst IsReadExtent p.1 (record {
       ranked = length-map-range_with_len (maximum_in body) 0 (rank_in body) ∙ sym (length-map-range_with_len (size_in body) 0 (rank_in body));
       few = let test : nat_le (rank_in body) 32 ≡ true = grind (arith, nat_tests, p.0) in
-          let low : rank_in body ≤ 32 = grind (arith, nat_tests, test) in
+          let low : rank_in body ≤ most_dimensions = grind (arith, nat_tests, test) in
           omega (arith, low, length-map-range_with_len (size_in body) 0 (rank_in body));
       unmarked = all_unmarked body 0 (rank_in body);
     })
@@ -101,9 +102,9 @@ module _ (ms : List Message) (a : Described) (has : HasArray ms a) where
   extent_read = option_and_then_some extent_of (first_body dataspace_kind ms) (record { sizes = a.sizes; maxima = a.maxima }) has.space
       (λ body there told. read_extent body (record { sizes = a.sizes; maxima = a.maxima }) told)
 
-  pub few_sizes : length a.sizes ≤ 32
+  pub few_sizes : length a.sizes ≤ most_dimensions
   few_sizes = extent_read.few
 
   pub sizes_bounded : (sizes : List ℕ) → CanHaveSizes a sizes → are_maxima sizes a.maxima ≡ true
   sizes_bounded sizes can =
-      bounded sizes a.maxima (omega (arith, extent_read.ranked, can.ranked)) can.below (extent_read.unmarked (sizes_below a.sizes (2 ^ 40) has.small))
+      bounded sizes a.maxima (omega (arith, extent_read.ranked, can.ranked)) can.below (extent_read.unmarked (sizes_below a.sizes most_cells has.small))

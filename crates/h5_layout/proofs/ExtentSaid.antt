@@ -1,8 +1,9 @@
 -- Messages that say another extent, and else what others say: they are those of the array with these sizes (File Format Specification
 -- 3.0, section IV.A.2.b).
-use Rattle.std.proofs.Common.{◌≡◌, ℕ, ◌+◌, ◌*◌, ◌^◌, ◌≤◌, Bool, true, false, cond, ◌==◌, ◌||◌, List, [], ◌∷◌, length, map, Option, Some, None, refl, sym, ap, ◌∙◌, subst, arith}
+use Rattle.std.proofs.Common.{◌≡◌, ℕ, ◌+◌, ◌*◌, ◌≤◌, Bool, true, false, cond, ◌==◌, ◌||◌, List, [], ◌∷◌, length, map, Option, Some, None, refl, sym, ap, ◌∙◌, subst, arith}
 use Rattle.std.specs.Prelude.{option_and_then, option_map}
 use Rattle.std.specs.List.{filter, find}
+use Rattle.h5_model.specs.Format.Limits.{most_cells}
 use Rattle.h5_model.specs.Format.MessageTypes.{data_layout_kind, nil_kind, dataspace_kind, datatype_kind, old_fill_value_kind, fill_value_kind, comment_kind, old_modification_time_kind, continuation_kind, symbol_table_kind, modification_time_kind, attribute_kind}
 use Rattle.h5_model.specs.Edits.Refusal.{is_chunked}
 use Rattle.h5_model.specs.Format.Extent.{Extent}
@@ -104,7 +105,7 @@ module _ (ms ms' : List Message) (e : Extent) (says : SaysExtent ms ms' e) where
   }
 
   pub array_now : (a : Described) → HasArray ms a → is_chunked (storage_of a.sizes a.layout) ≡ true → length e.sizes ≡ length a.sizes → e.maxima ≡ a.maxima
-      → extent_cells e.sizes ≤ 2 ^ 40 → HasArray ms' (record a { sizes = e.sizes })
+      → extent_cells e.sizes ≤ most_cells → HasArray ms' (record a { sizes = e.sizes })
   array_now a has chunked ranked maxima few = record {
     one_space = says.once;
     one_type = says.types ∙ has.one_type;

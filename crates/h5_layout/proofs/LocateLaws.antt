@@ -1,8 +1,9 @@
 -- The chunk of a place, and the place in it, one dimension after another from the last to the first.
-use Rattle.std.proofs.Common.{◌≡◌, ℕ, zero, suc, ◌+◌, ◌-◌, ◌*◌, ◌/◌, ◌%◌, ◌<◌, ◌≤◌, ◌^◌, ◌==◌, if◌then◌else◌, List, [], ◌∷◌, refl, sym, ap, ap₂, ◌∙◌, arith, length, get_or, drop, set}
+use Rattle.std.proofs.Common.{◌≡◌, ℕ, zero, suc, ◌+◌, ◌-◌, ◌*◌, ◌/◌, ◌%◌, ◌<◌, ◌≤◌, ◌==◌, if◌then◌else◌, List, [], ◌∷◌, refl, sym, ap, ap₂, ◌∙◌, arith, length, get_or, drop, set}
 use Rattle.std.proofs.lemmas.Nat.{div-add-mod', div-mul-add, mod-mul-add, mul-add-lt}
 use Rattle.std.proofs.lemmas.List.{drop_more, drop-set, length-drop}
 use Rattle.std.proofs.Math.Nat.{mod-eq_of_lt, mul-le-mul_right, div-div-eq-div-mul}
+use Rattle.h5_model.specs.Format.Limits.{most_cells, most_chunk_bytes}
 use Rattle.h5_model.specs.Tree.Grid.{corner_of, inner_of}
 use Rattle.h5_model.specs.Tree.Places.{cells, extent_cells, place_of, index_of, IsInside}
 use Rattle.h5_model.proofs.PlaceLaws.{inside-index, positive, place_below}
@@ -212,11 +213,11 @@ module _ (sizes chunk : List ℕ) (place : ℕ) (same : length chunk ≡ length 
         let product : number % box * stride ≡ number_in sizes chunk place k % box * cells (drop (k + 1) chunk) = ap₂ (λ n s. n % box * s) number-is stride_here in
         omega (arith, product, inner_here, inner_more sizes chunk place same some more k low)
 
-    module _ (small : cells chunk ≤ 2 ^ 30) where
-      pub stride_small : stride * box ≤ 2 ^ 30
+    module _ (small : cells chunk ≤ most_chunk_bytes) where
+      pub stride_small : stride * box ≤ most_chunk_bytes
       stride_small = omega (arith, next_stride, cells_drop k chunk more)
 
-      pub inner_small : inner + number % box * stride ≤ 2 ^ 30
+      pub inner_small : inner + number % box * stride ≤ most_chunk_bytes
       inner_small = omega (arith, next_inner, inner_low sizes chunk place same some more k, cells_drop k chunk more)
 
   -- the place of the chunk's first cell
@@ -238,11 +239,11 @@ module _ (sizes chunk : List ℕ) (place : ℕ) (same : length chunk ≡ length 
         = ap₂ (λ n s. n / box * box * s) number-is step_here in
         omega (arith, product, moved, first_here, first_more sizes chunk place same some more k low)
 
-    module _ (few : cells sizes ≤ 2 ^ 40) where
-      pub step_few : step * get_or sizes k 0 ≤ 2 ^ 40
+    module _ (few : cells sizes ≤ most_cells) where
+      pub step_few : step * get_or sizes k 0 ≤ most_cells
       step_few = omega (arith, next_step, cells_drop k sizes some)
 
-      pub first_few : first + (number - number % box) * step ≤ 2 ^ 40
+      pub first_few : first + (number - number % box) * step ≤ most_cells
       first_few = omega (arith, next_first, first_low sizes chunk place same some more k, cells_drop k sizes some)
 
 -- ---- the index alone

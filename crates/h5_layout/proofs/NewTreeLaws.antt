@@ -1,5 +1,5 @@
 -- A tree for the chunks of an array that had none: the Data Layout message names it, and it has no chunk.
-use Rattle.std.proofs.Common.{◌≡◌, ℕ, zero, suc, ◌*◌, ◌^◌, ◌≤◌, List, [], ◌∷◌, ◌++◌, length, map, refl, sym, ap, ◌∙◌, subst, arith, Option, Some, None, ◌==◌}
+use Rattle.std.proofs.Common.{◌≡◌, ℕ, zero, suc, ◌*◌, ◌≤◌, List, [], ◌∷◌, ◌++◌, length, map, refl, sym, ap, ◌∙◌, subst, arith, Option, Some, None, ◌==◌}
 use Rattle.std.specs.Prelude.{option_and_then, option_map}
 use Rattle.std.specs.FinMap.{empty}
 use Rattle.std.specs.List.{find}
@@ -8,6 +8,7 @@ use Rattle.h5_bytes.specs.Blocks.{Inside, Keeps, block, cover}
 use Rattle.h5_bytes.specs.declared.Block.{Block}
 use Rattle.h5_bytes.proofs.BlockLaws.{cover-append}
 use Rattle.h5_bytes.proofs.PartLaws.{length-part}
+use Rattle.h5_model.specs.Format.Limits.{most_bytes, most_chunk_bytes}
 use Rattle.h5_model.specs.Format.MessageTypes.{data_layout_kind}
 use Rattle.h5_model.specs.Format.Fixed.{Fixed}
 use Rattle.h5_model.specs.Format.Layout.{InBlock, InChunks, Layout, layout_of}
@@ -105,7 +106,7 @@ root_low image shape root read =
 module _ (old mid new : Space) (m : Listed) (was : IsArrayApart old m) (shape : Shape) (root : ℕ)
     (none : (described_in old.bytes m).layout ≡ InChunks shape.sizes None) (shape_is : shape ≡ chunk_shape (described_in old.bytes m).fixed shape.sizes)
     (stand : AreChunksApart mid shape root) (empty_told : chunks_told mid.bytes shape root ≡ empty) (taken : Moves old mid [] (chunk_blocks_told mid.bytes shape root))
-    (short : length mid.bytes ≤ 2 ^ 31) (wrote : IsLayoutWritten mid new m.list 3 (little_bytes 8 root)) where
+    (short : length mid.bytes ≤ most_bytes) (wrote : IsLayoutWritten mid new m.list 3 (little_bytes 8 root)) where
   abbrev a : Described
   a = described_in old.bytes m
 
@@ -151,7 +152,7 @@ module _ (old mid new : Space) (m : Listed) (was : IsArrayApart old m) (shape : 
   data_are : data_blocks new.bytes a.fixed l ≡ bs
   data_are = ap (λ (s : Shape). chunk_blocks_told new.bytes s root) (sym shape_is) ∙ blocks_now
 
-  small : cells shape.sizes * a.fixed.size ≤ 2 ^ 30
+  small : cells shape.sizes * a.fixed.size ≤ most_chunk_bytes
   small = small_told (messages_in old.bytes m.list) a was.array shape.sizes None none
 
   moved : IsArrayMoved old new m m

@@ -29,8 +29,12 @@ last_small (d ∷ ds) long some =
     let one : 1 * l ≤ rows.0 * l = mul-le-mul_right l more in
     omega (arith, last-is (d ∷ ds) long, rows.1, one)
 
-module _ (g : Grid) (grid : IsGrid g) (row : FoundRow) (of : IsRowOf g row) (place : ℕ) (below : place < cells g.sizes)
-    (has : HasNext g.sizes g.shape.sizes row place) where
+module _ (g : Grid) (grid : IsGrid g) (row : FoundRow) (of : IsRowOf g row) (below : row.start + row.cells < cells g.sizes)
+    (has : HasNext g.sizes g.shape.sizes row) where
+  -- where the row behind begins
+  abbrev place : ℕ
+  place = row.start + row.cells
+
   abbrev last : ℕ
   last = length g.sizes - 1
 
@@ -41,7 +45,7 @@ module _ (g : Grid) (grid : IsGrid g) (row : FoundRow) (of : IsRowOf g row) (pla
   size = get_or g.shape.sizes last 0
 
   low : row.start < cells g.sizes
-  low = omega (arith, has.behind, below)
+  low = omega (arith, below)
 
   wide : 0 < size
   wide = grid.sizes.some last (omega (arith, grid.rank, has.rank))
@@ -82,7 +86,6 @@ module _ (g : Grid) (grid : IsGrid g) (row : FoundRow) (of : IsRowOf g row) (pla
       ∙ ap (λ (xs : List ℕ). set xs last (get_or xs last 0 + size)) of.corner
       ∙ beside_first
       ∙ sym (next_corner g.sizes g.shape.sizes row.start row.cells grid.rank has.rank wide low (of.all has.rank) more)
-      ∙ ap (λ (p : ℕ). corner_of g.shape.sizes (index_of g.sizes p)) (sym has.behind)
 
   pub step_first : IsFirstCell g.sizes g.shape.sizes (record { place = row.corner.place + size; column = row.corner.column + size })
   step_first = record {
@@ -94,8 +97,7 @@ module _ (g : Grid) (grid : IsGrid g) (row : FoundRow) (of : IsRowOf g row) (pla
 
   on : place_in_chunk g place + size ≡ row.inner + row.cells
   on =
-      let same : place_in_chunk g place ≡ place_in_chunk g (row.start + row.cells) = ap (place_in_chunk g) has.behind in
-      omega (arith, same, of.inner, next_inner g.sizes g.shape.sizes row.start row.cells grid.rank has.rank wide low (of.all has.rank) more)
+      omega (arith, of.inner, next_inner g.sizes g.shape.sizes row.start row.cells grid.rank has.rank wide low (of.all has.rank) more)
 
   pub step_inner : row.inner + row.cells - size ≡ place_in_chunk g place
   step_inner = omega (arith, on)
@@ -116,7 +118,6 @@ module _ (g : Grid) (grid : IsGrid g) (row : FoundRow) (of : IsRowOf g row) (pla
   step_left n is =
       is ∙ ap (λ (m : ℕ). min size (get_or g.sizes last 0 - (m + size))) (sym number)
       ∙ sym (next_left g.sizes g.shape.sizes row.start row.cells grid.rank has.rank wide low (of.all has.rank) more)
-      ∙ ap (left_in_row g.sizes g.shape.sizes) (sym has.behind)
 
   pub step_beside : (n : ℕ) → n ≡ left_in_row g.sizes g.shape.sizes place → AreBeside g.sizes g.shape.sizes place n
   step_beside n is = left_beside g.sizes g.shape.sizes place grid.rank grid.sizes.some below has.rank n is
@@ -138,7 +139,6 @@ module _ (g : Grid) (grid : IsGrid g) (row : FoundRow) (of : IsRowOf g row) (pla
   step_number from None is = tt
   step_number from (Some n) is =
       step_corner
-      ∙ ap (λ (p : ℕ). corner_of g.shape.sizes (index_of g.sizes p)) has.behind
       ∙ next_corner g.sizes g.shape.sizes row.start row.cells grid.rank has.rank wide low (of.all has.rank) more
       ∙ ap (λ (xs : List ℕ). corner_beside g.shape.sizes xs 1) (sym of.corner ∙ is)
       ∙ beside_next g.shape.sizes from n (omega (arith, first_long from n is))

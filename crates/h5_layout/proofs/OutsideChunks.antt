@@ -9,6 +9,7 @@ use Rattle.h5_model.specs.Format.Fixed.{Fixed, IsFixed, fits}
 use Rattle.h5_model.specs.Edits.Refusal.{is_chunked}
 use Rattle.h5_model.specs.Format.Layout.{InBlock, InChunks, InMessage, Layout}
 use Rattle.h5_model.specs.Format.Described.{storage_of, Described}
+use Rattle.h5_model.specs.Format.Limits.{most_chunk_bytes}
 use Rattle.h5_model.specs.Tree.Places.{cells, is_inside}
 use Rattle.h5_chunks.specs.Lists.{ChunkOffsets, offsets_across, offsets_outside, reaches_beyond}
 use Rattle.h5_chunks.specs.Shapes.{AreChunkSizes}
@@ -33,7 +34,7 @@ pub sound_chunks : (t : Fixed) (fill : ℤ) (chunk lent : List ℕ) (root : Opti
 sound_chunks t fill chunk lent root same sizes short sound of_type small =
     subst (λ (xs : List ℕ). AreSoundChunks (record { fixed = t; fill = fill; chunk = xs; root = root })) (sym same)
     (record { sizes = sizes; short = short; small = few (cells chunk * t.size) small; sound = sound; of_type = of_type }) where
-      few : (n : ℕ) → nat_lt (2 ^ 30) n ≡ false → n ≤ 2 ^ 30
+      few : (n : ℕ) → nat_lt most_chunk_bytes n ≡ false → n ≤ most_chunk_bytes
       few n not_large = grind (arith, nat_tests)
 
 -- ---- as lists of chunks

@@ -1,5 +1,5 @@
 -- Where the cells of an array stand, by what is kept of its header and of its tree.
-use Rattle.std.proofs.Common.{◌≡◌, ℕ, false, ◌+◌, ◌*◌, ◌^◌, ◌≤◌, inl, inr, List, length, Option, Some, None, true, refl, sym, ap, ap₂, ◌∙◌, subst, arith}
+use Rattle.std.proofs.Common.{◌≡◌, ℕ, false, ◌+◌, ◌*◌, ◌≤◌, inl, inr, List, length, Option, Some, None, true, refl, sym, ap, ap₂, ◌∙◌, subst, arith}
 use Rattle.std.specs.Prelude.{is_some, option_map}
 use Rattle.std.specs.FinMap.{get, get-empty}
 use Rattle.std.specs.Ordering.{nat_cmp}
@@ -11,6 +11,7 @@ use Rattle.h5_header.specs.declared.message.Message.{Message as Placed}
 use Rattle.h5_model.specs.Format.Fixed.{Fixed, IsFixed}
 use Rattle.h5_model.specs.Format.Layout.{Layout, InMessage, InBlock, InChunks}
 use Rattle.h5_model.specs.Format.Described.{Described}
+use Rattle.h5_model.specs.Format.Limits.{most_chunk_bytes}
 use Rattle.h5_model.specs.Tree.Grid.{corner_of, inner_of}
 use Rattle.h5_model.specs.Tree.Places.{cells, index_of, place_of}
 use Rattle.h5_model.proofs.PlainValues.{size-low}
@@ -78,7 +79,7 @@ pub index_made : (image : List ℕ) (a : Described) → IsArray a → IsFixed a.
 index_made image a sound fixed read chunk root laid chunks sizes same size wide =
     let rank : has_room a.sizes a.fixed.size (InChunks chunk (Some root)) ≡ true = subst (λ (l : Layout). has_room a.sizes a.fixed.size l ≡ true) laid sound.room in
     let large : is_chunk_large a.fixed (InChunks chunk (Some root)) ≡ false = subst (λ (l : Layout). is_chunk_large a.fixed l ≡ false) laid sound.chunk_small in
-    let bytes : cells chunk * a.fixed.size ≤ 2 ^ 30 = grind (arith, nat_tests) in
+    let bytes : cells chunk * a.fixed.size ≤ most_chunk_bytes = grind (arith, nat_tests) in
     let some : cells chunk * 1 ≤ cells chunk * a.fixed.size = mul-le-mul_left (cells chunk) (size-low a.fixed fixed) in
     let shape : cells chunk * size ≡ cells chunk * a.fixed.size = ap (λ (n : ℕ). cells chunk * n) wide in
     record {

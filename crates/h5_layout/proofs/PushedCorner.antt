@@ -1,5 +1,5 @@
 -- What is appended of a chunk of which the first slices are kept, from one dimension to the next.
-use Rattle.std.proofs.Common.{◌≡◌, ℕ, ◌+◌, ◌-◌, ◌*◌, ◌/◌, ◌^◌, ◌<◌, ◌≤◌, ℤ, List, ◌∷◌, ◌++◌, length, take, drop, get_or, replicate, sym, ap, ap₂, ◌∙◌, subst, arith}
+use Rattle.std.proofs.Common.{◌≡◌, ℕ, ◌+◌, ◌-◌, ◌*◌, ◌/◌, ◌<◌, ◌≤◌, ℤ, List, ◌∷◌, ◌++◌, length, take, drop, get_or, replicate, sym, ap, ap₂, ◌∙◌, subst, arith}
 use Rattle.std.proofs.lemmas.List.{length-take, length-drop}
 use Rattle.std.proofs.lemmas.Nat.{div-mul-add}
 use Rattle.std.proofs.lemmas.Slice.{first_rest}
@@ -7,6 +7,7 @@ use Rattle.std.proofs.Math.Nat.{mul-le-mul_right}
 use Rattle.std.specs.List.{AllByRecursion}
 use Rattle.h5_bytes.specs.Tables.{table}
 use Rattle.h5_model.specs.Format.Fixed.{Fixed, IsFixed}
+use Rattle.h5_model.specs.Format.Limits.{most_chunk_bytes}
 use Rattle.h5_model.specs.Format.Plain.{cells_bytes}
 use Rattle.h5_model.specs.Tree.Places.{cells}
 use Rattle.h5_model.proofs.PlainValues.{size-low}
@@ -102,7 +103,7 @@ module _ (t : Fixed) (fill : ℤ) (spans : List Span) (bytes : List ℕ) (sound 
       length-take ((i + 1) * slice - i * slice) (drop (i * slice) bytes)
       ∙ omega (arith, length-drop (i * slice) bytes, slice_wide i, slice_room i low, more, slice_here)
 
-  pub slice_small : length bytes ≤ 2 ^ 30 → (i : ℕ) → i < s → length (take ((i + 1) * slice - i * slice) (drop (i * slice) bytes)) ≤ 2 ^ 30
+  pub slice_small : length bytes ≤ most_chunk_bytes → (i : ℕ) → i < s → length (take ((i + 1) * slice - i * slice) (drop (i * slice) bytes)) ≤ most_chunk_bytes
   slice_small small i low =
       let more : (i + 1) * slice ≡ i * slice + slice = omega arith in
       omega (arith, length-slice i low, slice_room i low, slice_here, more, small)

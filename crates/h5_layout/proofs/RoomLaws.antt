@@ -8,6 +8,7 @@ use Rattle.std.proofs.lemmas.List.{length-take, length-drop}
 use Rattle.std.proofs.lemmas.List.FromFn.{length-map-range_with_len}
 use Rattle.h5_bytes.specs.Bytes.{number_at, part}
 use Rattle.h5_bytes.specs.Blocks.{block}
+use Rattle.h5_model.specs.Format.Limits.{most_cells}
 use Rattle.h5_model.specs.Tree.Places.{cells, extent_cells, index_of}
 use Rattle.h5_model.specs.Format.Layout.{Layout, InMessage, InBlock, InChunks, layout_of, compact_layout, contiguous_layout, chunked_layout, short_numbers_at}
 use Rattle.h5_model.specs.Format.Chunks.{Chunks}
@@ -67,8 +68,8 @@ room_of sizes size body layout h =
 
 -- ---- the place of a cell
 
-pub few : (sizes dims : List ℕ) → dims ≡ sizes → extent_cells sizes ≤ 2 ^ 40 → cells dims < 2 ^ 64
-few sizes dims same small = let most : cells sizes ≤ 2 ^ 40 = omega (arith, cells_le sizes) in rw same (omega arith)
+pub few : (sizes dims : List ℕ) → dims ≡ sizes → extent_cells sizes ≤ most_cells → cells dims < 2 ^ 64
+few sizes dims same small = let most : cells sizes ≤ most_cells = omega (arith, cells_le sizes) in rw same (omega arith)
 
 -- ---- the cell at a place
 

@@ -1,5 +1,5 @@
 -- Where the cells of a run stand, or the one block or chunk that is missing for them.
-use Rattle.std.proofs.Common.{◌≡◌, inl, inr, ℕ, ◌+◌, ◌*◌, ◌^◌, ◌<◌, ◌≤◌, List, [], ◌∷◌, Option, Some, None, length, refl, sym, ap, ap₂, ◌∙◌, subst, arith}
+use Rattle.std.proofs.Common.{◌≡◌, inl, inr, ℕ, ◌+◌, ◌*◌, ◌<◌, ◌≤◌, List, [], ◌∷◌, Option, Some, None, length, refl, sym, ap, ap₂, ◌∙◌, subst, arith}
 use Rattle.std.specs.Prelude.{◌&&◌, is_some, nat_lt, option_map, slice_index_or}
 use Rattle.std.specs.FinMap.{get, get-empty}
 use Rattle.std.specs.Cmp.Lexicographic.{slice_cmp}
@@ -11,6 +11,7 @@ use Rattle.h5_laws.proofs.Lists.{In, contains_in, from_range, in_contains, in_ra
 use Rattle.h5_model.specs.Format.Chunks.{Chunks}
 use Rattle.h5_model.specs.Format.Fixed.{Fixed}
 use Rattle.h5_model.specs.Format.Layout.{InBlock, InChunks, InMessage, Layout}
+use Rattle.h5_model.specs.Format.Limits.{most_cells, most_chunk_bytes}
 use Rattle.h5_model.specs.Format.Reached.{Shape}
 use Rattle.h5_model.specs.Format.Described.{storage_of, Described}
 use Rattle.h5_model.specs.Tree.Grid.{corner_of, inner_of}
@@ -83,7 +84,7 @@ module _ (a : Described) (run : CellRun) (below : run.place + run.length ≤ cel
 
   -- ---- in a block
 
-  pub block_missing : (image : List ℕ) → a.layout ≡ InBlock None → cells a.sizes ≤ 2 ^ 40 → a.fixed.size ≤ 8 → IsRunMissing image a run missing.Block run.place
+  pub block_missing : (image : List ℕ) → a.layout ≡ InBlock None → cells a.sizes ≤ most_cells → a.fixed.size ≤ 8 → IsRunMissing image a run missing.Block run.place
   block_missing image laid few wide = record {
     small = (let eight = mul-le-mul_left run.place wide in omega (arith, below, few, eight));
     found = λ slab rank within is. block_lacking image a slab laid run.place (first_chosen slab is);
@@ -148,7 +149,7 @@ module _ (a : Described) (run : CellRun) (below : run.place + run.length ≤ cel
 
     -- so it is missing where it is not stored, and the cells of the run stand in it once it is made
     pub chunk_missing : (image : List ℕ) (root : Option ℕ) → a.layout ≡ InChunks chunk root → get (stored_chunks image a.fixed a.layout) corner ≡ None
-        → (k : ArrayChunks) → IsInChunksOf a k → (m : Missing) → m ≡ missing.Chunks k alone → inner * a.fixed.size ≤ 2 ^ 30 → IsRunMissing image a run m inner
+        → (k : ArrayChunks) → IsInChunksOf a k → (m : Missing) → m ≡ missing.Chunks k alone → inner * a.fixed.size ≤ most_chunk_bytes → IsRunMissing image a run m inner
     chunk_missing image root laid none k of m are few = subst (λ (x : Missing). IsRunMissing image a run x inner) (sym are) (record {
       small = omega (arith, few);
       found = λ slab rank within is. chunks_found image a slab chunk root laid alone (row_missing slab within is image none alone refl) (omega arith) k of;

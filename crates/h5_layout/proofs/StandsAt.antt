@@ -1,7 +1,8 @@
 -- Cells of a block stand one behind another; those of chunks stand nowhere where there is no tree.
-use Rattle.std.proofs.Common.{◌≡◌, ℕ, ◌+◌, ◌*◌, ◌^◌, ◌≤◌, List, Option, Some, sym, ap, ◌∙◌, arith}
+use Rattle.std.proofs.Common.{◌≡◌, ℕ, ◌+◌, ◌*◌, ◌≤◌, List, Option, Some, sym, ap, ◌∙◌, arith}
 use Rattle.h5_bytes.specs.declared.Block.{Block}
 use Rattle.h5_model.specs.Format.Layout.{Layout, InBlock}
+use Rattle.h5_model.specs.Format.Limits.{most_cells}
 use Rattle.h5_model.specs.Format.Messages.{Message}
 use Rattle.h5_model.specs.Format.Described.{Described, HasArray}
 use Rattle.h5_model.specs.Tree.Places.{cells, index_of}
@@ -32,5 +33,5 @@ module _ (image : List ℕ) (a : Described) where
 
 -- ---- how many cells there are
 
-pub cells_low : (ms : List Message) (a : Described) → HasArray ms a → cells a.sizes ≤ 2 ^ 40
+pub cells_low : (ms : List Message) (a : Described) → HasArray ms a → cells a.sizes ≤ most_cells
 cells_low ms a has = omega (arith, cells_le a.sizes, has.small)

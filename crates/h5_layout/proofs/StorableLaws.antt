@@ -5,6 +5,7 @@ use Rattle.std.proofs.Math.Nat.{mul-le-mul_right}
 use Rattle.h5_model.specs.Format.Datatype.{fixed_of}
 use Rattle.h5_model.specs.Format.Fixed.{IsFixed}
 use Rattle.h5_model.specs.Format.Layout.{InChunks, Layout, layout_of}
+use Rattle.h5_model.specs.Format.Limits.{most_chunk_bytes}
 use Rattle.h5_model.specs.Format.Messages.{Message}
 use Rattle.h5_model.specs.Format.Described.{IsChunkSmall, Described, HasArray}
 use Rattle.h5_model.specs.Tree.Places.{cells}
@@ -24,7 +25,7 @@ module _ (ms : List Message) (a : Described) (has : HasArray ms a) where
   fixed_told = let body = among_some fixed_of 3 ms a.fixed has.type in type_sound (body.0).body a.fixed body.3
 
   module _ (chunk : List ℕ) (root : Option ℕ) (is : a.layout ≡ InChunks chunk root) where
-    pub small_told : cells chunk * a.fixed.size ≤ 2 ^ 30
+    pub small_told : cells chunk * a.fixed.size ≤ most_chunk_bytes
     small_told = subst (IsChunkSmall a.fixed) is has.chunk_small
 
     pub storable_told : AreChunkSizes chunk → AllByRecursion (λ (n : ℕ). n < 2 ^ 32) chunk → CanBeStored (chunk_shape a.fixed chunk)

@@ -1,8 +1,9 @@
 -- Chunks that hold a cell of an array: stored ones that begin inside, and those that a selection meets.
-use Rattle.std.proofs.Common.{◌≡◌, ℕ, ◌^◌, ◌<◌, ◌≤◌, List, length, get_or, sym, ap, ◌∙◌, subst, Some, None, cond}
+use Rattle.std.proofs.Common.{◌≡◌, ℕ, ◌<◌, ◌≤◌, List, length, get_or, sym, ap, ◌∙◌, subst, Some, None, cond}
 use Rattle.std.specs.FinMap.{entries, get, get-entries, get-retain_keys, nat_cmp-IsAntisymmetric, retain_keys, slice_cmp-IsAntisymmetric}
 use Rattle.std.specs.List.{Contains}
 use Rattle.h5_model.specs.Format.Chunks.{Chunks}
+use Rattle.h5_model.specs.Format.Limits.{most_cells}
 use Rattle.h5_model.specs.Tree.Places.{IsInside, extent_cells, is_inside}
 use Rattle.h5_model.specs.Views.Selection.{Slab, Within}
 use Rattle.h5_model.proofs.PlaceLaws.{is_inside_from}
@@ -30,7 +31,7 @@ module _ (stored : Chunks) (sizes : List ℕ) where
 -- ---- a chunk that is met
 
 module _ (sizes chunk : List ℕ) (same : length chunk ≡ length sizes) (some : (d : ℕ) → d < length chunk → 1 ≤ get_or chunk d 0)
-    (small : extent_cells sizes ≤ 2 ^ 40) (slab : Slab) (within : Within sizes slab) where
+    (small : extent_cells sizes ≤ most_cells) (slab : Slab) (within : Within sizes slab) where
   -- it holds a cell of the array, and begins in it
   pub met_held : (offsets : List ℕ) → IsChunkMet slab chunk offsets → IsHeldChunk sizes chunk offsets
   met_held offsets (index, selected, is) =

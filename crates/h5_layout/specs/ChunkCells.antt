@@ -1,7 +1,7 @@
 -- The cells of an array in chunks, one behind another in a row of a chunk (File Format Specification 3.0, section III.A.1).
-use Rattle.std.specs.Prelude.{◌≡◌, ℕ, ◌+◌, ◌-◌, ◌%◌, ◌^◌, ◌<◌, ◌≤◌, min, ℤ, Option, None, Some, List, length, get_or}
+use Rattle.std.specs.Prelude.{◌≡◌, ℕ, ◌+◌, ◌-◌, ◌%◌, ◌<◌, ◌≤◌, min, ℤ, Option, None, Some, List, length, get_or}
 use Rattle.std.specs.FinMap.{get}
-use Rattle.h5_model.specs.Format.Limits.{most_cells}
+use Rattle.h5_model.specs.Format.Limits.{most_cells, most_chunk_bytes}
 use Rattle.h5_bytes.specs.Bytes.{part}
 use Rattle.h5_model.specs.Format.Cells.{value_in_chunk}
 use Rattle.h5_model.specs.Format.Fixed.{Fixed}
@@ -36,7 +36,7 @@ pub record IsGrid (g : Grid) : Type 0 where
   pub rank : length g.shape.sizes ≡ length g.sizes
   pub sizes : AreChunkSizes g.shape.sizes
   pub few : cells g.sizes ≤ most_cells
-  pub small : cells g.shape.sizes ≤ 2 ^ 30
+  pub small : cells g.shape.sizes ≤ most_chunk_bytes
   pub stored : AreChunksRead g.image g.shape g.root
 
 -- so many cells from this place on stand one behind another in one chunk

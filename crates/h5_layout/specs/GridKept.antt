@@ -1,5 +1,5 @@
 -- An array in chunks, and what was found of it last (File Format Specification 3.0, section III.A.1).
-use Rattle.std.specs.Prelude.{◌≡◌, ℕ, ◌+◌, ◌-◌, ◌<◌, ◌≤◌, None, IfSome, List, length, get_or, replicate}
+use Rattle.std.specs.Prelude.{◌≡◌, ℕ, ◌+◌, ◌-◌, ◌<◌, ◌≤◌, None, IfSome, List, length, get_or, min, replicate}
 use Rattle.h5_chunks.specs.Cursor.{IsCursor}
 use Rattle.h5_chunks.specs.Told.{chunks_told}
 use Rattle.h5_model.specs.Format.Reached.{Shape}
@@ -36,12 +36,17 @@ pub record IsChunkRow (g : Grid) (place : ℕ) (row : ChunkRow) : Type 0 where
   pub at : row.at ≡ chunk_of g place
   pub inside : IfSome row.at (λ at. at + g.shape.bytes ≤ length g.image)
 
--- this place is behind these cells, and the array's row of cells goes on in the next chunk
-pub record HasNext (sizes chunk : List ℕ) (row : FoundRow) (place : ℕ) : Type 0 where
+-- the array's row of these cells goes on in the next chunk
+pub record HasNext (sizes chunk : List ℕ) (row : FoundRow) : Type 0 where
   pub rank : 0 < length sizes
   pub some : 0 < row.cells
-  pub behind : place ≡ row.start + row.cells
   pub more : row.corner.column + get_or chunk (length sizes - 1) 0 < get_or sizes (length sizes - 1) 0
+
+-- how many cells the next chunk has of it
+abbrev pub next_cells : List ℕ → List ℕ → FoundRow → ℕ
+next_cells sizes chunk row =
+    let width = get_or chunk (length sizes - 1) 0 in
+    min width (get_or sizes (length sizes - 1) 0 - (row.corner.column + width))
 
 -- the chunks of an array stand in its image, and what was found of them last is so, if anything was
 pub record IsFoundIn (g : Grid) (found : RowCursor) (last : FoundRow) : Type 0 where

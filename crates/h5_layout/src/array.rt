@@ -1,10 +1,11 @@
 //! An array as its header describes it, or as it is to be written.
 
-ghost use Rattle.std.specs.Prelude.{◌≡◌, ◌+◌, ◌*◌, ◌^◌, ◌<◌, ◌≤◌, None, Some, true, length, slice_get, MatchOption};
+ghost use Rattle.std.specs.Prelude.{◌≡◌, ◌+◌, ◌*◌, ◌<◌, ◌≤◌, None, Some, true, length, slice_get, MatchOption};
 ghost use Rattle.std.specs.FinMap.{empty};
 ghost use Rattle.std.specs.Option.{ForSome, option_map};
 ghost use Rattle.h5_bytes.specs.Bytes.{part};
 ghost use Rattle.h5_model.specs.Format.Fixed.{fits};
+ghost use Rattle.h5_model.specs.Format.Limits.{most_cells};
 ghost use Rattle.h5_model.specs.Tree.Places.{cells as cells_of, IsInside};
 ghost use Rattle.h5_model.specs.Format.Cells.{value_in as value_at_place};
 ghost use Rattle.h5_model.specs.Format.Described.{array_of, described_dataset};
@@ -98,7 +99,7 @@ impl<'a> ArrayRef<'a> {
     /// How many cells there are.
     pub fn cells(&self) -> u64
         ensures exact { result ≡ cells_of self.now.sizes }
-        ensures few { result ≤ 2 ^ 40 }
+        ensures few { result ≤ most_cells }
     {
         self.dims().cells()
     }

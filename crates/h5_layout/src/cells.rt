@@ -1,8 +1,9 @@
 //! The cells of an array where they stand (File Format Specification 3.0, section IV.A.2.i).
 
-ghost use Rattle.std.specs.Prelude.{◌≡◌, ℕ, ℤ, ◌+◌, ◌*◌, ◌^◌, ◌<◌, ◌≤◌, length, slice_index};
+ghost use Rattle.std.specs.Prelude.{◌≡◌, ℕ, ℤ, ◌+◌, ◌*◌, ◌<◌, ◌≤◌, length, slice_index};
 ghost use Rattle.std.specs.List.{range_with_len};
 ghost use Rattle.h5_model.specs.Format.Cells.{cell_of, value_in};
+ghost use Rattle.h5_model.specs.Format.Limits.{most_cells};
 ghost use Rattle.h5_model.specs.Tree.Places.{cells as cells_of, index_of};
 ghost use Rattle.h5_layout.specs.CellData.{HasCellRoom, value_of_cell};
 ghost use Rattle.h5_layout.specs.Data.{AreDataRead, dataset_told, stored_chunks};
@@ -38,7 +39,8 @@ pub(crate) struct StoredCells<'a, 'r> {
 }
 
 impl<'a, 'r> Model for StoredCells<'a, 'r> {
-    ghost use Rattle.std.specs.Prelude.{◌≤◌, ◌^◌};
+    ghost use Rattle.std.specs.Prelude.{◌≤◌};
+    ghost use Rattle.h5_model.specs.Format.Limits.{most_cells};
     ghost use Rattle.h5_layout.specs.CellData.{HasCellRoom, all_cells};
     ghost use Rattle.h5_layout.specs.Pieces.{CellsLeft};
 
@@ -46,7 +48,7 @@ impl<'a, 'r> Model for StoredCells<'a, 'r> {
 
     ghost view = { λ s. all_cells s.fixed s.fill s.count s.held };
 
-    ghost invariant = { λ s. (s.count ≤ 2 ^ 40) × HasCellRoom s.fixed s.count s.held };
+    ghost invariant = { λ s. (s.count ≤ most_cells) × HasCellRoom s.fixed s.count s.held };
 }
 
 impl<'a, 'r> StoredCells<'a, 'r> {
@@ -75,7 +77,7 @@ impl<'a, 'r> StoredCells<'a, 'r> {
         requires below { place + most ≤ length self.old.values }
         ensures same { self.new ≡ self.old }
         ensures piece { IsPieceAt self.old place most result.0 result.1 }
-        ensures small { length self.old.values ≤ 2 ^ 40 }
+        ensures small { length self.old.values ≤ most_cells }
         ensures bytes { HasBytes result.0 }
     {
         match &mut self.held {

@@ -1,8 +1,9 @@
 //! An array in chunks without its image: what its header says of them (File Format Specification 3.0, sections III.A.1
 //! and IV.A.2.i).
 
-ghost use Rattle.std.specs.Prelude.{◌≡◌, ◌*◌, ◌^◌, ◌≤◌, true};
+ghost use Rattle.std.specs.Prelude.{◌≡◌, ◌*◌, ◌≤◌, true};
 ghost use Rattle.h5_model.specs.Format.Fixed.{IsFixed, fits};
+ghost use Rattle.h5_model.specs.Format.Limits.{most_chunk_bytes};
 ghost use Rattle.h5_model.specs.Tree.Places.{cells as cells_of};
 ghost use Rattle.h5_chunks.specs.Shapes.{AreChunkSizes};
 ghost use Rattle.h5_layout.specs.ArrayChunks.{AreSoundChunks, IsChunked, IsInChunksOf};
@@ -126,7 +127,7 @@ impl ChunkedArray {
     /// How many bytes a chunk has.
     pub(crate) fn chunk_length(&self) -> u64
         ensures exact { result ≡ cells_of self.now.chunk * self.now.fixed.size }
-        ensures few { result ≤ 2 ^ 30 }
+        ensures few { result ≤ most_chunk_bytes }
     {
         self.chunk_length
     }

@@ -1,9 +1,10 @@
 //! The cells of a chunk of which the first slices are kept (File Format Specification 3.0, section III.A.1).
 
-ghost use Rattle.std.specs.Prelude.{◌≡◌, ◌↔◌, ℕ, ◌+◌, ◌*◌, ◌^◌, ◌<◌, ◌≤◌, ◌++◌, true, IsTrue, OnOk, length, slice_index};
+ghost use Rattle.std.specs.Prelude.{◌≡◌, ◌↔◌, ℕ, ◌+◌, ◌*◌, ◌<◌, ◌≤◌, ◌++◌, true, IsTrue, OnOk, length, slice_index};
 ghost use Rattle.std.specs.List.{AllByRecursion};
 ghost use Rattle.h5_model.specs.Format.Chunks.{offsets_in};
 ghost use Rattle.h5_model.specs.Format.Fixed.{IsFixed, fits};
+ghost use Rattle.h5_model.specs.Format.Limits.{most_chunk_bytes};
 ghost use Rattle.h5_model.specs.Format.Plain.{cells_bytes};
 ghost use Rattle.h5_model.specs.Tree.Places.{cells};
 ghost use Rattle.h5_chunks.specs.Shapes.{AreChunkSizes};
@@ -69,7 +70,7 @@ pub(crate) fn push_kept(
     requires of_type { fits fixed fill ≡ true }
     requires spans { AllByRecursion IsKeptSpan spans.now }
     requires long { length bytes.now ≡ cells (span_sizes spans.now) * fixed.size }
-    requires small { length bytes.now ≤ 2 ^ 30 }
+    requires small { length bytes.now ≤ most_chunk_bytes }
     ensures { OnOk result (out.new.items ≡ out.old.items ++ cells_bytes fixed
         (corner_values fixed fill (span_sizes spans.now) (span_slices spans.now) bytes.now)) }
 {
@@ -90,7 +91,7 @@ fn push_corner(
 ) -> Result<(), AllocError>
     requires spans { AllByRecursion IsKeptSpan spans.now }
     requires long { length bytes.now ≡ cells (span_sizes spans.now) * fill.now.fixed.size }
-    requires small { length bytes.now ≤ 2 ^ 30 }
+    requires small { length bytes.now ≤ most_chunk_bytes }
     ensures { OnOk result (out.new.items ≡ out.old.items ++ cells_bytes fill.now.fixed
         (corner_values fill.now.fixed fill.now.fill (span_sizes spans.now) (span_slices spans.now)
         bytes.now)) }
@@ -119,7 +120,7 @@ pub(crate) fn fill_corner(bytes: &mut [u8], fixed: &Fixed, fill: i128, spans: &[
     requires of_type { fits fixed.now fill ≡ true }
     requires spans { AllByRecursion IsKeptSpan spans.now }
     requires long { length bytes.old ≡ cells (span_sizes spans.now) * fixed.now.size }
-    requires small { length bytes.old ≤ 2 ^ 30 }
+    requires small { length bytes.old ≤ most_chunk_bytes }
     ensures { bytes.new ≡ cells_bytes fixed.now
         (corner_values fixed.now fill (span_sizes spans.now) (span_slices spans.now) bytes.old) }
 {

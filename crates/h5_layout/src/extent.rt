@@ -4,6 +4,7 @@
 ghost use Rattle.std.specs.Prelude.{◌≡◌, ◌+◌, ◌*◌, ◌==◌, ◌≤◌, true, false, length, position};
 ghost use Rattle.h5_model.specs.Edits.Refusal.{are_maxima};
 ghost use Rattle.h5_model.specs.Format.Described.{HasArray};
+ghost use Rattle.h5_model.specs.Format.Limits.{most_dimensions};
 ghost use Rattle.h5_model.specs.Format.MessageTypes.{dataspace_kind};
 ghost use Rattle.h5_space.specs.Moves.{Spends};
 ghost use Rattle.h5_header.specs.Listed.{messages_in};
@@ -115,7 +116,7 @@ fn write_extent(image: &mut Image, messages: &Messages, sizes: &[u64], maxima: &
 /// there is room for the message.
 fn add_extent(image: &mut Image, messages: &mut Messages, sizes: &[u64], maxima: &[Option<u64>])
     requires array { IsArrayApart image.old messages.old }
-    requires rank { length sizes.now ≤ 32 }
+    requires rank { length sizes.now ≤ most_dimensions }
     requires bounds { are_maxima sizes.now maxima.now ≡ true }
     requires room { HasExtentRoom image.old messages.old sizes.now }
     ensures extent { HasExtentNow image.old image.new messages.old messages.new

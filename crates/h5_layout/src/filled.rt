@@ -1,11 +1,12 @@
 //! Blocks that were taken, with each cell the fill, and chunks stored so where their tree stands (File Format Specification
 //! 3.0, section III.A.1).
 
-ghost use Rattle.std.specs.Prelude.{◌≡◌, ℕ, ◌+◌, ◌*◌, ◌^◌, ◌<◌, ◌≤◌, IfErr, IfOk, None, OnOk, Some, [], ◌∷◌, length, replicate, slice_index_or, true};
+ghost use Rattle.std.specs.Prelude.{◌≡◌, ℕ, ◌+◌, ◌*◌, ◌<◌, ◌≤◌, IfErr, IfOk, None, OnOk, Some, [], ◌∷◌, length, replicate, slice_index_or, true};
 ghost use Rattle.std.specs.FinMap.{get};
 ghost use Rattle.h5_bytes.specs.Bytes.{part};
 ghost use Rattle.h5_model.specs.Format.Chunks.{IsChunkKey, offsets_in};
 ghost use Rattle.h5_model.specs.Format.Fixed.{fits};
+ghost use Rattle.h5_model.specs.Format.Limits.{most_bytes};
 ghost use Rattle.h5_model.specs.Format.Superblock.{chunk_k};
 ghost use Rattle.h5_space.specs.Lending.{with_bytes_at};
 ghost use Rattle.h5_space.specs.Moves.{Spends};
@@ -45,7 +46,7 @@ pub(crate) fn store_all(
     requires bytes { length new.now.offsets * store_room image.old.bytes shape.now ≤ image.old.room_bytes }
     requires calls { 18 * length new.now.offsets ≤ image.old.room_blocks }
     requires short { length image.old.bytes
-        + length new.now.offsets * store_room image.old.bytes shape.now ≤ 2 ^ 31 }
+        + length new.now.offsets * store_room image.old.bytes shape.now ≤ most_bytes }
     ensures stored { OnOk result (HasFilledChunks image.old image.new shape.now root
         (cells_of_fill cells.now.fixed cells.now.fill cells.now.count) new.now.offsets) }
     ensures first { IfOk result (λ at. 0 < length new.now.offsets
@@ -91,7 +92,7 @@ fn store_filled(
         (offsets_in (length shape.now.sizes) key.now) → ⊥ }
     requires bytes { store_room image.old.bytes shape.now ≤ image.old.room_bytes }
     requires calls { 18 ≤ image.old.room_blocks }
-    requires short { length image.old.bytes + store_room image.old.bytes shape.now ≤ 2 ^ 31 }
+    requires short { length image.old.bytes + store_room image.old.bytes shape.now ≤ most_bytes }
     ensures stored { HasFilledChunks image.old image.new shape.now root
         (cells_of_fill cells.now.fixed cells.now.fill cells.now.count)
         (offsets_in (length shape.now.sizes) key.now ∷ []) }

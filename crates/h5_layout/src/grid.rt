@@ -3,6 +3,7 @@
 ghost use Rattle.std.specs.Prelude.{◌≡◌, ℕ, List, ◌+◌, ◌-◌, ◌*◌, ◌^◌, ◌<◌, ◌≤◌, IfSome, IsTrue, length, get_or, option_map};
 ghost use Rattle.std.specs.FinMap.{get};
 ghost use Rattle.std.specs.List.{AllByRecursion};
+ghost use Rattle.h5_model.specs.Format.Limits.{most_cells, most_chunk_bytes};
 ghost use Rattle.h5_model.specs.Tree.Places.{cells as cells_of, index_of};
 ghost use Rattle.h5_chunks.specs.Cursor.{IsCursor};
 ghost use Rattle.h5_chunks.specs.Read.{AreChunksRead};
@@ -10,7 +11,7 @@ ghost use Rattle.h5_chunks.specs.Shapes.{AreChunkSizes};
 ghost use Rattle.h5_chunks.specs.Told.{chunks_told};
 ghost use Rattle.h5_layout.specs.ChunkCells.{AreBeside, AreChunkBytes, IsGrid, chunk_of, place_in_chunk};
 ghost use Rattle.h5_layout.specs.FoundChunks.{AreChunksBeside, IsFirstCell, IsNumberBeside};
-ghost use Rattle.h5_layout.specs.GridKept.{HasNext, IsFoundIn, IsRowOf};
+ghost use Rattle.h5_layout.specs.GridKept.{HasNext, IsFoundIn, IsRowOf, next_cells};
 
 use crate::beside::{ChunkCorner, FoundChunks, RowCursor};
 use crate::index::FoundRow;
@@ -97,9 +98,9 @@ impl<'a, 'r> ChunkGrid<'a, 'r> {
         root: u64,
     ) -> Self
         requires rank { length chunk_sizes.now ≡ length dims.now }
-        requires few { cells_of dims.now ≤ 2 ^ 40 }
+        requires few { cells_of dims.now ≤ most_cells }
         requires cell { 1 ≤ size }
-        requires small { cells_of chunk_sizes.now * size ≤ 2 ^ 30 }
+        requires small { cells_of chunk_sizes.now * size ≤ most_chunk_bytes }
         requires stored { AreChunksRead image.now.bytes
             (record { sizes = chunk_sizes.now; bytes = cells_of chunk_sizes.now * size }) root }
         ensures { result ≡ record {
@@ -222,32 +223,28 @@ impl<'a, 'g> GridRef<'a, 'g> {
         ensures since { row.new.start ≤ place }
         ensures until { place < row.new.start + row.new.cells }
     {
-        if place < row.start {
-            self.find_row(cursor, row, place);
-            return;
-        }
-        if place - row.start < row.cells || self.step_row(&cursor.beside, row, place) {
+        if row.has(place) || self.step_row(&cursor.beside, row, place) {
             return;
         }
         self.find_row(cursor, row, place);
     }
 
-    /// Makes the row that was found last the one from this place on.
+    /// Makes the row that was found last one that has this place, by what is sought in the tree.
     // Apart from `step_row`, which serves most pieces: what is sought in the tree is far longer.
     #[inline(never)]
     fn find_row(&self, cursor: &mut RowCursor, row: &mut FoundRow, place: u64)
         requires below { place < cells_of self.now.sizes }
         requires found { IsFoundIn self.now cursor.old row.old }
         ensures found { IsFoundIn self.now cursor.new row.new }
-        ensures start { row.new.start ≡ place }
-        ensures some { 0 < row.new.cells }
+        ensures since { row.new.start ≤ place }
+        ensures until { place < row.new.start + row.new.cells }
     {
         self.place_row(row, place);
         row.at = self.address_beside(cursor, row.corner, &mut row.number);
     }
 
-    /// Makes the row that was found last the one from this place on, where the next chunk has it, and is one of those
-    /// that were found beside one another. Returns whether it did; else the row is as it was.
+    /// Makes the row that was found last the one behind it, where that has this place, and its chunk is one of those that
+    /// were found beside one another. Returns whether it did; else the row is as it was.
     // Inlined, as `row_at` is.
     #[inline(always)]
     fn step_row(&self, beside: &FoundChunks, row: &mut FoundRow, place: u64) -> bool
@@ -261,8 +258,8 @@ impl<'a, 'g> GridRef<'a, 'g> {
         ensures row { 0 < row.new.cells → IsRowOf self.now row.new }
         ensures number { IsNumberBeside self.now.shape.sizes (index_of self.now.sizes beside.now.first.place)
             (index_of self.now.sizes row.new.corner.place) row.new.number }
-        ensures start { IsTrue result → row.new.start ≡ place }
-        ensures some { IsTrue result → 0 < row.new.cells }
+        ensures since { IsTrue result → row.new.start ≤ place }
+        ensures until { IsTrue result → place < row.new.start + row.new.cells }
     {
         if !self.goes_on(row, place) {
             return false;
@@ -270,29 +267,29 @@ impl<'a, 'g> GridRef<'a, 'g> {
         let Some(at) = beside.address_of(next_number(row.number)) else {
             return false;
         };
-        self.go_on(row, place);
+        self.go_on(row);
         row.at = Some(at);
         true
     }
 
-    /// Makes a row the one from this place on. The address of its chunk is left as it was.
+    /// Makes a row one that has this place. The address of its chunk is left as it was.
     #[inline(always)]
     fn place_row(&self, row: &mut FoundRow, place: u64)
         requires below { place < cells_of self.now.sizes }
         requires row { 0 < row.old.cells → IsRowOf self.now row.old }
         requires number { (first : List ℕ) × IsNumberBeside self.now.shape.sizes first
             (index_of self.now.sizes row.old.corner.place) row.old.number }
-        ensures start { row.new.start ≡ place }
+        ensures since { row.new.start ≤ place }
+        ensures until { place < row.new.start + row.new.cells }
         ensures number { (first : List ℕ)
             → IsNumberBeside self.now.shape.sizes first
             (index_of self.now.sizes row.old.corner.place) row.old.number
             → IsNumberBeside self.now.shape.sizes first
             (index_of self.now.sizes row.new.corner.place) row.new.number }
         ensures row { IsRowOf self.now (record row.new { at = chunk_of self.now row.new.start }) }
-        ensures some { 0 < row.new.cells }
     {
         if self.goes_on(row, place) {
-            self.go_on(row, place);
+            self.go_on(row);
             return;
         }
         let found = row_in_chunk(self.sizes, self.chunk, place);
@@ -303,16 +300,17 @@ impl<'a, 'g> GridRef<'a, 'g> {
         row.number = None;
     }
 
-    /// Makes a row the one from this place on, which is in the next chunk: nothing is divided, and the chunk's number
-    /// is known if that of the last one was. The address of the chunk is left as it was.
+    /// Makes a row the one behind it, which is in the next chunk: nothing is divided, and the chunk's number is known if
+    /// that of the last one was. The address of the chunk is left as it was.
     #[inline(always)]
-    fn go_on(&self, row: &mut FoundRow, place: u64)
-        requires below { place < cells_of self.now.sizes }
+    fn go_on(&self, row: &mut FoundRow)
+        requires below { row.old.start + row.old.cells < cells_of self.now.sizes }
         requires row { IsRowOf self.now row.old }
-        requires next { HasNext self.now.sizes self.now.shape.sizes row.old place }
+        requires next { HasNext self.now.sizes self.now.shape.sizes row.old }
         requires number { (first : List ℕ) × IsNumberBeside self.now.shape.sizes first
             (index_of self.now.sizes row.old.corner.place) row.old.number }
-        ensures start { row.new.start ≡ place }
+        ensures start { row.new.start ≡ row.old.start + row.old.cells }
+        ensures cells { row.new.cells ≡ next_cells self.now.sizes self.now.shape.sizes row.old }
         ensures next { row.new.number ≡ option_map (λ k. k + 1) row.old.number }
         ensures number { (first : List ℕ)
             → IsNumberBeside self.now.shape.sizes first
@@ -320,7 +318,6 @@ impl<'a, 'g> GridRef<'a, 'g> {
             → IsNumberBeside self.now.shape.sizes first
             (index_of self.now.sizes row.new.corner.place) row.new.number }
         ensures row { IsRowOf self.now (record row.new { at = chunk_of self.now row.new.start }) }
-        ensures some { 0 < row.new.cells }
     {
         let width = self.width;
         let number = next_number(row.number);
@@ -329,23 +326,27 @@ impl<'a, 'g> GridRef<'a, 'g> {
             place: row.corner.place + width,
             column: row.corner.column + width,
         };
-        row.start = place;
+        row.start += row.cells;
         row.cells = width.min(self.columns - corner.column);
         row.corner = corner;
         row.inner = inner;
         row.number = number;
     }
 
-    /// Whether the cell at this place is the one behind this row, and the next chunk has it.
+    /// Whether the row goes on in the next chunk, which has the cell at this place in it.
     #[inline(always)]
     fn goes_on(&self, row: &FoundRow, place: u64) -> bool
-        ensures { IsTrue result → HasNext self.now.sizes self.now.shape.sizes row.now place }
+        ensures next { IsTrue result → HasNext self.now.sizes self.now.shape.sizes row.now }
+        ensures since { IsTrue result → row.now.start + row.now.cells ≤ place }
+        ensures until { IsTrue result → place < row.now.start + row.now.cells
+            + next_cells self.now.sizes self.now.shape.sizes row.now }
     {
-        !self.sizes.is_empty()
-            && row.cells > 0
-            && place >= row.start
-            && place - row.start == row.cells
-            && self.columns.saturating_sub(row.corner.column) > self.width
+        if self.sizes.is_empty() || row.cells == 0 || place < row.start {
+            return false;
+        }
+        let on = place - row.start;
+        let columns = self.columns.saturating_sub(row.corner.column);
+        on >= row.cells && on - row.cells < self.width.min(columns.saturating_sub(self.width))
     }
 
     /// The address of the chunk that begins there, where it is stored, and its number among those that were found beside
@@ -463,7 +464,7 @@ pub(crate) fn copy_short_sizes(from: &ChunkSizes<'_>, to: &mut [u32])
 pub(crate) fn bytes_of(chunk: &[u64], size: u64) -> u64
     requires cell { 1 ≤ size }
     requires sizes { AreChunkSizes chunk.now }
-    requires small { cells_of chunk.now * size ≤ 2 ^ 30 }
+    requires small { cells_of chunk.now * size ≤ most_chunk_bytes }
     ensures { result ≡ cells_of chunk.now * size }
 {
     let [first, rest @ ..] = chunk else {
@@ -475,7 +476,7 @@ pub(crate) fn bytes_of(chunk: &[u64], size: u64) -> u64
 /// How many bytes a chunk of these sizes has.
 pub(crate) fn chunk_bytes(chunk: &ChunkSizes<'_>, size: u64) -> u64
     requires cell { 1 ≤ size }
-    requires small { cells_of chunk.now * size ≤ 2 ^ 30 }
+    requires small { cells_of chunk.now * size ≤ most_chunk_bytes }
     ensures exact { result ≡ cells_of chunk.now * size }
     ensures sound { AreChunkSizes chunk.now }
 {

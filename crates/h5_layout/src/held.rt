@@ -8,6 +8,7 @@ ghost use Rattle.std.specs.Option.{ForSome};
 ghost use Rattle.h5_model.specs.Format.Chunks.{IsChunkKey, offsets_in};
 ghost use Rattle.h5_model.specs.Format.Fixed.{IsFixed};
 ghost use Rattle.h5_model.specs.Format.Layout.{InChunks};
+ghost use Rattle.h5_model.specs.Format.Limits.{most_chunk_bytes};
 ghost use Rattle.h5_model.specs.Format.Plain.{cells_bytes};
 ghost use Rattle.h5_model.specs.Tree.Places.{cells as cells_of, is_inside};
 ghost use Rattle.h5_chunks.specs.Held.{IsChunkPlace, place_entry};
@@ -123,7 +124,7 @@ impl<'a> HeldChunks<'a> {
     /// How many bytes a chunk has.
     pub fn chunk_length(&self) -> u64
         ensures exact { result ≡ cells_of self.now.chunk * self.now.fixed.size }
-        ensures few { result ≤ 2 ^ 30 }
+        ensures few { result ≤ most_chunk_bytes }
         ensures some { 1 ≤ result }
     {
         self.array.chunk_length()

@@ -1,6 +1,7 @@
 //! The chunks of an array by its sizes, those of a chunk, and their tree (File Format Specification 3.0, section III.A.1).
 
-ghost use Rattle.std.specs.Prelude.{◌≡◌, ◌+◌, ◌*◌, ◌^◌, ◌<◌, ◌≤◌, IfSome, IsTrue, length};
+ghost use Rattle.std.specs.Prelude.{◌≡◌, ◌+◌, ◌*◌, ◌<◌, ◌≤◌, IfSome, IsTrue, length};
+ghost use Rattle.h5_model.specs.Format.Limits.{most_chunk_bytes};
 ghost use Rattle.h5_model.specs.Tree.Places.{cells as cells_of};
 ghost use Rattle.h5_chunks.specs.Shapes.{AreChunkSizes};
 ghost use Rattle.h5_layout.specs.ChunkCells.{AreBeside, Grid, IsGrid, chunk_of, place_in_chunk};
@@ -112,7 +113,7 @@ impl ChunkIndex {
     pub(crate) fn new(dims: &Dims, chunk_sizes: &ChunkSizes<'_>, size: u64, root: u64) -> Self
         requires rank { length chunk_sizes.now ≡ length dims.now }
         requires cell { 1 ≤ size }
-        requires small { cells_of chunk_sizes.now * size ≤ 2 ^ 30 }
+        requires small { cells_of chunk_sizes.now * size ≤ most_chunk_bytes }
         ensures exact { result ≡ record {
           sizes = dims.now;
           shape = record { sizes = chunk_sizes.now; bytes = cells_of chunk_sizes.now * size };

@@ -1,6 +1,7 @@
 //! Rules on the bodies of a dataset's messages.
 
 ghost use Rattle.std.specs.Prelude.{◌≡◌, ◌-◌, ◌≤◌, ◌^◌, Some, IfOk, IfErr, drop, length, min, ok_or, false, true};
+ghost use Rattle.h5_model.specs.Format.Limits.{most_cells};
 ghost use Rattle.h5_model.specs.Tree.Places.{cells as cells_of, extent_cells};
 ghost use Rattle.h5_model.specs.Format.Extent.{extent_of};
 ghost use Rattle.h5_model.specs.Format.Datatype.{fixed_of};
@@ -23,7 +24,7 @@ const MAX_CHUNK: u128 = 1 << 30;
 /// What a Dataspace message says.
 pub(crate) fn judge_sizes(body: &[u8]) -> Result<Dataspace<'_>, Cause>
     ensures told { IfOk result (λ extent. extent_of body.now ≡ Some extent) }
-    ensures small { IfOk result (λ extent. extent_cells extent.sizes ≤ 2 ^ 40) }
+    ensures small { IfOk result (λ extent. extent_cells extent.sizes ≤ most_cells) }
     ensures refused { IfErr result (λ cause. space_breach (extent_of body.now) ≡ Some cause) }
 {
     let Ok(extent) = read_dataspace(body) else {

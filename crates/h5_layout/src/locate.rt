@@ -1,6 +1,7 @@
 //! Where a cell stands in its chunk, and where the chunk begins (File Format Specification 3.0, section III.A.1).
 
-ghost use Rattle.std.specs.Prelude.{◌≡◌, ◌^◌, ◌<◌, ◌≤◌, length};
+ghost use Rattle.std.specs.Prelude.{◌≡◌, ◌<◌, ◌≤◌, length};
+ghost use Rattle.h5_model.specs.Format.Limits.{most_cells, most_chunk_bytes};
 ghost use Rattle.h5_model.specs.Tree.Grid.{corner_of, inner_of};
 ghost use Rattle.h5_model.specs.Tree.Places.{cells as cells_of, index_of, place_of};
 ghost use Rattle.h5_chunks.specs.Shapes.{AreChunkSizes};
@@ -25,8 +26,8 @@ pub(crate) struct RowInChunk {
 pub(crate) fn row_in_chunk(sizes: &[u64], chunk: &ChunkSizes<'_>, place: u64) -> RowInChunk
     requires rank { length chunk.now ≡ length sizes.now }
     requires sizes { AreChunkSizes chunk.now }
-    requires few { cells_of sizes.now ≤ 2 ^ 40 }
-    requires small { cells_of chunk.now ≤ 2 ^ 30 }
+    requires few { cells_of sizes.now ≤ most_cells }
+    requires small { cells_of chunk.now ≤ most_chunk_bytes }
     requires below { place < cells_of sizes.now }
     ensures first { IsFirstCell sizes.now chunk.now result.corner }
     ensures corner { index_of sizes.now result.corner.place

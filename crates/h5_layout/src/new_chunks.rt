@@ -6,6 +6,7 @@ ghost use Rattle.std.specs.List.{AllByRecursion};
 ghost use Rattle.std.specs.FinMap.{get};
 ghost use Rattle.std.specs.Option.{ForSome};
 ghost use Rattle.h5_model.specs.Format.Layout.{InChunks};
+ghost use Rattle.h5_model.specs.Format.Limits.{most_dimensions};
 ghost use Rattle.h5_model.specs.Views.Selection.{Within};
 ghost use Rattle.h5_shape.specs.PartCells.{part_corner};
 ghost use Rattle.h5_shape.specs.declared.parts.Span.{Span as SpanOfPart};
@@ -63,7 +64,7 @@ fn missing_below(
 ) -> Result<ChunkList, AllocError>
     requires chunks { ForSome root (λ root. AreChunksRead image.now.bytes shape.now root) }
     requires rank { rank ≡ length shape.now.sizes }
-    requires few { rank ≤ 32 }
+    requires few { rank ≤ most_dimensions }
     requires ranks { AllByRecursion (λ (part : List SpanOfPart). length part ≡ rank) parts }
     requires small { shape.now.bytes < 2 ^ 32 }
     ensures { IfOk result (λ missing. missing ≡ record {

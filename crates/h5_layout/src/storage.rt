@@ -5,6 +5,7 @@ ghost use Rattle.std.specs.Prelude.{◌≡◌, ◌↔◌, ℕ, ◌+◌, ◌-◌,
 ghost use Rattle.std.specs.FinMap.{empty, get};
 ghost use Rattle.h5_model.specs.Format.Fixed.{fits};
 ghost use Rattle.h5_model.specs.Format.Layout.{InBlock, InChunks};
+ghost use Rattle.h5_model.specs.Format.Limits.{most_bytes, most_chunk_bytes, most_dimensions};
 ghost use Rattle.h5_model.specs.Format.Reached.{level_at, shape_kind};
 ghost use Rattle.h5_model.specs.Format.Superblock.{chunk_k};
 ghost use Rattle.h5_model.specs.Tree.Places.{cells as cells_of};
@@ -87,12 +88,12 @@ pub fn check_storage(
     requires array { IsArrayApart image.now messages.now }
     requires missing { (slab : Slab)
         × IsMissing image.now.bytes (described_in image.now.bytes messages.now) slab missing.now }
-    requires short { length_of image.now.bytes ≤ 2 ^ 31 }
+    requires short { length_of image.now.bytes ≤ most_bytes }
     ensures deep { (result ≡ Err InsertFault.TreeTooDeep)
         ↔ IsDeepFor image.now.bytes (described_in image.now.bytes messages.now) missing.now 0 }
     ensures full { (result ≡ Err (InsertFault.Space SpaceFault.ImageFull))
         ↔ ((IsDeepFor image.now.bytes (described_in image.now.bytes messages.now) missing.now 0 → ⊥)
-        × (2 ^ 31 < length_of image.now.bytes
+        × (most_bytes < length_of image.now.bytes
         + storage_bytes image.now.bytes (described_in image.now.bytes messages.now) missing.now)) }
 {
     match missing {
@@ -114,9 +115,9 @@ pub fn check_storage(
 
 /// Whether the image has room for so many bytes more.
 fn check_room(image: &Image, bytes: u64) -> Result<(), InsertFault>
-    requires short { length_of image.now.bytes ≤ 2 ^ 31 }
+    requires short { length_of image.now.bytes ≤ most_bytes }
     ensures full { (result ≡ Err (InsertFault.Space SpaceFault.ImageFull))
-        ↔ (2 ^ 31 < length_of image.now.bytes + bytes) }
+        ↔ (most_bytes < length_of image.now.bytes + bytes) }
     ensures not_deep { result ≡ Err InsertFault.TreeTooDeep → ⊥ }
 {
     if bytes > MAXIMUM_IMAGE - image.bytes().len() as u64 {
@@ -151,7 +152,7 @@ pub fn make_storage(
     requires array { IsArrayApart image.old messages.now }
     requires missing { (slab : Slab)
         × IsMissing image.old.bytes (described_in image.old.bytes messages.now) slab missing.now }
-    requires short { length_of image.old.bytes ≤ 2 ^ 31 }
+    requires short { length_of image.old.bytes ≤ most_bytes }
     ensures made { OnOk result ((slab : Slab)
         → IsMissing image.old.bytes (described_in image.old.bytes messages.now) slab missing.now
         → IsStorageMade image.old image.new messages.now slab missing.now) }
@@ -166,7 +167,7 @@ pub fn make_storage(
         → result ≡ Err InsertFault.TreeTooDeep }
     ensures full { (result ≡ Err (InsertFault.Space SpaceFault.ImageFull))
         ↔ ((IsDeepFor image.old.bytes (described_in image.old.bytes messages.now) missing.now 0 → ⊥)
-        × (2 ^ 31 < length_of image.old.bytes
+        × (most_bytes < length_of image.old.bytes
         + storage_bytes image.old.bytes (described_in image.old.bytes messages.now) missing.now)) }
     ensures refused { refuses_first image.old.bytes (described_in image.old.bytes messages.now)
         missing.now ≡ true
@@ -201,7 +202,7 @@ fn make_block(
         + cells.now.count * cells.now.fixed.size) }
     ensures space { IfErr result (λ fault. (f : FaultOfSpace) × (fault ≡ InsertFault.Space f)) }
     ensures full { (result ≡ Err (InsertFault.Space SpaceFault.ImageFull))
-        ↔ (2 ^ 31 < length_of image.old.bytes + cells.now.count * cells.now.fixed.size) }
+        ↔ (most_bytes < length_of image.old.bytes + cells.now.count * cells.now.fixed.size) }
     ensures refused { OnErr result (image.new ≡ image.old) }
 {
     // The image is not longer than memory.
@@ -246,7 +247,7 @@ fn make_chunks(
     ensures full { (result ≡ Err (InsertFault.Space SpaceFault.ImageFull))
         ↔ ((IsDeepFor image.old.bytes (described_in image.old.bytes messages.now)
         (missing.Chunks chunks.now new.now) 0 → ⊥)
-        × (2 ^ 31 < length_of image.old.bytes + storage_bytes image.old.bytes
+        × (most_bytes < length_of image.old.bytes + storage_bytes image.old.bytes
         (described_in image.old.bytes messages.now) (missing.Chunks chunks.now new.now))) }
     ensures refused { refuses_first image.old.bytes (described_in image.old.bytes messages.now)
         (missing.Chunks chunks.now new.now) ≡ true → OnErr result (image.new ≡ image.old) }
@@ -264,9 +265,9 @@ fn make_chunks(
 fn room_for(image: &Image, shape: &ChunkShape<'_>, length: u64, new: &ChunkList) -> u64
     requires long { 26 ≤ length_of image.now.bytes }
     requires k { chunk_k image.now.bytes ≤ 32767 }
-    requires few { length_of shape.now.sizes ≤ 32 }
+    requires few { length_of shape.now.sizes ≤ most_dimensions }
     requires length { length ≡ shape.now.bytes }
-    requires small { length ≤ 2 ^ 30 }
+    requires small { length ≤ most_chunk_bytes }
     ensures { result ≡ min (chunks_room image.now.bytes shape.now (length_of new.now.offsets)) (2 ^ 64 - 1) }
 {
     let node = chunk_node_length(image, shape);
@@ -311,7 +312,7 @@ fn add_chunks(
         → result ≡ Err InsertFault.TreeTooDeep }
     ensures full { (result ≡ Err (InsertFault.Space SpaceFault.ImageFull))
         ↔ ((IsFullInTurn image.old.bytes shape.now root new.now.offsets 0 → ⊥)
-        × (2 ^ 31 < length_of image.old.bytes
+        × (most_bytes < length_of image.old.bytes
         + chunks_room image.old.bytes shape.now (length_of new.now.offsets))) }
     ensures refused { (nat_le (length_of new.now.offsets) 1
         || is_low_level (chunk_k image.old.bytes)
@@ -352,7 +353,7 @@ fn make_tree(
     ensures deep { result ≡ Err InsertFault.TreeTooDeep
         → (n : ℕ) × IsFullInNewTree image.old.bytes shape.now new.now.offsets n }
     ensures full { (result ≡ Err (InsertFault.Space SpaceFault.ImageFull))
-        ↔ (2 ^ 31 < length_of image.old.bytes
+        ↔ (most_bytes < length_of image.old.bytes
         + chunks_room image.old.bytes shape.now (length_of new.now.offsets)) }
     ensures refused { (nat_le (length_of new.now.offsets) 1 || is_low_level (chunk_k image.old.bytes) 0)
         ≡ true
@@ -373,7 +374,7 @@ fn name_tree(image: &mut Image, messages: &Messages, shape: &ChunkShape<'_>) -> 
         (described_in image.old.bytes messages.now).fixed shape.now.sizes }
     requires bytes { chunk_node_length image.old.bytes shape.now ≤ image.old.room_bytes }
     requires calls { 1 ≤ image.old.room_blocks }
-    requires short { length_of image.old.bytes + chunk_node_length image.old.bytes shape.now ≤ 2 ^ 31 }
+    requires short { length_of image.old.bytes + chunk_node_length image.old.bytes shape.now ≤ most_bytes }
     ensures named { IsTreeNamed image.old image.new messages.now shape.now result }
     ensures spends { Spends image.old image.new (chunk_node_length image.old.bytes shape.now) 1 }
 {

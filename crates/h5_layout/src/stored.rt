@@ -1,7 +1,8 @@
 //! An array with the image in which its cells stand.
 
-ghost use Rattle.std.specs.Prelude.{◌≡◌, ◌+◌, ◌^◌, ◌<◌, ◌≤◌, false, IfSome, MatchOption, [], ◌∷◌, length};
+ghost use Rattle.std.specs.Prelude.{◌≡◌, ◌+◌, ◌<◌, ◌≤◌, false, IfSome, MatchOption, [], ◌∷◌, length};
 ghost use Rattle.h5_model.specs.Edits.Refusal.{is_chunked};
+ghost use Rattle.h5_model.specs.Format.Limits.{most_cells};
 ghost use Rattle.h5_model.specs.Tree.Objects.{Chunked};
 ghost use Rattle.h5_model.specs.Tree.Places.{IsInside, cells as cells_of};
 ghost use Rattle.h5_model.specs.Scripts.Reading.{cell_at};
@@ -242,7 +243,7 @@ impl<'a> StoredArray<'a> {
 fn single_run(slab: &Slab<'_>, dims: &Dims) -> Option<CellRun>
     requires rank { length dims.now ≡ length slab.now }
     requires within { Within dims.now slab.now }
-    requires small { cells_of dims.now ≤ 2 ^ 40 }
+    requires small { cells_of dims.now ≤ most_cells }
     ensures { MatchOption result (is_one_run dims.now slab.now ≡ false) (λ run.
         cell_runs (selection_of dims.now slab.now) ≡ run ∷ []) }
 {

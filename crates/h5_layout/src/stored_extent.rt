@@ -4,6 +4,7 @@
 ghost use Rattle.std.specs.Prelude.{◌≡◌, ◌<◌, ◌≤◌, Some, length, slice_get, slice_index};
 ghost use Rattle.h5_model.specs.Edits.Refusal.{is_chunked};
 ghost use Rattle.h5_model.specs.Format.Described.{Described, HasArray, storage_of};
+ghost use Rattle.h5_model.specs.Format.Limits.{most_dimensions};
 ghost use Rattle.h5_layout.specs.StoredExtent.{stored_extent};
 ghost use Rattle.h5_layout.specs.Told.{array_told};
 
@@ -40,7 +41,7 @@ impl<'a> ArrayExtent<'a> {
     pub fn rank(&self) -> usize
         ensures sizes { result ≡ length self.now.sizes }
         ensures maxima { result ≡ length self.now.maxima }
-        ensures most { result ≤ 32 }
+        ensures most { result ≤ most_dimensions }
     {
         self.extent.rank()
     }

@@ -2,6 +2,7 @@
 //! IV.A.2.i).
 
 ghost use Rattle.std.specs.Prelude.{◌≡◌, ℕ, ◌+◌, ◌^◌, ◌<◌, ◌≤◌, Ok, Some, IfOk, [], ◌∷◌, length};
+ghost use Rattle.h5_model.specs.Format.Limits.{most_dimensions};
 ghost use Rattle.h5_model.specs.Tree.Places.{cells as cells_of};
 ghost use Rattle.h5_layout.specs.ArrayChunks.{IsChunked};
 ghost use Rattle.h5_layout.specs.Data.{AreDataRead};
@@ -130,7 +131,7 @@ fn one_chunk(
 ) -> Result<ChunkList, AllocError>
     requires rank { length offsets.now ≡ length shape.now.sizes }
     requires small { shape.now.bytes < 2 ^ 32 }
-    requires few { length offsets.now ≤ 32 }
+    requires few { length offsets.now ≤ most_dimensions }
     ensures { IfOk result (λ new. new ≡ record {
       rank = length shape.now.sizes;
       bytes = shape.now.bytes;

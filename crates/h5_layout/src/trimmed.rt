@@ -7,6 +7,7 @@ ghost use Rattle.h5_bytes.specs.Bytes.{part};
 ghost use Rattle.h5_model.specs.Edits.Refusal.{is_chunked};
 ghost use Rattle.h5_model.specs.Format.Chunks.{offsets_in};
 ghost use Rattle.h5_model.specs.Format.Described.{storage_of};
+ghost use Rattle.h5_model.specs.Format.Limits.{most_dimensions};
 ghost use Rattle.h5_chunks.specs.Read.{AreChunksRead};
 ghost use Rattle.h5_chunks.specs.Told.{chunks_told};
 ghost use Rattle.h5_space.specs.Lending.{with_bytes_at};
@@ -145,7 +146,7 @@ fn trim_chunk(image: &mut Image, array: &ChunkedArray, root: u64, sizes: &[u64],
 
 /// Writes the offsets of a key.
 fn write_offsets(key: &[u8], offsets: &mut [u64])
-    requires few { length offsets.old ≤ 32 }
+    requires few { length offsets.old ≤ most_dimensions }
     requires long { length key.now ≡ length_of_key (length offsets.old) }
     ensures { offsets.new ≡ offsets_in (length offsets.old) key.now }
 {

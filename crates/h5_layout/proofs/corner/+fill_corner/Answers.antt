@@ -1,7 +1,8 @@
-use Rattle.std.proofs.Common.{rules, ◌≡◌, ℕ, ◌-◌, ◌*◌, ◌+◌, ◌/◌, ◌≤◌, ◌^◌, ℤ, List, length, get_or, drop, replicate, to_z, of_z, refl, sym, ap, ◌∙◌, subst, arith}
+use Rattle.std.proofs.Common.{rules, ◌≡◌, ℕ, ◌-◌, ◌*◌, ◌+◌, ◌/◌, ◌≤◌, ℤ, List, length, get_or, drop, replicate, to_z, of_z, refl, sym, ap, ◌∙◌, subst, arith}
 use mir.Syntax.{w128}
 use borrow.Rule.Slice.PartMut.{put_mid}
 use Rattle.h5_model.specs.Format.Fixed.{Fixed, IsFixed}
+use Rattle.h5_model.specs.Format.Limits.{most_chunk_bytes}
 use Rattle.h5_model.specs.Format.Plain.{cells_bytes}
 use Rattle.h5_msg.proofs.ValueBytes.{AreBytes, AreBytes-drop, AreBytes-take}
 use Rattle.h5_layout.specs.Kept.{corner_values}
@@ -56,7 +57,7 @@ fill_corner-requires t c =
             inner_kept f v spans bytes sound some c.requires.spans c.requires.long,
             (
               ap length still ∙ length-slice f v spans bytes sound some c.requires.spans c.requires.long i c.loop-i-test.true,
-              subst (λ (xs : List ℕ). length xs ≤ 2 ^ 30) (sym still) small,
+              subst (λ (xs : List ℕ). length xs ≤ most_chunk_bytes) (sym still) small,
             ),
           ),
         ),

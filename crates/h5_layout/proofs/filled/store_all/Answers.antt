@@ -1,10 +1,11 @@
-use Rattle.std.proofs.Common.{◌≡◌, ℕ, [], ◌+◌, ◌*◌, ◌^◌, ◌≤◌, length, sym, ap, ◌∙◌, subst, arith}
+use Rattle.std.proofs.Common.{◌≡◌, ℕ, [], ◌+◌, ◌*◌, ◌≤◌, length, sym, ap, ◌∙◌, subst, arith}
 use Rattle.std.specs.Prelude.{slice_index_or}
 use Rattle.std.specs.FinMap.{get}
 use Rattle.h5_model.specs.Format.Chunks.{offsets_in}
 use Rattle.h5_space.specs.Moves.{Spends}
 use Rattle.h5_space.proofs.MovesLaws.{spends_none, spends_then, spends_within}
 use Rattle.h5_model.proofs.KLaws.{same_chunk}
+use Rattle.h5_model.specs.Format.Limits.{most_bytes}
 use Rattle.h5_chunks.specs.Bushy.{is_low_level}
 use Rattle.h5_chunks.specs.Told.{chunks_told}
 use Rattle.h5_chunks.specs.Edited.{IsFullAt, store_room}
@@ -52,7 +53,7 @@ returns-then-is_full_at-clause-low c low is_low bushy =
     let room = store_room c.args.image.now.bytes s in
     let more = turn_room (length c.args.new.now.offsets) c.loop-k.k room (omega arith) in
     let grown = c.loop-k.invariant.spends.grown in
-    let short : length now.bytes ≤ 2 ^ 31 = omega (arith, more, grown, c.requires.short) in
+    let short : length now.bytes ≤ most_bytes = omega (arith, more, grown, c.requires.short) in
     let k = same_chunk now.bytes c.args.image.now.bytes c.loop-k.invariant.filled.k in
     never_full now s c.args.root low _ c.loop-k.invariant.filled.stand c.requires.storable short (ap (λ n. is_low_level n low) k ∙ is_low)
     (c.loop-k.invariant.filled.bushy low bushy) (c.is_full_at.ensures.0 c.if-is_full_at.true)

@@ -1,7 +1,8 @@
-use Rattle.std.proofs.Common.{rules, ◌≡◌, ◌≤◌, ◌^◌, Some, length, sym, ap, to_z, of_z, arith}
+use Rattle.std.proofs.Common.{rules, ◌≡◌, ◌≤◌, Some, length, sym, ap, to_z, of_z, arith}
 use Rattle.std.proofs.lemmas.Result.{err_from_is_err_and}
 use mir.Syntax.{w128}
 use Rattle.h5_model.specs.Format.Datatype.{fixed_of}
+use Rattle.h5_model.specs.Format.Limits.{most_cells}
 use Rattle.h5_model.specs.Format.Reached.{extent_among, type_among}
 use Rattle.h5_model.specs.Tree.Places.{extent_cells}
 use Rattle.h5_msg.specs.Layouts.{layout_in}
@@ -22,7 +23,7 @@ returns-in_err-layout-clause-first c =
 pub invariant_of-result : goal.invariant_of-result
 invariant_of-result c =
     let passed : to_z w128 (of_z w128 c.in_ok-fill.fill) ≡ c.in_ok-fill.fill = search rules in
-    let small : extent_cells c.dims-dims.result ≤ 2 ^ 40 = rw c.dims-dims.ensures c.in_ok-extent.ensures.small in (
+    let small : extent_cells c.dims-dims.result ≤ most_cells = rw c.dims-dims.ensures c.in_ok-extent.ensures.small in (
       sym (ap length c.dims-dims.ensures),
       rw passed c.in_ok-fill.ensures.of_type,
       record {

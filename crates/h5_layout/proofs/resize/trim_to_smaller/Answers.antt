@@ -1,5 +1,6 @@
 use Rattle.std.proofs.Common.{◌≡◌, ◌≤◌, ℕ, List, length, replicate, take, sym, ap, ◌∙◌, arith}
 use Rattle.std.proofs.lemmas.List.{length-take}
+use Rattle.h5_model.specs.Format.Limits.{most_dimensions}
 use Rattle.h5_space.specs.Space.{Space}
 use Rattle.h5_header.specs.Listed.{Listed, messages_in}
 use Rattle.h5_layout.specs.ArrayEdits.{IsArrayApart, described_in}
@@ -12,7 +13,7 @@ use Rattle.h5_layout.proofs.resize.trim_to_smaller.Goals as goal
 fitting : (n : ℕ) → n ≤ 32 → length {A = ℕ} (take n (replicate 32 0)) ≡ n
 fitting n few = length-take {A = ℕ} n (replicate 32 0) ∙ omega (arith, few)
 
-few : (s : Space) (m : Listed) → IsArrayApart s m → (sizes : List ℕ) → CanHaveSizes (described_in s.bytes m) sizes → length sizes ≤ 32
+few : (s : Space) (m : Listed) → IsArrayApart s m → (sizes : List ℕ) → CanHaveSizes (described_in s.bytes m) sizes → length sizes ≤ most_dimensions
 few s m was sizes can = omega (arith, can.ranked, few_sizes (messages_in s.bytes m.list) (described_in s.bytes m) was.array)
 
 pub slice_bounds-room-end : goal.slice_bounds-room-end

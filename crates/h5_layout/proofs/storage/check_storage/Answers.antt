@@ -1,5 +1,6 @@
-use Rattle.std.proofs.Common.{◌≡◌, ◌^◌, ◌≤◌, Some, sym, ◌∙◌, subst, arith}
+use Rattle.std.proofs.Common.{◌≡◌, ◌≤◌, Some, sym, ◌∙◌, subst, arith}
 use Rattle.std.proofs.Math.Nat.{mul-le-mul_right}
+use Rattle.h5_model.specs.Format.Limits.{most_cells}
 use Rattle.h5_model.specs.Format.Reached.{Shape}
 use Rattle.h5_model.specs.Format.Described.{Described}
 use Rattle.h5_model.proofs.PlainValues.{size-high}
@@ -18,7 +19,7 @@ overflow_mul-cells c =
     let a : Described = described_in c.args.image.now.bytes c.args.messages.now in
     let few = cells_le a.sizes in
     let small = c.requires.array.array.small in
-    let count : c.copied_cells-cells.result.count ≤ 2 ^ 40 = omega (arith, few, small, c.copied_cells-cells.ensures.count) in
+    let count : c.copied_cells-cells.result.count ≤ most_cells = omega (arith, few, small, c.copied_cells-cells.ensures.count) in
     let low = size-high c.copied_cells-cells.result.fixed c.size.ensures.one_of in
     let most = mul-le-mul_right c.size.result count in
     omega (arith, most, low, c.size.ensures.size)

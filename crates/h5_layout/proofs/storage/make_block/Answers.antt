@@ -1,4 +1,4 @@
-use Rattle.std.proofs.Common.{◌≡◌, ℕ, ◌+◌, ◌*◌, ◌^◌, ◌≤◌, List, ℤ, [], ◌∷◌, length, length-append, replicate, true, inl, inr, refl, sym, ap, ◌∙◌, subst, arith}
+use Rattle.std.proofs.Common.{◌≡◌, ℕ, ◌+◌, ◌*◌, ◌≤◌, List, ℤ, [], ◌∷◌, length, length-append, replicate, true, inl, inr, refl, sym, ap, ◌∙◌, subst, arith}
 use Rattle.std.proofs.Math.Nat.{mul-le-mul_right}
 use Rattle.std.proofs.lemmas.Bool.{cases_lt}
 use Rattle.std.proofs.lemmas.List.{length-replicate}
@@ -7,6 +7,7 @@ use Rattle.h5_bytes.specs.Blocks.{block}
 use Rattle.h5_header.specs.Listed.{messages_in}
 use Rattle.h5_model.specs.Format.Fixed.{Fixed, fits}
 use Rattle.h5_model.specs.Format.Described.{Described}
+use Rattle.h5_model.specs.Format.Limits.{most_bytes, most_cells}
 use Rattle.h5_model.specs.Tree.Places.{cells}
 use Rattle.h5_model.proofs.PlainValues.{size-high}
 use Rattle.h5_space.specs.Space.{Space, growth}
@@ -29,7 +30,7 @@ overflow_mul-length c =
     let a : Described = described_in c.args.image.now.bytes c.args.messages.now in
     let few = cells_le a.sizes in
     let small = c.requires.array.array.small in
-    let count : c.args.cells.now.count ≤ 2 ^ 40 = omega (arith, few, small, c.requires.count) in
+    let count : c.args.cells.now.count ≤ most_cells = omega (arith, few, small, c.requires.count) in
     let low = size-high c.args.cells.now.fixed c.size.ensures.one_of in
     let most = mul-le-mul_right c.size.result count in
     omega (arith, most, low, c.size.ensures.size)
@@ -72,8 +73,8 @@ module _ (c : After-fill_taken) where
       block_filled old c.reserve.new.self c.take-at.new.self now _ _ c.in_default.ensures.ok at len c.take-at.ensures.bytes c.take-at.ensures.taken c.take-at.ensures.inside
       (cells_of_fill to.fixed to.fill to.count) long c.fill_taken.ensures
 
-  few : length old.bytes + len ≤ 2 ^ 31
-  few = elim (cases_lt (2 ^ 31) (length old.bytes + len)) [
+  few : length old.bytes + len ≤ most_bytes
+  few = elim (cases_lt most_bytes (length old.bytes + len)) [
     | inl more ↦ absurd (c.in_default.not-Err _ (c.reserve.ensures.full.1 more))
     | inr fits ↦ fits
   ]

@@ -1,4 +1,4 @@
-use Rattle.std.proofs.Common.{◌≡◌, ◌↔◌, ℕ, ◌+◌, ◌*◌, ◌^◌, ◌<◌, true, List, [], length, Option, Some, None, refl, sym, ap, ◌∙◌, subst}
+use Rattle.std.proofs.Common.{◌≡◌, ◌↔◌, ℕ, ◌+◌, ◌*◌, ◌<◌, true, List, [], length, Option, Some, None, refl, sym, ap, ◌∙◌, subst}
 use Rattle.std.specs.Prelude.{Err, slice_index_or}
 use Rattle.std.specs.FinMap.{empty, get}
 use Rattle.std.proofs.lemmas.Result.{IfOk-weaker}
@@ -8,6 +8,7 @@ use Rattle.h5_header.specs.Listed.{Listed, messages_in}
 use Rattle.h5_model.specs.Format.Chunks.{Chunks}
 use Rattle.h5_model.specs.Format.Fixed.{Fixed, IsFixed, fits}
 use Rattle.h5_model.specs.Format.Layout.{InChunks, Layout}
+use Rattle.h5_model.specs.Format.Limits.{most_bytes}
 use Rattle.h5_model.specs.Format.Reached.{Shape}
 use Rattle.h5_model.specs.Format.Described.{Described}
 use Rattle.h5_model.specs.Tree.Places.{cells}
@@ -155,9 +156,9 @@ returns-in-Some-clause-full c =
     let root = c.in-Some.root in
     let all = c.args.new.now.offsets in
     let fault : InsertFault = InsertFault.Space SpaceFault.ImageFull in
-    subst (λ (l : Layout). (c.add_chunks.result ≡ Err fault) ↔ ((IsDeepIn (image d) (a d) all 0 l → ⊥) × (2 ^ 31 < length (image d) + chunks_room_in (image d) (a d) (length all) l)))
+    subst (λ (l : Layout). (c.add_chunks.result ≡ Err fault) ↔ ((IsDeepIn (image d) (a d) all 0 l → ⊥) × (most_bytes < length (image d) + chunks_room_in (image d) (a d) (length all) l)))
     (sym (laid d (Some root) c.in-Some.is))
-    (subst (λ (s : Shape). (c.add_chunks.result ≡ Err fault) ↔ ((IsFullInTurn (image d) s root all 0 → ⊥) × (2 ^ 31 < length (image d) + chunks_room (image d) s (length all)))) (shape d)
+    (subst (λ (s : Shape). (c.add_chunks.result ≡ Err fault) ↔ ((IsFullInTurn (image d) s root all 0 → ⊥) × (most_bytes < length (image d) + chunks_room (image d) s (length all)))) (shape d)
     c.add_chunks.ensures.full)
 
 pub returns-in-None-clause-made : goal.returns-in-None-clause-made

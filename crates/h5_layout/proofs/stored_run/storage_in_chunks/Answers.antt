@@ -1,10 +1,11 @@
-use Rattle.std.proofs.Common.{◌≡◌, ℕ, ◌+◌, ◌*◌, ◌^◌, ◌<◌, ◌≤◌, List, [], ◌∷◌, length, Option, None, Some, refl, sym, ap, ◌∙◌, subst, arith}
+use Rattle.std.proofs.Common.{◌≡◌, ℕ, ◌+◌, ◌*◌, ◌<◌, ◌≤◌, List, [], ◌∷◌, length, Option, None, Some, refl, sym, ap, ◌∙◌, subst, arith}
 use Rattle.std.specs.Prelude.{Ok}
 use Rattle.std.specs.FinMap.{get}
 use Rattle.std.proofs.Math.Nat.{mul-le-mul_right}
 use Rattle.h5_model.specs.Format.Chunks.{Chunks}
 use Rattle.h5_model.specs.Format.Fixed.{Fixed}
 use Rattle.h5_model.specs.Format.Layout.{InChunks}
+use Rattle.h5_model.specs.Format.Limits.{most_cells}
 use Rattle.h5_model.specs.Format.Reached.{Shape}
 use Rattle.h5_msg.specs.Layouts.{layout_in}
 use Rattle.h5_model.specs.Format.Described.{Described}
@@ -147,5 +148,5 @@ returns-in_err-new-clause-one c at one there =
 
 pub row_in_chunk-row-requires-clause-few : goal.row_in_chunk-row-requires-clause-few
 row_in_chunk-row-requires-clause-few c =
-    subst (λ (ns : List ℕ). cells ns ≤ 2 ^ 40) (sym c.sizes-sizes.ensures.numbers)
+    subst (λ (ns : List ℕ). cells ns ≤ most_cells) (sym c.sizes-sizes.ensures.numbers)
     (few_cells c.args.array.now.sizes c.dims.result.now c.args.array.now c.dims.ensures.sizes c.dims.ensures.sound)

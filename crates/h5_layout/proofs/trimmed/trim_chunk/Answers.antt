@@ -5,6 +5,7 @@ use Rattle.std.proofs.lemmas.List.{length-take}
 use Rattle.std.proofs.lemmas.Option.{same_Some}
 use Rattle.h5_bytes.specs.Bytes.{part}
 use Rattle.h5_model.specs.Format.Chunks.{offsets_in}
+use Rattle.h5_model.specs.Format.Limits.{most_dimensions}
 use Rattle.h5_model.specs.Format.Plain.{cells_bytes}
 use Rattle.h5_space.specs.Lending.{with_bytes_at}
 use Rattle.h5_chunks.specs.Told.{chunks_told}
@@ -18,7 +19,7 @@ use Rattle.h5_layout.proofs.trimmed.trim_chunk.Goals as goal
 use Rattle.h5_layout.proofs.trimmed.trim_chunk.Goals.{In-Some}
 
 -- the offsets of the key, in room for the most that there are
-offsets_are : (chunk lent room new key : List ℕ) → lent ≡ chunk → length chunk ≤ 32 → length room ≡ 32 → new ≡ offsets_in (length (take (length lent) room)) key
+offsets_are : (chunk lent room new key : List ℕ) → lent ≡ chunk → length chunk ≤ most_dimensions → length room ≡ 32 → new ≡ offsets_in (length (take (length lent) room)) key
     → new ≡ offsets_in (length chunk) key
 offsets_are chunk lent room new key same few wide is =
     is ∙ ap (λ n. offsets_in n key) (length-take (length lent) room ∙ omega (arith, few, wide, ap length same))

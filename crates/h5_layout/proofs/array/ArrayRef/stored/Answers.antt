@@ -5,6 +5,7 @@ use Rattle.h5_shape.proofs.Products.{cells_le}
 use Rattle.h5_model.proofs.PlainValues.{size-high}
 use Rattle.h5_model.specs.Format.Fixed.{IsFixed}
 use Rattle.h5_model.specs.Format.Described.{Described, described_dataset}
+use Rattle.h5_model.specs.Format.Limits.{most_cells}
 use Rattle.h5_model.specs.Tree.Places.{cells}
 use Rattle.h5_layout.specs.Stored.{AreStored, IsArray, data_in}
 use Rattle.h5_layout.proofs.RoomLaws.{few}
@@ -36,7 +37,7 @@ whole c =
 
 pub overflow_mul-result : goal.overflow_mul-result
 overflow_mul-result c =
-    let few : c.cells-cells.result ≤ 2 ^ 40 = omega (arith, counted (goal.at.overflow_mul-result c).After-size, cells_le c.args.self.now.sizes, (sound (goal.at.overflow_mul-result c).After-size).small) in
+    let few : c.cells-cells.result ≤ most_cells = omega (arith, counted (goal.at.overflow_mul-result c).After-size, cells_le c.args.self.now.sizes, (sound (goal.at.overflow_mul-result c).After-size).small) in
     let small : c.size.result ≤ 8 = omega (arith, c.size.ensures.size, size-high c.self.inside.fixed c.size.ensures.one_of) in
     let rows : c.cells-cells.result * c.size.result ≤ c.cells-cells.result * 8 = mul-le-mul_left c.cells-cells.result small in
     omega (arith, rows, few)

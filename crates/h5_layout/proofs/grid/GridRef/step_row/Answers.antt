@@ -1,4 +1,4 @@
-use Rattle.std.proofs.Common.{refl}
+use Rattle.std.proofs.Common.{refl, arith}
 use Rattle.h5_model.specs.Tree.Places.{index_of}
 use Rattle.h5_layout.proofs.NextRows.{step_count}
 use Rattle.h5_layout.proofs.grid.GridRef.step_row.Goals as goal
@@ -6,6 +6,6 @@ use Rattle.h5_layout.proofs.grid.GridRef.step_row.Goals as goal
 pub next_number-requires : goal.next_number-requires
 next_number-requires c =
     let row = c.args.row.now in
-    let has = c.if-not-goes_on.ensures refl in
-    step_count c.args.self.now c.requires.grid row (c.requires.row has.some) c.args.place c.requires.below has
+    let has = c.if-not-goes_on.ensures.next refl in
+    step_count c.args.self.now c.requires.grid row (c.requires.row has.some) (omega (arith, c.requires.below, c.if-not-goes_on.ensures.since refl)) has
     (index_of c.args.self.now.sizes c.args.beside.now.first.place) row.number c.requires.number
