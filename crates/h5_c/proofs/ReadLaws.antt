@@ -6,6 +6,7 @@ use Rattle.h5_model.proofs.PlainValues.{length-cells_bytes}
 use Rattle.h5_file.specs.DatasetAt.{IsDatasetAt}
 use Rattle.h5_file.specs.Selected.{hyper_rules}
 use Rattle.h5_model.specs.Edits.Refusal.{first_holding}
+use Rattle.h5_model.specs.Format.Limits.{most_cells}
 use Rattle.h5_model.specs.Format.Plain.{cells_bytes}
 use Rattle.h5_model.specs.Scripts.Reading.{dataset_rules, selection_rules}
 use Rattle.h5_model.specs.Tree.Objects.{Dataset, Tree}
@@ -18,7 +19,7 @@ use Rattle.h5_query.proofs.RuleLaws.{first-behind}
 use Rattle.h5_query.proofs.SelectionLaws.{asked_of}
 use Rattle.h5_c.specs.Read.{HasRead, HasReadOf, IsCopiedFrom}
 
-module _ (d : Dataset) (slab : Slab) (n size : ℕ) (of : IsSlabOf d.sizes slab) (low : cells d.sizes ≤ 2 ^ 40) (count : n ≡ min (selected_cells slab) (2 ^ 64 - 1)) (width : size ≡ (d.fixed).size) where
+module _ (d : Dataset) (slab : Slab) (n size : ℕ) (of : IsSlabOf d.sizes slab) (low : cells d.sizes ≤ most_cells) (count : n ≡ min (selected_cells slab) (2 ^ 64 - 1)) (width : size ≡ (d.fixed).size) where
   slab_bytes : n * size ≡ length (cells_bytes d.fixed (selected_values d slab))
   slab_bytes =
       let exact : n ≡ selected_cells slab = omega (arith, of.few, low, count) in

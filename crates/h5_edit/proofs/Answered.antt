@@ -1,5 +1,5 @@
 -- What a repack is answered by what was written of the tree.
-use Rattle.std.proofs.Common.{◌≡◌, ℕ, ◌^◌, ◌≤◌, List, length, sym, ap, ◌∙◌, subst, Option, arith}
+use Rattle.std.proofs.Common.{◌≡◌, ℕ, ◌≤◌, List, length, sym, ap, ◌∙◌, subst, Option, arith}
 use Rattle.std.specs.Prelude.{IfOk, IfErr, MatchResult, Result, Ok, Err}
 use Rattle.std.specs.Ordering.{nat_cmp}
 use Rattle.std.specs.FinMap.{FinMap}
@@ -9,6 +9,7 @@ use Rattle.h5_repack.specs.Image.Plain.{ArePlain, IsPlainTree}
 use Rattle.h5_repack.specs.Image.Written.{StoredIn, counts_of, plain_image}
 use Rattle.h5_repack.specs.Image.Written as image
 use Rattle.h5_repack.proofs.ImageLaws.ImageLength.{image_length}
+use Rattle.h5_model.specs.Format.Limits.{most_bytes}
 use Rattle.h5_model.specs.Format.PlainLength.{plain_length}
 use Rattle.h5_model.specs.Format.Superblock.{AreKValues, k_values}
 use Rattle.h5_model.specs.Tree.Objects.{Tree}
@@ -52,11 +53,11 @@ module _ (k : KValues) (stored : StoredIn) (tree : Tree) (are_k : AreKValues k) 
   abbrev bytes : ℕ
   bytes = plain_length k (counts_of stored) tree
 
-  pub short : bytes ≤ 2 ^ 31
+  pub short : bytes ≤ most_bytes
   short =
       let same = image_length k (counts_of stored) tree is.order is.ordered in
       let few = is.few in
-      subst (λ (n : ℕ). n ≤ 2 ^ 31) same few
+      subst (λ (n : ℕ). n ≤ most_bytes) same few
 
   pub length_is : length w.image.items ≡ bytes
   length_is =

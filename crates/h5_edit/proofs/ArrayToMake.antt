@@ -21,6 +21,7 @@ use Rattle.h5_model.specs.Format.Bodies.{padded_body, fill_bytes}
 use Rattle.h5_model.specs.Format.Chunks.{Chunks, HasChunks}
 use Rattle.h5_model.specs.Format.Fixed.{Fixed, IsFixed}
 use Rattle.h5_model.specs.Format.Layout.{Layout, InMessage, InBlock, InChunks}
+use Rattle.h5_model.specs.Format.Limits.{most_bytes}
 use Rattle.h5_model.specs.Format.MessageTypes.{dataspace_kind, data_layout_kind}
 use Rattle.h5_model.specs.Format.Messages.{Message, HasMessages, prefix_at, reference_count, first_size, continuations}
 use Rattle.h5_model.specs.Format.Nodes.{Kind, chunk_kind, node_block, node_length, reading_of, tree_blocks}
@@ -229,7 +230,7 @@ module _ (k : ℕ) (d : Dataset) (is : IsPlainArray d 0) (unstored : AreStoredFo
   long = omega arith
 
   module _ (image : List ℕ) (there : part at (length front) image ≡ front) (data_there : part place (length data_bytes) image ≡ data_bytes)
-      (low : place + length data_bytes ≤ 2 ^ 31) (inside : place + length data_bytes ≤ length image) where
+      (low : place + length data_bytes ≤ most_bytes) (inside : place + length data_bytes ≤ length image) where
     reads : (blocks : List Block) × HasObject image empty at (new_object (Array d)) (block at (header_size (new_object (Array d))) ∷ blocks)
         × (reference_count (prefix_at image at) ≡ 1) × Run place blocks (place + length data_bytes)
     reads =
@@ -309,7 +310,7 @@ module _ (k : ℕ) (d : Dataset) (is : IsPlainArray d 0) (unstored : AreStoredFo
 module _ (f : FileState) (b : ObjectBytes) (spec : Spec) (array : Described) (others : OthersBytes) (sound : IsSoundSpec spec) (fixed : IsFixed spec.fixed)
     (bounds : AllZip IsBound spec.dims spec.maxima) (new : IsNewArray array Filled (new_dataset spec)) (none : AreOthers [] others)
     (header_there : b.header.now ≡ header_written 1 array Filled others (address_written array Filled (object_place f b + length b.header.now)))
-    (content_there : b.content ≡ bytes.Cells spec.fixed spec.fill (new_count array)) (low : object_place f b + length (object_bytes b) ≤ 2 ^ 31) where
+    (content_there : b.content ≡ bytes.Cells spec.fixed spec.fill (new_count array)) (low : object_place f b + length (object_bytes b) ≤ most_bytes) where
   abbrev k : ℕ
   k = chunk_k f.image
 
@@ -379,9 +380,9 @@ module _ (f : FileState) (b : ObjectBytes) (spec : Spec) (array : Described) (ot
 pub array_to_make : (f : FileState) (b : ObjectBytes) (at : ℕ) (spec : Spec) (array : Described) (others : OthersBytes)
     → IsSoundSpec spec → IsFixed spec.fixed → AllZip IsBound spec.dims spec.maxima → IsNewArray array Filled (new_dataset spec) → AreOthers [] others
     → b.header.now ≡ header_written 1 array Filled others (address_written array Filled (at + length b.header.now))
-    → b.content ≡ bytes.Cells spec.fixed spec.fill (new_count array) → at ≡ object_place f b → at + length (object_bytes b) ≤ 2 ^ 31
+    → b.content ≡ bytes.Cells spec.fixed spec.fill (new_count array) → at ≡ object_place f b → at + length (object_bytes b) ≤ most_bytes
     → IsToBeMade f b (new_object (Array (new_dataset spec)))
 array_to_make f b at spec array others sound fixed bounds new none header content place low =
     made f b spec array others sound fixed bounds new none
     (subst (λ p. b.header.now ≡ header_written 1 array Filled others (address_written array Filled (p + length b.header.now))) place header) content
-    (subst (λ p. p + length (object_bytes b) ≤ 2 ^ 31) place low)
+    (subst (λ p. p + length (object_bytes b) ≤ most_bytes) place low)

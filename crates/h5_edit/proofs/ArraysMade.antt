@@ -8,6 +8,7 @@ use Rattle.h5_model.specs.Edits.Applied.{new_dataset, new_object}
 use Rattle.h5_model.specs.Edits.Bounds.{contiguous_data, new_header}
 use Rattle.h5_model.specs.Format.Fixed.{IsFixed}
 use Rattle.h5_model.specs.Format.Described.{Described}
+use Rattle.h5_model.specs.Format.Limits.{most_bytes}
 use Rattle.h5_model.specs.Tree.Objects.{Object, Array}
 use Rattle.h5_model.specs.Tree.Places.{cells}
 use Rattle.h5_model.specs.declared.dataset.Spec.{Spec}
@@ -39,7 +40,7 @@ use Rattle.h5_edit.proofs.NewObjects.{filled_data, new_data_length, new_header_l
 use Rattle.h5_edit.proofs.ObjectsMade.{IsObjectAdded, object_asked, object_made}
 
 -- where the cells stand, if they stand anywhere
-pub address_low : (array : Described) (place : ℕ) (address : Option ℕ) → address ≡ address_written array Filled place → place ≤ 2 ^ 31 → (at : ℕ) → address ≡ Some at → at < 2 ^ 64 - 1
+pub address_low : (array : Described) (place : ℕ) (address : Option ℕ) → address ≡ address_written array Filled place → place ≤ most_bytes → (at : ℕ) → address ≡ Some at → at < 2 ^ 64 - 1
 address_low array place address is low at here = by_test (has_data array Filled) (sym is ∙ here) where
   by_test : (b : Bool) → (if b then Some place else None) ≡ Some at → at < 2 ^ 64 - 1
   by_test true same = let one : place ≡ at = cc in omega (arith, one, low)
@@ -78,7 +79,7 @@ module _ (f : FileState) {path : List ℕ} {spec : Spec} {place : NewPlace} (pla
 
       -- where it stands, and its bytes
       module _ (sound : IsSound f) (b : ObjectBytes) (at count : ℕ) (address : Option ℕ) (before out : List ℕ)
-          (stands : (long : ℕ) → IsLength rest long → (at ≡ place_in f (header + long)) × (at + (header + long) ≤ 2 ^ 31)) (address_is : address ≡ address_written array Filled (at + header))
+          (stands : (long : ℕ) → IsLength rest long → (at ≡ place_in f (header + long)) × (at + (header + long) ≤ most_bytes)) (address_is : address ≡ address_written array Filled (at + header))
           (empty : before ≡ []) (written : out ≡ before ++ header_written 1 array Filled others address) (head : b.header.now ≡ out) (counted : count ≡ new_count array)
           (content : b.content ≡ bytes.Cells spec.fixed spec.fill count) where
         own_header : b.header.now ≡ header_written 1 array Filled others address
@@ -98,7 +99,7 @@ module _ (f : FileState) {path : List ℕ} {spec : Spec} {place : NewPlace} (pla
             let there = stands (contiguous_data spec) data_is in
             array_to_make f b at spec array others formed fixed bounds new none
             (own_header ∙ ap (header_written 1 array Filled others) (address_is ∙ ap (λ n. address_written array Filled (at + n)) behind)) own_content
-            (there.0 ∙ ap (place_in f) (array_counted ∙ sym whole)) (subst (λ n. at + n ≤ 2 ^ 31) (array_counted ∙ sym whole) there.1)
+            (there.0 ∙ ap (place_in f) (array_counted ∙ sym whole)) (subst (λ n. at + n ≤ most_bytes) (array_counted ∙ sym whole) there.1)
 
         pub array_good : (o : Object) × IsToBeMade f b o × IsSoundTree (tree_with f.tree place.parent place.name.now f.next o)
         array_good = object_asked f sound placed (inl refl) (new_object (Array (new_dataset spec))) (new_header spec + contiguous_data spec) refl (λ table n. array_edit f table n placed) b whole made

@@ -1,6 +1,6 @@
 -- Attributes set and removed in place: what decides whether they are refused, and what they make of an opened image (File Format
 -- Specification 3.0, sections IV.A.1.a and IV.A.2.m).
-use Rattle.std.proofs.Common.{◌≡◌, ℕ, Bool, ◌+◌, ◌<◌, ◌≤◌, ◌^◌, List, [], ◌∷◌, length, refl, sym, ap, ◌∙◌, subst, true, false, Option, Some, None, nat_lt, arith}
+use Rattle.std.proofs.Common.{◌≡◌, ℕ, Bool, ◌+◌, ◌<◌, ◌≤◌, List, [], ◌∷◌, length, refl, sym, ap, ◌∙◌, subst, true, false, Option, Some, None, nat_lt, arith}
 use Rattle.std.proofs.lemmas.Bool.Decides.{nat_tests}
 use Rattle.std.specs.Option.{option_and_then, option_map, option_map_or}
 use Rattle.std.specs.FinMap.{contains_key, get, insert, remove}
@@ -13,6 +13,7 @@ use Rattle.h5_model.specs.Edits.ImageAnswers.{Facts}
 use Rattle.h5_model.specs.Edits.Refusal.{has_no_attribute, refusal_of, rules_of}
 use Rattle.h5_model.proofs.RefusalLaws.{none_holds}
 use Rattle.h5_model.specs.Edits.Touched.{touched_by}
+use Rattle.h5_model.specs.Format.Limits.{most_bytes}
 use Rattle.h5_model.specs.Format.Messages.{prefix_at, total_in}
 use Rattle.h5_model.specs.Format.Sizes.{attribute_size}
 use Rattle.h5_model.specs.Format.Superblock.{leaf_k, internal_k, chunk_k}
@@ -75,13 +76,13 @@ module _ (f : FileState) (path : List ℕ) where
     pub set_full : is_total_full f path ≡ true → IsGivenInPlace f set (Some fault.HeaderFull)
     set_full many = (facts_of, are_facts, many)
 
-    pub set_long : is_total_full f path ≡ false → 2 ^ 31 < length f.image + attribute_bound attr → IsGivenInPlace f set (Some fault.ImageFull)
+    pub set_long : is_total_full f path ≡ false → most_bytes < length f.image + attribute_bound attr → IsGivenInPlace f set (Some fault.ImageFull)
     set_long few long = (facts_of, are_facts, (few, grind (arith, nat_tests, long, bound)))
 
-    pub set_given : is_total_full f path ≡ false → length f.image + attribute_bound attr ≤ 2 ^ 31 → IsGivenInPlace f set None
+    pub set_given : is_total_full f path ≡ false → length f.image + attribute_bound attr ≤ most_bytes → IsGivenInPlace f set None
     set_given few short = (facts_of, are_facts, (few, grind (arith, nat_tests, short, bound)))
 
-  pub remove_given : (name : List ℕ) → length f.image ≤ 2 ^ 31 → IsGivenInPlace f (RemoveAttr path name) None
+  pub remove_given : (name : List ℕ) → length f.image ≤ most_bytes → IsGivenInPlace f (RemoveAttr path name) None
   unfolding bound_of
   remove_given name short = (facts_of, are_facts, (refl, grind (arith, nat_tests, short)))
 
@@ -91,7 +92,7 @@ module _ (f : FileState) (path : List ℕ) where
 module _ (f : FileState) (path : List ℕ) (attr : AttrSpec) (number : ℕ) (at : object_at f.tree path ≡ Some number) (accepted : refusal_of f.tree f.next (SetAttr path attr) ≡ None)
     (len : ℕ) (long : len ≡ pad8 (attribute_size (length attr.name) attr.dims (attr.fixed).size)) (r : Result (Unit {0}) AddFault)
     (header_full : (r ≡ Err add.HeaderFull) ↔ IsTrue (has_full_header f number))
-    (image_full : (r ≡ Err add.ImageFull) ↔ (IsFalse (has_full_header f number) × (2 ^ 31 < length f.image + (32 + len)))) where
+    (image_full : (r ≡ Err add.ImageFull) ↔ (IsFalse (has_full_header f number) × (most_bytes < length f.image + (32 + len)))) where
   abbrev sets : Edit
   sets = SetAttr path attr
 
@@ -100,14 +101,14 @@ module _ (f : FileState) (path : List ℕ) (attr : AttrSpec) (number : ℕ) (at 
 
   pub given_ok : (u : Unit {0}) → r ≡ Ok u → IsGivenInPlace f sets None
   given_ok u ok = by_total (has_full_header f number) refl where
-    by_length : (b : Bool) → nat_lt (2 ^ 31) (length f.image + (32 + len)) ≡ b → has_full_header f number ≡ false → IsGivenInPlace f sets None
+    by_length : (b : Bool) → nat_lt most_bytes (length f.image + (32 + len)) ≡ b → has_full_header f number ≡ false → IsGivenInPlace f sets None
     by_length true past roomy =
         absurd (let never : Ok u ≡ Err add.ImageFull = sym ok ∙ image_full.1 (roomy, grind (arith, nat_tests, past)) in cc)
     by_length false within roomy = set_given f path attr (total_is false roomy) (grind (arith, nat_tests, within, long))
 
     by_total : (b : Bool) → has_full_header f number ≡ b → IsGivenInPlace f sets None
     by_total true full = absurd (let never : Ok u ≡ Err add.HeaderFull = sym ok ∙ header_full.1 full in cc)
-    by_total false roomy = by_length (nat_lt (2 ^ 31) (length f.image + (32 + len))) refl roomy
+    by_total false roomy = by_length (nat_lt most_bytes (length f.image + (32 + len))) refl roomy
 
   pub refused_full : r ≡ Err add.HeaderFull → IsRefused f sets fault.HeaderFull
   refused_full is = record {
@@ -129,7 +130,7 @@ module _ (f : FileState) (path : List ℕ) (attr : AttrSpec) (number : ℕ) (at 
 -- ---- what is made
 
 -- an image has at most 2 GiB
-pub short_image : (f : FileState) → IsSound f → length f.image ≤ 2 ^ 31
+pub short_image : (f : FileState) → IsSound f → length f.image ≤ most_bytes
 short_image f sound =
     let whole = sound.reads.holds.whole in
     let small = sound.reads.holds.superblock.small in

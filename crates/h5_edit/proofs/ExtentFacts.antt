@@ -1,6 +1,6 @@
 -- Other sizes given in place: what decides whether they are refused, and what they make of an opened image (File Format Specification 3.0,
 -- sections IV.A.1.a and IV.A.2.b).
-use Rattle.std.proofs.Common.{◌≡◌, ℕ, Bool, ◌+◌, ◌*◌, ◌<◌, ◌^◌, ◌&&◌, List, [], ◌∷◌, length, refl, sym, ap, ◌∙◌, subst, true, false, Option, Some, nat_lt, arith}
+use Rattle.std.proofs.Common.{◌≡◌, ℕ, Bool, ◌+◌, ◌*◌, ◌<◌, ◌&&◌, List, [], ◌∷◌, length, refl, sym, ap, ◌∙◌, subst, true, false, Option, Some, nat_lt, arith}
 use Rattle.std.proofs.Math.Bool.{not-not}
 use Rattle.std.proofs.lemmas.Bool.Decides.{nat_tests}
 use Rattle.std.specs.Option.{option_and_then, option_map, option_map_or}
@@ -12,6 +12,7 @@ use Rattle.h5_model.specs.Edits.Applied.{with_edit, with_sizes, with_dataset}
 use Rattle.h5_model.specs.Edits.Bounds.{bound_of}
 use Rattle.h5_model.specs.Edits.ImageAnswers.{Facts, is_header_full}
 use Rattle.h5_model.specs.Edits.Touched.{touched_by}
+use Rattle.h5_model.specs.Format.Limits.{most_bytes}
 use Rattle.h5_model.specs.Format.Superblock.{leaf_k, internal_k, chunk_k}
 use Rattle.h5_model.specs.Tree.Objects.{Tree, with_object}
 use Rattle.h5_model.specs.declared.edits.Edit.{Edit}
@@ -64,18 +65,18 @@ module _ (f : FileState) (path dims : List ℕ) (number : ℕ) (at : IsAt f.tree
   -- ---- what the answer of the call says
 
   module _ (r : Result (Unit {0}) AddFault) (header_full : (r ≡ Err add.HeaderFull) ↔ IsTrue (lacks && has_full_header f number))
-      (image_full : (r ≡ Err add.ImageFull) ↔ (IsFalse (lacks && has_full_header f number) × (2 ^ 31 < length f.image + extent_bytes lacks dims))) where
+      (image_full : (r ≡ Err add.ImageFull) ↔ (IsFalse (lacks && has_full_header f number) × (most_bytes < length f.image + extent_bytes lacks dims))) where
     resize_given : (u : Unit {0}) → r ≡ Ok u → IsGivenInPlace f edit None
     resize_given u ok = by_header (lacks && has_full_header f number) refl where
-      by_length : (b : Bool) → nat_lt (2 ^ 31) (length f.image + extent_bytes lacks dims) ≡ b → (lacks && has_full_header f number) ≡ false → IsGivenInPlace f edit None
+      by_length : (b : Bool) → nat_lt most_bytes (length f.image + extent_bytes lacks dims) ≡ b → (lacks && has_full_header f number) ≡ false → IsGivenInPlace f edit None
       by_length true past roomy =
           absurd (let never : Ok u ≡ Err add.ImageFull = sym ok ∙ image_full.1 (roomy, grind (arith, nat_tests, past)) in cc)
       by_length false within roomy =
-          (facts_of, are_facts, (header_is ∙ roomy, ap (λ (n : ℕ). nat_lt (2 ^ 31) (length f.image + n)) bound_is ∙ within))
+          (facts_of, are_facts, (header_is ∙ roomy, ap (λ (n : ℕ). nat_lt most_bytes (length f.image + n)) bound_is ∙ within))
 
       by_header : (b : Bool) → (lacks && has_full_header f number) ≡ b → IsGivenInPlace f edit None
       by_header true full = absurd (let never : Ok u ≡ Err add.HeaderFull = sym ok ∙ header_full.1 full in cc)
-      by_header false roomy = by_length (nat_lt (2 ^ 31) (length f.image + extent_bytes lacks dims)) refl roomy
+      by_header false roomy = by_length (nat_lt most_bytes (length f.image + extent_bytes lacks dims)) refl roomy
 
     pub resize_refused_full : r ≡ Err add.HeaderFull → IsRefused f edit fault.HeaderFull
     resize_refused_full is = record {
@@ -88,10 +89,10 @@ module _ (f : FileState) (path dims : List ℕ) (number : ℕ) (at : IsAt f.tree
     resize_refused_long is =
         let past = image_full.0 is in
         let more = past.1 in
-        let over : nat_lt (2 ^ 31) (length f.image + extent_bytes lacks dims) ≡ true = grind (arith, nat_tests, more) in
+        let over : nat_lt most_bytes (length f.image + extent_bytes lacks dims) ≡ true = grind (arith, nat_tests, more) in
         record {
           given = Some fault.ImageFull;
-          allowed = λ _. (facts_of, are_facts, (header_is ∙ past.0, ap (λ (n : ℕ). nat_lt (2 ^ 31) (length f.image + n)) bound_is ∙ over));
+          allowed = λ _. (facts_of, are_facts, (header_is ∙ past.0, ap (λ (n : ℕ). nat_lt most_bytes (length f.image + n)) bound_is ∙ over));
           answer = rw at.allowed refl;
         }
 

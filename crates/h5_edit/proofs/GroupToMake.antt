@@ -11,6 +11,7 @@ use Rattle.h5_bytes.specs.Bytes.{part}
 use Rattle.h5_model.specs.Edits.Applied.{new_object}
 use Rattle.h5_model.specs.Format.Addresses.{SymbolTable, symbol_table_of}
 use Rattle.h5_model.specs.Format.Bodies.{pair_bytes}
+use Rattle.h5_model.specs.Format.Limits.{most_bytes}
 use Rattle.h5_model.specs.Format.MessageTypes.{symbol_table_kind}
 use Rattle.h5_model.specs.Format.Messages.{Message, first_body, prefix_at, reference_count}
 use Rattle.h5_model.specs.Format.Reads.{HasAttributes}
@@ -91,7 +92,7 @@ group_of_type (bytes.Cells fixed fill count) table is = absurd (cc)
 abbrev table_for : ℕ → ℕ → SymbolTable
 table_for internal at = record { tree = at + 40; heap = at + 40 + group_node internal }
 
-module _ (leaf internal at : ℕ) (k : AreK leaf internal) (low : at + (group_node internal + 160) ≤ 2 ^ 31) where
+module _ (leaf internal at : ℕ) (k : AreK leaf internal) (low : at + (group_node internal + 160) ≤ most_bytes) where
   abbrev tree : ℕ
   tree = at + 40
 
@@ -131,7 +132,7 @@ module _ (leaf internal at : ℕ) (k : AreK leaf internal) (low : at + (group_no
 -- These bytes, cut behind the header, are to be made as a group without links and attributes.
 pub group_to_make : (f : FileState) (b : ObjectBytes) (table : SymbolTable) (leaf internal at : ℕ) (bytes : List ℕ)
     → AreK leaf internal → leaf_k f.image ≡ leaf → internal_k f.image ≡ internal
-    → at ≡ place_in f (group_node internal + 160) → at + (group_node internal + 160) ≤ 2 ^ 31
+    → at ≡ place_in f (group_node internal + 160) → at + (group_node internal + 160) ≤ most_bytes
     → bytes ≡ group_header (at + 40) (at + 40 + group_node internal) [] ++ links_bytes leaf internal (at + 40) []
     → table ≡ record { tree = at + 40; heap = at + 40 + group_node internal }
     → b.header.now ≡ take 40 bytes → content_of b.content ≡ content.Group table → stored_content b.content ≡ drop 40 bytes
@@ -152,7 +153,7 @@ group_to_make f b table leaf internal at bytes k leaf_f internal_f at_is low byt
     let from : object_place f b + length b.header.now ≡ at + 40 = (λ i. place i + (ap length header ∙ short) i) in
     let to : object_place f b + length (object_bytes b) ≡ at + (group_node internal + 160) = (λ i. place i + long i) in
     record {
-      low = subst (λ (n : ℕ). n ≤ 2 ^ 31) (sym to) low;
+      low = subst (λ (n : ℕ). n ≤ most_bytes) (sym to) low;
       of_type = group_of_type b.content (table_for internal at) kept;
       messages = ms;
       header = subst (λ (p : ℕ). IsHeaderBytes b.header.now p ms) (sym place) (subst (λ (bs : List ℕ). IsHeaderBytes bs at ms) (sym header) (listed at tree heap));

@@ -1,5 +1,5 @@
 -- A new group made in place, by the bytes that were written of it (File Format Specification 3.0, sections III.A.1, III.D and IV.A).
-use Rattle.std.proofs.Common.{◌≡◌, inl, ℕ, ◌+◌, ◌-◌, ◌≤◌, ◌^◌, List, [], ◌++◌, length, take, drop, refl, sym, ap, ◌∙◌, arith, subst}
+use Rattle.std.proofs.Common.{◌≡◌, inl, ℕ, ◌+◌, ◌-◌, ◌≤◌, List, [], ◌++◌, length, take, drop, refl, sym, ap, ◌∙◌, arith, subst}
 use Rattle.std.proofs.Math.Seq.{take-length}
 use Rattle.std.proofs.lemmas.List.{length-drop}
 use Rattle.std.specs.FinMap.{empty}
@@ -8,6 +8,7 @@ use Rattle.h5_btree.specs.declared.insertion.InsertFault.{InsertFault}
 use Rattle.h5_laws.specs.Trees.Sound.{IsSoundTree}
 use Rattle.h5_model.specs.Edits.Applied.{new_object}
 use Rattle.h5_model.specs.Format.Addresses.{SymbolTable}
+use Rattle.h5_model.specs.Format.Limits.{most_bytes}
 use Rattle.h5_model.specs.Format.Sizes.{group_node}
 use Rattle.h5_model.specs.Format.Superblock.{leaf_k, internal_k}
 use Rattle.h5_model.specs.Tree.Objects.{Object, Group}
@@ -35,7 +36,7 @@ pub record IsGroupWritten (f : FileState) (b : ObjectBytes) (table : SymbolTable
   pub leaf_is : leaf ≡ leaf_k f.image
   pub internal_is : internal ≡ internal_k f.image
   pub counted : len ≡ group_node internal + 160
-  pub place : (at ≡ place_in f len) × (at + len ≤ 2 ^ 31)
+  pub place : (at ≡ place_in f len) × (at + len ≤ most_bytes)
   pub none : before ≡ []
   pub bytes : out ≡ before ++ (group_header (at + 40) (at + 40 + group_node internal) [] ++ links_bytes leaf internal (at + 40) [])
   pub long : length out ≡ length before + (group_node internal + 160)
@@ -63,7 +64,7 @@ module _ {f : FileState} (sound : IsSound f) {b : ObjectBytes} {table : SymbolTa
   group_written : IsToBeMade f b (new_object (Group empty))
   group_written =
       group_to_make f b table leaf internal at out (rw (is.leaf_is, is.internal_is) ((k_there sound).groups)) (sym is.leaf_is) (sym is.internal_is)
-      (is.place.0 ∙ ap (place_in f) is.counted) (subst (λ n. at + n ≤ 2 ^ 31) is.counted is.place.1)
+      (is.place.0 ∙ ap (place_in f) is.counted) (subst (λ n. at + n ≤ most_bytes) is.counted is.place.1)
       (is.bytes ∙ ap (λ (xs : List ℕ). xs ++ (group_header (at + 40) (at + 40 + group_node internal) [] ++ links_bytes leaf internal (at + 40) [])) is.none) is.table_is header_is is.content
       behind_is
 

@@ -1,6 +1,6 @@
 -- Links made in place, and objects that are made with one: what decides whether they are refused, and what they make of an opened image
 -- (File Format Specification 3.0, sections III.A.1 and III.C).
-use Rattle.std.proofs.Common.{◌≡◌, ℕ, Bool, ◌+◌, ◌*◌, ◌<◌, ◌^◌, ◌&&◌, List, [], ◌∷◌, ◌++◌, length, refl, sym, ap, ap₂, ◌∙◌, subst, true, false, Option, Some, None, nat_lt, inl, inr, arith}
+use Rattle.std.proofs.Common.{◌≡◌, ℕ, Bool, ◌+◌, ◌*◌, ◌<◌, ◌&&◌, List, [], ◌∷◌, ◌++◌, length, refl, sym, ap, ap₂, ◌∙◌, subst, true, false, Option, Some, None, nat_lt, inl, inr, arith}
 use Rattle.std.proofs.lemmas.Bool.Decides.{nat_tests}
 use Rattle.std.specs.Prelude.{◌↔◌, IsSome, IsTrue, MatchResult, OnErr, OnOk, is_some, Result, Ok, Err}
 use Rattle.std.specs.Option.{option_and_then, option_map, option_map_or}
@@ -15,6 +15,7 @@ use Rattle.h5_model.proofs.RefusalLaws.{none_holds}
 use Rattle.h5_model.specs.Edits.Touched.{touched_by}
 use Rattle.h5_model.specs.Format.Addresses.{SymbolTable}
 use Rattle.h5_model.specs.Format.Heap.{segment_block}
+use Rattle.h5_model.specs.Format.Limits.{most_bytes}
 use Rattle.h5_model.specs.Format.Sizes.{group_node, symbol_node, text_span}
 use Rattle.h5_model.specs.Format.Superblock.{leaf_k, internal_k, chunk_k}
 use Rattle.h5_model.specs.Tree.Objects.{Tree, Object, Content, Group, Array, Links, ToObject, Soft, dataset_in, dataset_of, link_in, links_in, links_of}
@@ -221,7 +222,7 @@ module _ (f : FileState) (path : List ℕ) (parent : ℕ) (name : List ℕ) (edi
 
   -- by the answer of the call that puts the link
   module _ (accepted : refusal_of f.tree f.next edit ≡ None) (r : Result (Unit {0}) InsertFault) (deep : (r ≡ Err insertion.TreeTooDeep) ↔ IsFullFor f.image table name)
-      (full : (r ≡ Err (insertion.Space space.ImageFull)) ↔ ((IsFullFor f.image table name → ⊥) × (2 ^ 31 < length f.image + room))) where
+      (full : (r ≡ Err (insertion.Space space.ImageFull)) ↔ ((IsFullFor f.image table name → ⊥) × (most_bytes < length f.image + room))) where
     has_room : (IsFullFor f.image table name → ⊥) → AreGroupFacts f path (facts_of false)
     has_room fits = are_facts false (λ never. absurd (let no : false ≡ true = never in cc), λ filled. absurd (fits filled))
 
@@ -229,11 +230,11 @@ module _ (f : FileState) (path : List ℕ) (parent : ℕ) (name : List ℕ) (edi
     fits_ok u ok filled = let never : Ok u ≡ Err insertion.TreeTooDeep = sym ok ∙ deep.1 filled in absurd (cc)
 
     link_given : (u : Unit {0}) → r ≡ Ok u → IsGivenInPlace f edit None
-    link_given u ok = is.given None (facts_of false, has_room (fits_ok u ok), (no_header false, by_length (nat_lt (2 ^ 31) (length f.image + room)) refl), refl) where
-      by_length : (b : Bool) → nat_lt (2 ^ 31) (length f.image + room) ≡ b → is_image_full (facts_of false) f.tree edit ≡ false
+    link_given u ok = is.given None (facts_of false, has_room (fits_ok u ok), (no_header false, by_length (nat_lt most_bytes (length f.image + room)) refl), refl) where
+      by_length : (b : Bool) → nat_lt most_bytes (length f.image + room) ≡ b → is_image_full (facts_of false) f.tree edit ≡ false
       by_length true past =
           absurd (let never : Ok u ≡ Err (insertion.Space space.ImageFull) = sym ok ∙ full.1 (fits_ok u ok, grind (arith, nat_tests, past)) in cc)
-      by_length false within = ap (λ (n : ℕ). nat_lt (2 ^ 31) (length f.image + n)) (bound_is false) ∙ within
+      by_length false within = ap (λ (n : ℕ). nat_lt most_bytes (length f.image + n)) (bound_is false) ∙ within
 
     refused_deep : r ≡ Err insertion.TreeTooDeep → IsRefused f edit fault.TreeTooDeep
     refused_deep so = record {
@@ -254,7 +255,7 @@ module _ (f : FileState) (path : List ℕ) (parent : ℕ) (name : List ℕ) (edi
         record {
           given = Some fault.ImageFull;
           allowed = λ _. is.given (Some fault.ImageFull)
-              (facts_of false, has_room past.0, (no_header false, ap (λ (n : ℕ). nat_lt (2 ^ 31) (length f.image + n)) (bound_is false) ∙ grind (arith, nat_tests, long)), refl);
+              (facts_of false, has_room past.0, (no_header false, ap (λ (n : ℕ). nat_lt most_bytes (length f.image + n)) (bound_is false) ∙ grind (arith, nat_tests, long)), refl);
           answer = rw accepted refl;
         }
 
@@ -291,7 +292,7 @@ module _ (f : FileState) (path : List ℕ) (parent : ℕ) (name : List ℕ) (edi
   -- of an object that is made: what it is answered
   module _ (accepted : refusal_of f.tree f.next edit ≡ None) (number : ℕ) (named : Some number ≡ named_object f.tree edit f.next) (now : FileState) where
     pub object_answered : (r : Result (Unit {0}) InsertFault) → (r ≡ Err insertion.TreeTooDeep) ↔ IsFullFor f.image table name
-        → (r ≡ Err (insertion.Space space.ImageFull)) ↔ ((IsFullFor f.image table name → ⊥) × (2 ^ 31 < length f.image + room))
+        → (r ≡ Err (insertion.Space space.ImageFull)) ↔ ((IsFullFor f.image table name → ⊥) × (most_bytes < length f.image + room))
         → (Changed : Type 0) → OnOk r Changed → (Changed → IsChangedInPlace f now after next touched room) → OnErr r (now ≡ f)
         → MatchResult (added_answer r number) (IsEdited f edit now) (λ e. IsRefused f edit e × (now ≡ f))
     object_answered (Ok u) deep full Changed changed in_place same = link_made accepted (Ok u) deep full u refl now _ named refl (in_place changed)
@@ -299,7 +300,7 @@ module _ (f : FileState) (path : List ℕ) (parent : ℕ) (name : List ℕ) (edi
 
   -- an object whose own bytes, with those of the image, are too many
   pub object_full : refusal_of f.tree f.next edit ≡ None → (fault : InsertFault) → (fault ≡ insertion.TreeTooDeep) ↔ IsFullFor f.image table name
-      → (fault ≡ insertion.Space space.ImageFull) ↔ (IsFullFor f.image table name → ⊥) → 2 ^ 31 < length f.image + room → IsRefused f edit (insert_fault fault)
+      → (fault ≡ insertion.Space space.ImageFull) ↔ (IsFullFor f.image table name → ⊥) → most_bytes < length f.image + room → IsRefused f edit (insert_fault fault)
   object_full accepted fault deep full long = link_refused accepted (Err fault) (λ so. deep.0 (cc), λ filled. ap Err (deep.1 filled))
       (λ so. (full.0 (cc), long), λ fits. ap Err (full.1 fits.0)) fault refl
 

@@ -9,6 +9,7 @@ use Rattle.h5_layout.specs.Storage.{storage_bytes}
 use Rattle.h5_model.specs.Edits.Applied.{with_dataset}
 use Rattle.h5_model.specs.Format.Fixed.{Fixed}
 use Rattle.h5_model.specs.Format.Described.{Described}
+use Rattle.h5_model.specs.Format.Limits.{most_bytes}
 use Rattle.h5_model.specs.Tree.Objects.{Dataset, Tree, dataset_of, with_object}
 use Rattle.h5_model.specs.Views.Selection.{axes_of, selection_of}
 use Rattle.h5_model.specs.declared.edits.Edit.TheVariants.{Write}
@@ -95,7 +96,7 @@ module _ {f : FileState} {path : List ℕ} {hyper : Hyper} {values : List ℤ} {
     stands = is.found.missing.made now.image b at fixed_is sizes_are (ap (λ (d : Dataset). d.storage) told) (placed b there.1).0
 
     -- the chunk or the block lies in the image
-    pub run_low : at ≤ 2 ^ 31
+    pub run_low : at ≤ most_bytes
     run_low = let inside = (placed b there.1).1 in let short = short_image now sound_now in omega (arith, inside, short)
 
     pub run_standing : AreStandingAt now number hyper (record { fixed = m.fixed; place = m.place; at = at + m.inner * m.fixed.size })

@@ -1,6 +1,6 @@
 -- Objects made in place with a link to them: what the call that adds one asks for, and what it then makes of an opened image (File Format
 -- Specification 3.0, sections III.A.1, III.C and IV.A).
-use Rattle.std.proofs.Common.{◌≡◌, ℕ, ◌+◌, ◌<◌, ◌^◌, List, [], ◌∷◌, length, Some, refl, ap, ◌∙◌, arith}
+use Rattle.std.proofs.Common.{◌≡◌, ℕ, ◌+◌, ◌<◌, List, [], ◌∷◌, length, Some, refl, ap, ◌∙◌, arith}
 use Rattle.std.specs.Prelude.{◌↔◌, MatchResult, OnErr, OnOk, Result, Err}
 use Rattle.h5_btree.specs.declared.insertion.InsertFault.{InsertFault}
 use Rattle.h5_btree.specs.declared.insertion.InsertFault.TheVariants as insertion
@@ -9,6 +9,7 @@ use Rattle.h5_laws.proofs.Lists.{In}
 use Rattle.h5_model.specs.Edits.Applied.{named_object}
 use Rattle.h5_model.specs.Edits.Refusal.{new_path}
 use Rattle.h5_model.specs.Format.Addresses.{SymbolTable}
+use Rattle.h5_model.specs.Format.Limits.{most_bytes}
 use Rattle.h5_model.specs.Format.Sizes.{text_span}
 use Rattle.h5_model.specs.Tree.Objects.{Object}
 use Rattle.h5_model.specs.declared.edits.Edit.{Edit}
@@ -34,7 +35,7 @@ pub record IsObjectAdded (f : FileState) (place : NewPlace) (b : ObjectBytes) (n
       (link_room f.image table (text_span place.name.now) + length (object_bytes b)))
   pub deep : (table : SymbolTable) → IsGroupOf f place.parent table → (r ≡ Err insertion.TreeTooDeep) ↔ IsFullFor f.image table place.name.now
   pub full : (table : SymbolTable) → IsGroupOf f place.parent table → (r ≡ Err (insertion.Space space.ImageFull)) ↔ ((IsFullFor f.image table place.name.now → ⊥)
-      × (2 ^ 31 < length f.image + (link_room f.image table (text_span place.name.now) + length (object_bytes b))))
+      × (most_bytes < length f.image + (link_room f.image table (text_span place.name.now) + length (object_bytes b))))
   pub refused : OnErr r (now ≡ f)
 
 module _ (f : FileState) (sound : IsSound f) {path : List ℕ} {edit : Edit} {place : NewPlace} (placed : IsPlaceAllowed f.tree f.next path edit place) (new : In path (new_path edit))
@@ -48,7 +49,7 @@ module _ (f : FileState) (sound : IsSound f) {path : List ℕ} {edit : Edit} {pl
   after_sound = sound_asked f sound placed new (tree_with f.tree place.parent place.name.now f.next o) (is group.0 counted refl).tree
 
   -- its own bytes, with those of the image, are too many
-  pub object_too_long : (bytes : ℕ) → bytes ≡ counted → 2 ^ 31 < length f.image + bytes → (fault : InsertFault)
+  pub object_too_long : (bytes : ℕ) → bytes ≡ counted → most_bytes < length f.image + bytes → (fault : InsertFault)
       → ((table : SymbolTable) → IsGroupOf f place.parent table → (fault ≡ insertion.TreeTooDeep) ↔ IsFullFor f.image table place.name.now)
       → ((table : SymbolTable) → IsGroupOf f place.parent table → (fault ≡ insertion.Space space.ImageFull) ↔ (IsFullFor f.image table place.name.now → ⊥))
       → IsRefused f edit (insert_fault fault)

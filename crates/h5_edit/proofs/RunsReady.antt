@@ -1,10 +1,11 @@
 -- The runs of a selection whose cells are stored.
-use Rattle.std.proofs.Common.{◌≡◌, ℕ, ℤ, ◌^◌, ◌<◌, ◌≤◌, true, Some, None, List, [], ◌∷◌, length, sym, ap, ◌∙◌, subst}
+use Rattle.std.proofs.Common.{◌≡◌, ℕ, ℤ, ◌<◌, ◌≤◌, true, Some, None, List, [], ◌∷◌, length, sym, ap, ◌∙◌, subst}
 use Rattle.std.specs.List.{AllByRecursion, Contains, list_all}
 use Rattle.h5_laws.proofs.Lists.{all_in, contains_in}
 use Rattle.h5_model.specs.Edits.Refusal.{first_holding}
 use Rattle.h5_model.specs.Format.Fixed.{fits}
 use Rattle.h5_model.specs.Format.Described.{Described}
+use Rattle.h5_model.specs.Format.Limits.{most_cells}
 use Rattle.h5_model.specs.Tree.Objects.{Dataset, dataset_of}
 use Rattle.h5_model.specs.Tree.Places.{cells}
 use Rattle.h5_model.specs.Views.Selection.{Slab, axes_of, selection_of}
@@ -26,7 +27,7 @@ each_some (r ∷ s ∷ rs) maximal = (maximal.0, each_some (s ∷ rs) maximal.2)
 
 module _ (f : FileState) (number : ℕ) (d : Dataset) (array : dataset_of f.tree number ≡ Some d) (slab : Slab) (stored : AreSelectedStored f number slab) where
   pub runs_stored : (values : List ℤ) → length values ≡ length (selection_of d.sizes slab) → list_all (fits d.fixed) values ≡ true → (runs : List CellRun)
-      → places_in runs ≡ selection_of d.sizes slab → AreMaximal runs → cells d.sizes ≤ 2 ^ 40 → AreRunsStored f number runs values d
+      → places_in runs ≡ selection_of d.sizes slab → AreMaximal runs → cells d.sizes ≤ most_cells → AreRunsStored f number runs values d
   runs_stored values counted of_type runs places maximal few = record {
     array = array;
     few = few;

@@ -1,6 +1,6 @@
 -- What decides of a write that no rule refuses: the storage that is missing, whether its chunks find room in their tree, and how long the
 -- image may get (File Format Specification 3.0, sections III.A.1 and IV.A.2.i).
-use Rattle.std.proofs.Common.{◌≡◌, ℕ, ℤ, ◌+◌, ◌<◌, ◌^◌, ◌≤◌, inl, inr, Bool, true, false, nat_lt, List, Option, Some, length, refl, sym, ap, ◌∙◌, subst, arith}
+use Rattle.std.proofs.Common.{◌≡◌, ℕ, ℤ, ◌+◌, ◌<◌, ◌≤◌, inl, inr, Bool, true, false, nat_lt, List, Option, Some, length, refl, sym, ap, ◌∙◌, subst, arith}
 use Rattle.std.proofs.lemmas.Bool.Decides.{nat_tests}
 use Rattle.std.specs.Prelude.{◌↔◌, ◌==◌, IsTrue, Result, Ok, Err, option_and_then}
 use Rattle.std.specs.Option.{option_map_or}
@@ -8,6 +8,7 @@ use Rattle.h5_btree.specs.declared.insertion.InsertFault.{InsertFault}
 use Rattle.h5_btree.specs.declared.insertion.InsertFault.TheVariants as insertion
 use Rattle.h5_model.specs.Edits.Bounds.{bound_of, write_bound}
 use Rattle.h5_model.specs.Edits.ImageAnswers.{AtTop, Facts, new_chunks, new_entries}
+use Rattle.h5_model.specs.Format.Limits.{most_bytes}
 use Rattle.h5_model.specs.Tree.Objects.{Dataset, dataset_of}
 use Rattle.h5_model.specs.Tree.Paths.{dataset_at}
 use Rattle.h5_model.specs.Views.Selection.{Slab, Within, axes_of}
@@ -97,7 +98,7 @@ module _ {f : FileState} {path : List ℕ} {hyper : Hyper} {values : List ℤ} {
     none_deep_facts : AreStorageFacts f path hyper (facts_of (λ _. false))
     none_deep_facts = are_facts (λ _. false) (λ n never. absurd (let no : false ≡ true = never in cc)) (λ deep. absurd (never_deep deep))
 
-    fits : length f.image + bound_of (room_in f.image a) f.tree edit ≤ 2 ^ 31 → IsAccepted f edit
+    fits : length f.image + bound_of (room_in f.image a) f.tree edit ≤ most_bytes → IsAccepted f edit
     fits short = record {
       accepted = is.at.allowed;
       given = λ _. (facts_of (λ _. false), none_deep_facts, (refl, grind (arith, nat_tests, short)), refl);
@@ -106,7 +107,7 @@ module _ {f : FileState} {path : List ℕ} {hyper : Hyper} {values : List ℤ} {
     grows : (bytes : ℕ) → bytes ≡ bound_of (room_in f.image a) f.tree edit → IsGrowth f edit bytes
     grows bytes same = (facts_of (λ _. false), none_deep_facts, same)
 
-    too_long : 2 ^ 31 < length f.image + bound_of (room_in f.image a) f.tree edit → IsRefused f edit fault.ImageFull
+    too_long : most_bytes < length f.image + bound_of (room_in f.image a) f.tree edit → IsRefused f edit fault.ImageFull
     too_long long = record {
       given = Some fault.ImageFull;
       allowed = λ _. (facts_of (λ _. false), none_deep_facts, (refl, grind (arith, nat_tests, long)), refl);
@@ -174,7 +175,7 @@ module _ {f : FileState} {path : List ℕ} {hyper : Hyper} {values : List ℤ} {
     -- by the answer of the call that makes the storage
     module _ {T : Type 0} (r : Result T InsertFault) (deep : r ≡ Err insertion.TreeTooDeep → (n : ℕ) × IsDeepFor f.image a m n)
         (deep_first : IsDeepFor f.image a m 0 → r ≡ Err insertion.TreeTooDeep)
-        (full : (r ≡ Err (insertion.Space space.ImageFull)) ↔ ((IsDeepFor f.image a m 0 → ⊥) × (2 ^ 31 < length f.image + storage_bytes f.image a m))) where
+        (full : (r ≡ Err (insertion.Space space.ImageFull)) ↔ ((IsDeepFor f.image a m 0 → ⊥) × (most_bytes < length f.image + storage_bytes f.image a m))) where
       module _ (u : T) (ok : r ≡ Ok u) where
         made_first : IsDeepFor f.image a m 0 → ⊥
         made_first first = let never : Ok u ≡ Err insertion.TreeTooDeep = sym ok ∙ deep_first first in absurd (cc)
@@ -182,14 +183,14 @@ module _ {f : FileState} {path : List ℕ} {hyper : Hyper} {values : List ℤ} {
         made_deep : IsDeepInTurn f.image a slab 0 → ⊥
         made_deep at = made_first (deep_as 0 at)
 
-        made_short : (long : Bool) → nat_lt (2 ^ 31) (length f.image + storage_bytes f.image a m) ≡ long → length f.image + storage_bytes f.image a m ≤ 2 ^ 31
+        made_short : (long : Bool) → nat_lt most_bytes (length f.image + storage_bytes f.image a m) ≡ long → length f.image + storage_bytes f.image a m ≤ most_bytes
         made_short true past =
             absurd (let never : Ok u ≡ Err (insertion.Space space.ImageFull) = sym ok ∙ full.1 (made_first, grind (arith, nat_tests, past)) in cc)
         made_short false within_it = grind (arith, nat_tests, within_it)
 
         pub made_accepted : IsAccepted f edit
         made_accepted =
-            let short = made_short (nat_lt (2 ^ 31) (length f.image + storage_bytes f.image a m)) refl in
+            let short = made_short (nat_lt most_bytes (length f.image + storage_bytes f.image a m)) refl in
             fits made_deep (omega (arith, short, some_bound_is))
 
         pub made_grows : IsGrowth f edit (storage_bytes f.image a m)

@@ -3,6 +3,7 @@ mod array;
 
 ghost use Rattle.std.specs.Prelude.{◌≡◌, ◌↔◌, ◌+◌, ◌^◌, ◌<◌, ◌≤◌, ℕ, IsSome, MatchOption, MatchResult, length};
 ghost use Rattle.h5_model.specs.Format.Addresses.{SymbolTable};
+ghost use Rattle.h5_model.specs.Format.Limits.{most_bytes};
 ghost use Rattle.h5_model.specs.Tree.Objects.{links_of};
 ghost use Rattle.h5_model.specs.declared.edits.Edit.TheVariants.{CreateGroup, CreateDataset};
 ghost use Rattle.h5_query.specs.LinkAdded.{IsGroupOf};
@@ -117,8 +118,8 @@ fn place_with(opened: &Opened, header: u64, cells: Option<u64>) -> Option<u64>
     requires header { (0 < header) × (header ≤ 2 ^ 33) }
     requires cells { (long : ℕ) × IsLength cells long }
     ensures { (long : ℕ) → IsLength cells long
-        → MatchOption result (2 ^ 31 < length opened.now.image + (header + long))
-        (λ at. (at ≡ place_in opened.now (header + long)) × (at + (header + long) ≤ 2 ^ 31)) }
+        → MatchOption result (most_bytes < length opened.now.image + (header + long))
+        (λ at. (at ≡ place_in opened.now (header + long)) × (at + (header + long) ≤ most_bytes)) }
 {
     opened.place_for(header + cells?)
 }

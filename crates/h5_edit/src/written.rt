@@ -1,6 +1,7 @@
 //! Cells written (File Format Specification 3.0, sections III.A.1 and IV.A.2.i).
 
-ghost use Rattle.std.specs.Prelude.{◌≡◌, ◌^◌, ◌≤◌, ℕ, ℤ, List, Some, MatchResult};
+ghost use Rattle.std.specs.Prelude.{◌≡◌, ◌≤◌, ℕ, ℤ, List, Some, MatchResult};
+ghost use Rattle.h5_model.specs.Format.Limits.{most_cells};
 ghost use Rattle.h5_model.specs.Tree.Objects.{Dataset, dataset_of};
 ghost use Rattle.h5_model.specs.Tree.Places.{cells};
 ghost use Rattle.h5_model.specs.declared.edits.Edit.TheVariants.{Write};
@@ -143,7 +144,7 @@ fn write_by_runs(opened: &mut Opened, number: u32, hyper: &HyperRef<'_>, values:
 fn dims_of(opened: &Opened, number: u32) -> Dims
     requires { (d : Dataset) × dataset_of opened.now.tree number ≡ Some d }
     ensures sizes { (d : Dataset) → dataset_of opened.now.tree number ≡ Some d → result ≡ d.sizes }
-    ensures small { cells result ≤ 2 ^ 40 }
+    ensures small { cells result ≤ most_cells }
 {
     let array = described_of(opened, number);
     let Some(dims) = Dims::new(array.dims().sizes()) else {

@@ -1,6 +1,7 @@
 -- The boxes that an edit and a view of its array both meet, and the cells that are kept once they were patched.
 use Rattle.std.proofs.Common.{◌≡◌, ◌≢◌, ℕ, zero, suc, ◌-◌, ◌^◌, ◌≤◌, min, Bool, true, false, List, [], length, refl, sym, ap, ◌∙◌, subst, arith}
 use Rattle.std.proofs.lemmas.List.{length-map}
+use Rattle.h5_model.specs.Format.Limits.{most_cells}
 use Rattle.h5_model.specs.Tree.Objects.{Dataset, Storage, Compact, Contiguous, Chunked}
 use Rattle.h5_model.specs.Tree.Places.{cells}
 use Rattle.h5_model.specs.Tree.Sound.{IsDataset}
@@ -57,9 +58,9 @@ module _ (d : Dataset) (sound : IsDataset d) where
         by_size (suc n) is =
             corners_met (sizes_before d touched) (box_of d) (is_touched_in touched (sizes_before d touched)) slab box_rank (omega (arith, is)) (axes ∙ sym length-before)
 
-      pub met_few : cells (sizes_before d touched) ≤ 2 ^ 40 → length (met_with d touched slab) ≤ 2 ^ 40
+      pub met_few : cells (sizes_before d touched) ≤ most_cells → length (met_with d touched slab) ≤ most_cells
       met_few few = by_size (cells (box_of d)) refl where
-        by_size : (n : ℕ) → cells (box_of d) ≡ n → length (met_with d touched slab) ≤ 2 ^ 40
+        by_size : (n : ℕ) → cells (box_of d) ≡ n → length (met_with d touched slab) ≤ most_cells
         by_size zero is =
             let none : length (met_with d touched slab) ≡ 0 = ap length (none_met (sizes_before d touched) (box_of d) (is_touched_in touched (sizes_before d touched)) slab is) in
             omega (arith, none)

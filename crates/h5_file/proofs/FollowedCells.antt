@@ -1,5 +1,5 @@
 -- What a view of an array keeps once an edit of it was followed.
-use Rattle.std.proofs.Common.{◌≡◌, ℕ, zero, suc, ◌+◌, ◌*◌, ◌^◌, ◌<◌, ◌≤◌, ◌&&◌, Bool, true, false, cond, List, length, ℤ, Option, Some, None, refl, sym, ap, ◌∙◌, subst, arith}
+use Rattle.std.proofs.Common.{◌≡◌, ℕ, zero, suc, ◌+◌, ◌*◌, ◌<◌, ◌≤◌, ◌&&◌, Bool, true, false, cond, List, length, ℤ, Option, Some, None, refl, sym, ap, ◌∙◌, subst, arith}
 use Rattle.std.proofs.lemmas.List.{length-map}
 use Rattle.std.specs.Option.{option_and_then}
 use Rattle.std.proofs.lemmas.Bool.{and_parts}
@@ -7,6 +7,7 @@ use Rattle.std.proofs.lemmas.Option.{same_Some}
 use Rattle.h5_model.specs.Edits.Applied.{cell_or_fill, with_sizes, with_selection, written_storage}
 use Rattle.h5_model.specs.Edits.Refusal.{is_chunked, refusal_of}
 use Rattle.h5_model.specs.Format.Fixed.{Fixed, bytes_of}
+use Rattle.h5_model.specs.Format.Limits.{most_cells}
 use Rattle.h5_model.specs.Tree.Objects.{Tree, Dataset, dataset_of, Storage, Compact, Contiguous, Chunked}
 use Rattle.h5_model.specs.Tree.Paths.{dataset_at}
 use Rattle.h5_model.specs.Tree.Places.{cells}
@@ -53,7 +54,7 @@ pub record IsChange (edit : Edit) (old new : Dataset) (touched : Touched) : Type
   pub chunked : is_chunked new.storage ≡ is_chunked old.storage
   pub boxed : box_of new ≡ box_of old
   pub touch : IsTouchOf new touched
-  pub few : cells new.sizes ≤ 2 ^ 40 → cells (sizes_before new touched) ≤ 2 ^ 40
+  pub few : cells new.sizes ≤ most_cells → cells (sizes_before new touched) ≤ most_cells
   pub met : (slab : Slab) → met_with new touched slab ≡ met_firsts old.sizes (box_of old) (is_touched edit old.sizes) slab
   pub stays : (slab : Slab) → is_lent old slab ≡ true → is_lent new slab ≡ true
 
@@ -106,7 +107,7 @@ module _ (tree : Tree) (next : ℕ) (path : List ℕ) (old : Dataset) (found : d
         stays = λ slab lent. write_lent (axes_of hyper) slab values old lent;
       }
 
-  resize_change : (dims : List ℕ) → refusal_of tree next (Resize path dims) ≡ None → cells old.sizes ≤ 2 ^ 40
+  resize_change : (dims : List ℕ) → refusal_of tree next (Resize path dims) ≡ None → cells old.sizes ≤ most_cells
       → IsChange (Resize path dims) old (with_sizes dims old) (Lost old.sizes dims)
   resize_change dims allowed few =
       let rank = resize_rank tree next path dims allowed old found in
@@ -138,7 +139,7 @@ change_at tree next (Resize path dims) (Lost sizes kept) is allowed number at ol
     let same : is.2 ≡ old = same_Some _ _ (sym is.3 ∙ found) in
     let before : sizes ≡ old.sizes = is.4 ∙ ap (λ (d : Dataset). d.sizes) same in
     subst (λ (X : Type 0). X) (λ i. IsChange (Resize path dims) old (with_sizes dims old) (Lost (sym before i) (sym is.0 i)))
-    (resize_change tree next path old found dims allowed (subst (λ (ds : List ℕ). cells ds ≤ 2 ^ 40) before is.1))
+    (resize_change tree next path old found dims allowed (subst (λ (ds : List ℕ). cells ds ≤ most_cells) before is.1))
 change_at tree next (CreateGroup path) touched is allowed number at old there = absurd is
 change_at tree next (CreateDataset path spec) touched is allowed number at old there = absurd is
 change_at tree next (HardLink target path) touched is allowed number at old there = absurd is

@@ -1,8 +1,9 @@
 -- The open views of a session behind an edit of its file.
-use Rattle.std.proofs.Common.{◌≡◌, ◌≤◌, ◌^◌, ℕ, List, map, Some, None, sym, ap, ◌∙◌}
+use Rattle.std.proofs.Common.{◌≡◌, ◌≤◌, ℕ, List, map, Some, None, sym, ap, ◌∙◌}
 use Rattle.std.specs.Option.{option_and_then, option_map}
 use Rattle.h5_model.specs.Edits.Applied.{named_object}
 use Rattle.h5_model.specs.Edits.Refusal.{refusal_of}
+use Rattle.h5_model.specs.Format.Limits.{most_cells}
 use Rattle.h5_model.specs.Tree.Objects.{Tree, Dataset, dataset_of}
 use Rattle.h5_model.specs.Tree.Places.{cells}
 use Rattle.h5_model.specs.Tree.Sound.{IsDataset}
@@ -51,7 +52,7 @@ module _ (before after : FileState) (views : List KeptView) (next : ℕ) (edit :
       pub object_is : named_object before.tree edit before.next ≡ Some number.0
       object_is = sym to.edited.object ∙ ap (option_map (λ (o : ObjectNo). o.0)) is
 
-      pub touch_now : (d : Dataset) → dataset_of after.tree number.0 ≡ Some d → IsTouchOf d touched × (cells d.sizes ≤ 2 ^ 40 → cells (sizes_before d touched) ≤ 2 ^ 40)
+      pub touch_now : (d : Dataset) → dataset_of after.tree number.0 ≡ Some d → IsTouchOf d touched × (cells d.sizes ≤ most_cells → cells (sizes_before d touched) ≤ most_cells)
       touch_now = touch_after before after edit e to.edited views next to.kept number.0 touched to.touch object_is
 
       abbrev pub array : Dataset

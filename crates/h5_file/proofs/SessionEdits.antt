@@ -1,5 +1,5 @@
 -- A session once an edit was carried out, and its views followed it.
-use Rattle.std.proofs.Common.{◌≡◌, ℕ, ◌+◌, ◌<◌, ◌≤◌, ◌^◌, ◌==◌, true, false, cond, List, [], ◌∷◌, length, map, Option, Some, None, refl, sym, ap, ◌∙◌, subst, arith}
+use Rattle.std.proofs.Common.{◌≡◌, ℕ, ◌+◌, ◌<◌, ◌≤◌, ◌==◌, true, false, cond, List, [], ◌∷◌, length, map, Option, Some, None, refl, sym, ap, ◌∙◌, subst, arith}
 use Rattle.std.proofs.lemmas.Bool.Decides.{nat_tests}
 use Rattle.std.specs.Prelude.{sum_by}
 use Rattle.std.specs.Ordering.{nat_cmp}
@@ -10,6 +10,7 @@ use Rattle.std.specs.Option.{option_and_then, option_map, option_map_or}
 use Rattle.std.proofs.lemmas.Option.{same_Some}
 use Rattle.h5_model.specs.Edits.Applied.{State, with_edit, named_object, with_sizes, state_after, with_dataset, with_selection}
 use Rattle.h5_model.specs.Edits.Refusal.{refusal_of}
+use Rattle.h5_model.specs.Format.Limits.{most_cells}
 use Rattle.h5_model.specs.Tree.Objects.{Tree, Dataset, dataset_of, with_object}
 use Rattle.h5_model.specs.Tree.Paths.{object_at}
 use Rattle.h5_model.specs.Tree.Places.{cells}
@@ -193,10 +194,10 @@ module _ (before after : FileState) (edit : Edit) (e : Edited) (is : IsEdited be
     change : IsChange edit was.0 new touched
     change = change_at before.tree before.next edit touched touching is.accepted.accepted number at was.0 was.1
 
-    pub touch_after : (d : Dataset) → dataset_of after.tree number ≡ Some d → IsTouchOf d touched × (cells d.sizes ≤ 2 ^ 40 → cells (sizes_before d touched) ≤ 2 ^ 40)
+    pub touch_after : (d : Dataset) → dataset_of after.tree number ≡ Some d → IsTouchOf d touched × (cells d.sizes ≤ most_cells → cells (sizes_before d touched) ≤ most_cells)
     touch_after d there =
         let same : new ≡ d = same_Some _ _ (sym now ∙ there) in
-        subst (λ (d : Dataset). IsTouchOf d touched × (cells d.sizes ≤ 2 ^ 40 → cells (sizes_before d touched) ≤ 2 ^ 40)) same (change.touch, change.few)
+        subst (λ (d : Dataset). IsTouchOf d touched × (cells d.sizes ≤ most_cells → cells (sizes_before d touched) ≤ most_cells)) same (change.touch, change.few)
 
     module _ (count : ℕ) (others : List KeptView) (followed : AreViewsFollowed number new touched views count others) (sound : IsDataset new × HasBoxes new) where
       stepped : AreViewsStepped before after edit is.state number at was.0 new was.1 now touched change sound.0 sound.1 views count others

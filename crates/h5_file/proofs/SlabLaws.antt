@@ -5,6 +5,7 @@ use Rattle.std.proofs.lemmas.List.{length-replicate}
 use Rattle.std.proofs.Math.Nat.{mul-le-mul_left, mul-le-mul_right}
 use Rattle.std.specs.List.{list_any}
 use Rattle.std.proofs.lemmas.Bool.{or_right, and_parts, or_parts}
+use Rattle.h5_model.specs.Format.Limits.{most_cells}
 use Rattle.h5_model.specs.Tree.Places.{cells}
 use Rattle.h5_model.specs.Views.Selection.{Slab, Within, fits_along, fits_all, has_no_cell, overlaps, selected_cells, selects_none}
 use Rattle.h5_model.specs.declared.hyperslab.Axis.{Axis}
@@ -31,7 +32,7 @@ some_cells (d ∷ ds) (a ∷ rest) rank fits some =
     omega (arith, all, first)
 
 -- each size is among few
-size_few : (d : ℕ) (ds : List ℕ) → 1 ≤ d → 1 ≤ cells ds → d * cells ds ≤ 2 ^ 40 → (d ≤ 2 ^ 40) × (cells ds ≤ 2 ^ 40)
+size_few : (d : ℕ) (ds : List ℕ) → 1 ≤ d → 1 ≤ cells ds → d * cells ds ≤ most_cells → (d ≤ most_cells) × (cells ds ≤ most_cells)
 size_few d ds some one few =
     let first : d * 1 ≤ d * cells ds = mul-le-mul_left d one in
     let rest : 1 * cells ds ≤ d * cells ds = mul-le-mul_right (cells ds) some in
@@ -40,7 +41,7 @@ size_few d ds some one few =
 fits_more : (a : Axis) (d bound : ℕ) → fits_along d a ≡ true → d ≤ bound → fits_along bound a ≡ true
 fits_more a d bound fits more = grind (arith, nat_tests, fits, more)
 
-apart_fit : (sizes : List ℕ) (slab : Slab) → length sizes ≡ length slab → fits_all sizes slab ≡ true → list_any overlaps slab ≡ false → cells sizes ≤ 2 ^ 40 → selects_none slab ≡ false
+apart_fit : (sizes : List ℕ) (slab : Slab) → length sizes ≡ length slab → fits_all sizes slab ≡ true → list_any overlaps slab ≡ false → cells sizes ≤ most_cells → selects_none slab ≡ false
     → AreApart slab
 apart_fit [] [] rank fits apart few some = tt
 apart_fit [] (a ∷ rest) rank fits apart few some = absurd (omega (arith, rank))
@@ -53,12 +54,12 @@ apart_fit (d ∷ ds) (a ∷ rest) rank fits apart few some =
     let low = size_few d ds (axis_some d a split.0 each.0) (some_cells ds rest under each.1 split.1) few in
     ((free.0, fits_more a d (2 ^ 63) each.0 (omega (arith, low.0))), apart_fit ds rest under each.1 free.1 low.1 split.1)
 
-pub apart_within : (sizes : List ℕ) (slab : Slab) → length sizes ≡ length slab → Within sizes slab → list_any overlaps slab ≡ false → cells sizes ≤ 2 ^ 40 → selects_none slab ≡ false → AreApart slab
+pub apart_within : (sizes : List ℕ) (slab : Slab) → length sizes ≡ length slab → Within sizes slab → list_any overlaps slab ≡ false → cells sizes ≤ most_cells → selects_none slab ≡ false → AreApart slab
 apart_within sizes slab rank within apart few some = apart_fit sizes slab rank (within_fits sizes slab within some) apart few some
 
 -- ---- indexes are words
 
-words_fit : (sizes : List ℕ) (slab : Slab) → length sizes ≡ length slab → fits_all sizes slab ≡ true → cells sizes ≤ 2 ^ 40 → selects_none slab ≡ false
+words_fit : (sizes : List ℕ) (slab : Slab) → length sizes ≡ length slab → fits_all sizes slab ≡ true → cells sizes ≤ most_cells → selects_none slab ≡ false
     → fits_all (replicate (length slab) (2 ^ 64)) slab ≡ true
 words_fit [] [] rank fits few some = refl
 words_fit [] (a ∷ rest) rank fits few some = absurd (omega (arith, rank))
@@ -70,7 +71,7 @@ words_fit (d ∷ ds) (a ∷ rest) rank fits few some =
     let low = size_few d ds (axis_some d a split.0 each.0) (some_cells ds rest under each.1 split.1) few in
     rw (fits_more a d (2 ^ 64) each.0 (omega (arith, low.0)), words_fit ds rest under each.1 low.1 split.1) refl
 
-pub words_within : (sizes : List ℕ) (slab : Slab) → length sizes ≡ length slab → Within sizes slab → cells sizes ≤ 2 ^ 40 → Within (replicate (length slab) (2 ^ 64)) slab
+pub words_within : (sizes : List ℕ) (slab : Slab) → length sizes ≡ length slab → Within sizes slab → cells sizes ≤ most_cells → Within (replicate (length slab) (2 ^ 64)) slab
 words_within sizes slab rank within few =
     from_is_within (replicate (length slab) (2 ^ 64)) slab (length-replicate (length slab) (2 ^ 64)) (by_test (selects_none slab) refl) where
       by_test : (b : Bool) → selects_none slab ≡ b → (b || fits_all (replicate (length slab) (2 ^ 64)) slab) ≡ true

@@ -1,5 +1,5 @@
 -- Views as they are held: by their numbers, and through edits of the file.
-use Rattle.std.proofs.Common.{◌≡◌, ℕ, zero, suc, ◌+◌, ◌*◌, ◌^◌, ◌<◌, ◌≤◌, Bool, true, false, cond, List, [], ◌∷◌, ◌++◌, map, length, get_or, refl, sym, ap, ◌∙◌, subst, inl, inr, Option, Some, None, is_some, Result, Ok, Err, arith, length-append, nat_le}
+use Rattle.std.proofs.Common.{◌≡◌, ℕ, zero, suc, ◌+◌, ◌*◌, ◌<◌, ◌≤◌, Bool, true, false, cond, List, [], ◌∷◌, ◌++◌, map, length, get_or, refl, sym, ap, ◌∙◌, subst, inl, inr, Option, Some, None, is_some, Result, Ok, Err, arith, length-append, nat_le}
 use Rattle.std.proofs.lemmas.Bool.{cases_lt}
 use Rattle.std.proofs.lemmas.Bool.Decides.{nat_tests}
 use Rattle.std.proofs.lemmas.List.{length-map}
@@ -18,6 +18,7 @@ use Rattle.h5_laws.proofs.RisingMaps.{searched, rise_push, rise_remove, get_at, 
 use Rattle.h5_laws.proofs.TypesKept.{size-accepted}
 use Rattle.h5_model.specs.Edits.Applied.{State, state_after}
 use Rattle.h5_model.specs.Edits.Refusal.{refusal_of}
+use Rattle.h5_model.specs.Format.Limits.{most_cells}
 use Rattle.h5_model.specs.Scripts.Answers.{has_many_views}
 use Rattle.h5_model.specs.Scripts.Sessions.{IsView, IsSession}
 use Rattle.h5_model.specs.Tree.Objects.{Tree, Object, Dataset, dataset_in, dataset_of}
@@ -197,7 +198,7 @@ room_of d slab (Some k) is = is.1.long
 
 -- a view of selected cells
 pub fit_opened : (file : FileState) (path : List ℕ) (hyper : Hyper) (number : ℕ) (d : Dataset) (slab : Slab) → IsSound file → IsSelectedAt file.tree path hyper (number, d, slab)
-    → IsSlab slab → cells d.sizes ≤ 2 ^ 40 → (v : KeptView) → v.object ≡ number → v.slab ≡ slab → IsKeptOf d slab v.kept → IsViewFit file.tree file.next v
+    → IsSlab slab → cells d.sizes ≤ most_cells → (v : KeptView) → v.object ≡ number → v.slab ≡ slab → IsKeptOf d slab v.kept → IsViewFit file.tree file.next v
 fit_opened file path hyper number d slab sound at lists few v object axes kept =
     let there = selected_array file path hyper number d slab at in
     let same = λ (e : Dataset) (is : dataset_of file.tree v.object ≡ Some e). same_Some e d (sym is ∙ ap (dataset_of file.tree) object ∙ there) in

@@ -1,5 +1,5 @@
 -- An opened image in which one array was edited where it stands: it is opened as it is now, and in the tree that array alone is another.
-use Rattle.std.proofs.Common.{◌≡◌, ℕ, ◌+◌, ◌≤◌, ◌^◌, true, false, List, [], ◌∷◌, ◌++◌, length, sym, ap, ◌∙◌, subst, arith, Option, Some}
+use Rattle.std.proofs.Common.{◌≡◌, ℕ, ◌+◌, ◌≤◌, true, false, List, [], ◌∷◌, ◌++◌, length, sym, ap, ◌∙◌, subst, arith, Option, Some}
 use Rattle.std.specs.Prelude.{slice_get, ◌==◌}
 use Rattle.std.specs.BTreeMap.{BTreeMap}
 use Rattle.std.specs.Option.{option_flatten}
@@ -7,6 +7,7 @@ use Rattle.h5_bytes.specs.Blocks.{block, cover, Inside, IsKept, Keeps}
 use Rattle.h5_bytes.specs.declared.Block.{Block}
 use Rattle.h5_bytes.proofs.BlockLaws.{all_append, all_left, all_right, cover-append}
 use Rattle.h5_model.specs.Edits.Applied.{with_dataset}
+use Rattle.h5_model.specs.Format.Limits.{most_bytes}
 use Rattle.h5_model.specs.Format.Messages.{Message, prefix_at, reference_count}
 use Rattle.h5_model.specs.Format.Superblock.{end_of_file, end_field, k_values}
 use Rattle.h5_model.specs.Format.Described.{HasArray}
@@ -58,7 +59,7 @@ pub record IsArrayEdited (old mid new : Space) (slots slots' : List (Option Open
   pub ended : Moves mid new (end_field mid.bytes ∷ []) (end_field new.bytes ∷ [])
   pub end : end_of_file new.bytes ≡ length new.bytes
   pub long : length new.bytes ≡ length mid.bytes
-  pub small : length mid.bytes ≤ 2 ^ 31
+  pub small : length mid.bytes ≤ most_bytes
 
 -- ---- the array
 

@@ -1,6 +1,6 @@
 -- Steps of an edit of attributes in an opened image: room that is made, the end of file address that is written, and the slot that is
 -- changed.
-use Rattle.std.proofs.Common.{◌≡◌, inl, ℕ, zero, suc, ◌<◌, ◌≤◌, ◌==◌, ◌^◌, true, false, List, [], ◌∷◌, length, refl, sym, ap, ◌∙◌, subst, arith, Option, Some}
+use Rattle.std.proofs.Common.{◌≡◌, inl, ℕ, zero, suc, ◌<◌, ◌≤◌, ◌==◌, true, false, List, [], ◌∷◌, length, refl, sym, ap, ◌∙◌, subst, arith, Option, Some}
 use Rattle.std.specs.Prelude.{slice_get, slice_set}
 use Rattle.std.specs.BTreeMap.{BTreeMap}
 use Rattle.std.specs.List.{AllByRecursion}
@@ -10,6 +10,7 @@ use Rattle.h5_bytes.specs.Bytes.{little_bytes, number_at, part, with_field}
 use Rattle.h5_bytes.specs.declared.Block.{Block}
 use Rattle.h5_bytes.proofs.FieldLaws.{number_at-with_field}
 use Rattle.h5_bytes.proofs.PartLaws.{length-with_part, part-with_part_other}
+use Rattle.h5_model.specs.Format.Limits.{most_bytes}
 use Rattle.h5_model.specs.Format.Reads.{Reads}
 use Rattle.h5_model.specs.Format.Superblock.{end_of_file, end_field, k_values, superblock_length}
 use Rattle.h5_model.proofs.KLaws.{k_values_stay, same_end_field}
@@ -56,7 +57,7 @@ module _ (mid new : Space) (low : superblock_length mid.bytes ≤ length mid.byt
   end_k = k_values_stay mid.bytes new.bytes place (omega arith)
       (ap (part 0 place) bytes ∙ part-with_part_other place written mid.bytes 0 place (omega (arith, low, eight)) (inl (omega arith)))
 
-  pub end_is : length mid.bytes ≤ 2 ^ 31 → end_of_file new.bytes ≡ length new.bytes
+  pub end_is : length mid.bytes ≤ most_bytes → end_of_file new.bytes ≡ length new.bytes
   end_is small =
       ap (λ (b : Block). number_at new.bytes b.at 8) (same_end_field new.bytes mid.bytes end_k)
       ∙ ap (λ (b : List ℕ). number_at b place 8) bytes

@@ -1,6 +1,6 @@
 -- An opened image in which the attributes of one object were changed in its header: it is opened as it is now, and in the tree that object
 -- alone is another.
-use Rattle.std.proofs.Common.{◌≡◌, ℕ, ◌+◌, ◌≤◌, ◌==◌, ◌^◌, false, List, [], ◌∷◌, ◌++◌, length, sym, ap, ◌∙◌, subst, arith, Option, Some}
+use Rattle.std.proofs.Common.{◌≡◌, ℕ, ◌+◌, ◌≤◌, ◌==◌, false, List, [], ◌∷◌, ◌++◌, length, sym, ap, ◌∙◌, subst, arith, Option, Some}
 use Rattle.std.specs.Prelude.{slice_get}
 use Rattle.std.specs.Option.{option_flatten}
 use Rattle.std.specs.Ordering.{nat_cmp}
@@ -10,6 +10,7 @@ use Rattle.h5_bytes.specs.Blocks.{block, cover, Inside, Keeps}
 use Rattle.h5_bytes.specs.declared.Block.{Block}
 use Rattle.h5_bytes.proofs.BlockLaws.{all_so, cover-append}
 use Rattle.h5_model.specs.Edits.Applied.{with_attributes}
+use Rattle.h5_model.specs.Format.Limits.{most_bytes}
 use Rattle.h5_model.specs.Format.Messages.{Message, first_size, prefix_at, reference_count}
 use Rattle.h5_model.specs.Format.Reads.{HasAttributes}
 use Rattle.h5_model.specs.Format.Superblock.{leaf_k, internal_k, k_values, end_of_file, end_field}
@@ -66,7 +67,7 @@ pub record IsHeaderEdited (old mid new : Space) (slots slots' : List (Option Ope
   pub moves : Moves old mid p.messages.blocks p'.messages.blocks
   pub ended : Moves mid new (end_field mid.bytes ∷ []) (end_field new.bytes ∷ [])
   pub end : end_of_file new.bytes ≡ length new.bytes
-  pub small : length new.bytes ≤ 2 ^ 31
+  pub small : length new.bytes ≤ most_bytes
 
 module _ (old mid new : Space) (slots slots' : List (Option OpenedObject)) (numbers : BTreeMap ℕ ℕ) (opened : IsOpened old slots numbers) (number : ℕ) (p p' : OpenedObject)
     (change : Attributes → Attributes) (is : IsHeaderEdited old mid new slots slots' number p p' change) where

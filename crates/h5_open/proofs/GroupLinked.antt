@@ -1,5 +1,5 @@
 -- A group of an opened image into which one link was put where it stands.
-use Rattle.std.proofs.Common.{◌≡◌, inl, inr, ℕ, ◌+◌, ◌≤◌, ◌^◌, List, ◌∷◌, ◌++◌, length, sym, ap, ◌∙◌, subst, Option, Some}
+use Rattle.std.proofs.Common.{◌≡◌, inl, inr, ℕ, ◌+◌, ◌≤◌, List, ◌∷◌, ◌++◌, length, sym, ap, ◌∙◌, subst, Option, Some}
 use Rattle.std.specs.Prelude.{slice_get}
 use Rattle.std.specs.Ordering.{nat_cmp}
 use Rattle.std.specs.BTreeMap.{BTreeMap}
@@ -8,6 +8,7 @@ use Rattle.std.specs.List.{Contains, flat_map}
 use Rattle.h5_bytes.specs.Blocks.{cover}
 use Rattle.h5_bytes.specs.declared.Block.{Block}
 use Rattle.h5_model.specs.Format.Addresses.{SymbolTable}
+use Rattle.h5_model.specs.Format.Limits.{most_bytes}
 use Rattle.h5_model.specs.Format.Links.{Ascend}
 use Rattle.h5_model.specs.Format.Superblock.{k_values, end_of_file, end_field}
 use Rattle.h5_model.specs.Format.Symbols.{Target, Header}
@@ -48,7 +49,7 @@ pub record IsGroupLinked (old mid new : Space) (slots : List (Option OpenedObjec
   pub beside : (q : ℕ) → cover q written + cover q (object_blocks old.bytes p) ≤ cover q (flat_map (object_blocks old.bytes) (objects_of slots))
   pub led : (h : ℕ) → target ≡ Header h → IsHeaderIn (table_of slots) h
   pub end : end_of_file new.bytes ≡ length new.bytes
-  pub small : length new.bytes ≤ 2 ^ 31
+  pub small : length new.bytes ≤ most_bytes
 
 -- the links of a group with one more
 abbrev pub with_one : FinMap nat_cmp ℕ → List ℕ → Target → Links → Links

@@ -1,7 +1,8 @@
 -- A group of an opened image, by its number: its slot, the group that stands there, and what is told of each table of it.
-use Rattle.std.proofs.Common.{◌≡◌, ℕ, ◌≤◌, ◌^◌, List, length, sym, subst, Option, IsSome}
+use Rattle.std.proofs.Common.{◌≡◌, ℕ, ◌≤◌, List, length, sym, subst, Option, IsSome}
 use Rattle.std.specs.BTreeMap.{BTreeMap}
 use Rattle.h5_model.specs.Format.Addresses.{SymbolTable}
+use Rattle.h5_model.specs.Format.Limits.{most_bytes}
 use Rattle.h5_model.specs.Tree.Objects.{links_of}
 use Rattle.h5_space.specs.Space.{Space}
 use Rattle.h5_group.specs.LinkEdits.{IsGroupApart}
@@ -26,7 +27,7 @@ module _ (old : Space) (slots : List (Option OpenedObject)) (numbers : BTreeMap 
     pub group_here : IsGroupApart old t
     group_here = group_stood old slots numbers opened parent slot.0 t slot.1 slot.2
 
-    pub short_here : length old.bytes ≤ 2 ^ 31
+    pub short_here : length old.bytes ≤ most_bytes
     short_here = image_short old slots numbers opened parent slot.0 t slot.1 slot.2
 
     -- a table of the group is this one

@@ -1,6 +1,6 @@
 -- A group of an opened image whose links were changed where it stands: what is kept of it stands in the image, and its object is as it was
 -- but for its links.
-use Rattle.std.proofs.Common.{◌≡◌, ℕ, ◌+◌, ◌≤◌, ◌^◌, List, [], ◌∷◌, ◌++◌, length, Option, Some}
+use Rattle.std.proofs.Common.{◌≡◌, ℕ, ◌+◌, ◌≤◌, List, [], ◌∷◌, ◌++◌, length, Option, Some}
 use Rattle.std.specs.Prelude.{slice_get}
 use Rattle.std.specs.BTreeMap.{BTreeMap}
 use Rattle.std.specs.List.{Contains, flat_map}
@@ -8,6 +8,7 @@ use Rattle.h5_bytes.specs.Blocks.{cover}
 use Rattle.h5_bytes.specs.declared.Block.{Block}
 use Rattle.h5_model.specs.Edits.Applied.{with_links}
 use Rattle.h5_model.specs.Format.Addresses.{SymbolTable}
+use Rattle.h5_model.specs.Format.Limits.{most_bytes}
 use Rattle.h5_model.specs.Format.Messages.{prefix_at, reference_count}
 use Rattle.h5_model.specs.Format.Superblock.{k_values, end_of_file, end_field}
 use Rattle.h5_model.specs.Format.Symbols.{Header}
@@ -38,7 +39,7 @@ pub record IsGroupRelinked (old mid new : Space) (slots : List (Option OpenedObj
   pub beside : (q : ℕ) → cover q written + cover q (object_blocks old.bytes p) ≤ cover q (flat_map (object_blocks old.bytes) (objects_of slots))
   pub led : (name : List ℕ) (h : ℕ) → Contains (links_told mid.bytes t) (name, Header h) → IsHeaderIn (table_of slots) h
   pub end : end_of_file new.bytes ≡ length new.bytes
-  pub small : length new.bytes ≤ 2 ^ 31
+  pub small : length new.bytes ≤ most_bytes
 
 module _ (old mid new : Space) (slots : List (Option OpenedObject)) (numbers : BTreeMap ℕ ℕ) (opened : IsOpened old slots numbers) (parent : ℕ) (p : OpenedObject) (t : SymbolTable)
     (written : List Block) (change : Links → Links) (is : IsGroupRelinked old mid new slots parent p t written change) where

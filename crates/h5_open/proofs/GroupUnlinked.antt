@@ -1,5 +1,5 @@
 -- A group of an opened image out of which one link was taken where it stands.
-use Rattle.std.proofs.Common.{◌≡◌, inl, inr, ℕ, ◌+◌, ◌≤◌, ◌^◌, List, [], ◌∷◌, ◌++◌, length, sym, ap, ◌∙◌, subst, Option, Some}
+use Rattle.std.proofs.Common.{◌≡◌, inl, inr, ℕ, ◌+◌, ◌≤◌, List, [], ◌∷◌, ◌++◌, length, sym, ap, ◌∙◌, subst, Option, Some}
 use Rattle.std.specs.Prelude.{slice_get}
 use Rattle.std.specs.Ordering.{nat_cmp}
 use Rattle.std.specs.BTreeMap.{BTreeMap}
@@ -8,6 +8,7 @@ use Rattle.std.specs.List.{Contains, flat_map}
 use Rattle.h5_bytes.specs.Blocks.{cover}
 use Rattle.h5_bytes.specs.declared.Block.{Block}
 use Rattle.h5_model.specs.Format.Addresses.{SymbolTable}
+use Rattle.h5_model.specs.Format.Limits.{most_bytes}
 use Rattle.h5_model.specs.Format.Links.{Ascend}
 use Rattle.h5_model.specs.Format.Superblock.{end_of_file, end_field}
 use Rattle.h5_model.specs.Format.Symbols.{Target, Header}
@@ -84,7 +85,7 @@ module _ (old : Space) (slots : List (Option OpenedObject)) (numbers : BTreeMap 
     -- then bytes of other blocks may be written
     pub unlinked : (new : Space) (written : List Block) → Moves mid new (end_field mid.bytes ∷ written) (end_field new.bytes ∷ written)
         → ((q : ℕ) → cover q written + cover q (object_blocks old.bytes p) ≤ cover q (flat_map (object_blocks old.bytes) (objects_of slots)))
-        → end_of_file new.bytes ≡ length new.bytes → length new.bytes ≤ 2 ^ 31
+        → end_of_file new.bytes ≡ length new.bytes → length new.bytes ≤ most_bytes
         → IsGroupRelinked old mid new slots parent p t written (λ links. remove links name)
     unlinked new written later beside end small = record {
       group = at;

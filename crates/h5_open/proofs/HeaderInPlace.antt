@@ -1,6 +1,6 @@
 -- The header of an object of an opened image: it stands there, beside the free blocks and the end of file address; and what is opened when
 -- its attributes were changed.
-use Rattle.std.proofs.Common.{◌≡◌, ℕ, ◌+◌, ◌≤◌, ◌^◌, false, List, [], ◌∷◌, length, refl, sym, ap, ◌∙◌, subst, arith, Option, Some, None}
+use Rattle.std.proofs.Common.{◌≡◌, ℕ, ◌+◌, ◌≤◌, false, List, [], ◌∷◌, length, refl, sym, ap, ◌∙◌, subst, arith, Option, Some, None}
 use Rattle.std.specs.Prelude.{nat_lt, option_map, slice_get, slice_set}
 use Rattle.std.specs.Option.{option_flatten, option_map_or}
 use Rattle.std.specs.BTreeMap.{BTreeMap}
@@ -11,6 +11,7 @@ use Rattle.std.specs.List.{flat_map}
 use Rattle.h5_bytes.specs.Blocks.{cover}
 use Rattle.h5_bytes.specs.declared.Block.{Block}
 use Rattle.h5_bytes.proofs.BlockLaws.{cover-append, holds-le}
+use Rattle.h5_model.specs.Format.Limits.{most_bytes}
 use Rattle.h5_model.specs.Format.Messages.{Message, prefix_at, reference_count, total_in}
 use Rattle.h5_model.specs.Format.Reads.{HasAttributes}
 use Rattle.h5_model.specs.Format.Superblock.{end_of_file, end_field, superblock_length}
@@ -113,7 +114,7 @@ module _ (image : Space) (slots : List (Option OpenedObject)) (numbers : BTreeMa
       → ((before : Attributes) → HasAttributes (messages_in image.bytes from.list) before → HasAttributes (messages_in mid.bytes m.list) (change before))
       → reference_count (prefix_at mid.bytes m.header) ≡ reference_count (prefix_at image.bytes from.header)
       → Moves image mid from.blocks m.blocks → Moves mid new (end_field mid.bytes ∷ []) (end_field new.bytes ∷ [])
-      → end_of_file new.bytes ≡ length new.bytes → length new.bytes ≤ 2 ^ 31
+      → end_of_file new.bytes ≡ length new.bytes → length new.bytes ≤ most_bytes
       → IsHeaderEdited image mid new slots (slots_with m) number p (with_messages m) change
 
   pub header_edited : IsEditedFrom p.messages

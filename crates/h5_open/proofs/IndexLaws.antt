@@ -1,5 +1,5 @@
 -- The slots and the numbers when one object more is read.
-use Rattle.std.proofs.Common.{◌≡◌, ◌⊎◌, inl, inr, ℕ, zero, suc, ◌^◌, ◌<◌, ◌≤◌, List, [], ◌∷◌, ◌++◌, length, refl, sym, ◌∙◌, ap, subst, Option, Some, None, Bool, true, false, cond, eqb, get_or, arith}
+use Rattle.std.proofs.Common.{◌≡◌, ◌⊎◌, inl, inr, ℕ, zero, suc, ◌<◌, ◌≤◌, List, [], ◌∷◌, ◌++◌, length, refl, sym, ◌∙◌, ap, subst, Option, Some, None, Bool, true, false, cond, eqb, get_or, arith}
 use Rattle.std.specs.Prelude.{MatchOption, option_map, slice_get, ◌||◌}
 use Rattle.std.specs.List.{AllByRecursion, Contains, IsDistinct, list_any}
 use Rattle.std.specs.Option.{option_flatten}
@@ -11,6 +11,7 @@ use Rattle.std.proofs.lemmas.Bool.Decides.{nat_tests}
 use Rattle.std.proofs.lemmas.List.{length-map, map-append}
 use Rattle.std.proofs.lemmas.Map.Steps.{length-le_from_distinct_below}
 use Rattle.std.proofs.lemmas.Option.{same_Some, slice_get-map, slice_get_read}
+use Rattle.h5_model.specs.Format.Limits.{most_bytes}
 use Rattle.h5_bytes.proofs.BlockLaws.{all_append}
 use Rattle.h5_laws.proofs.Lists.{in_contains, stands_at}
 use Rattle.h5_open.specs.declared.opened.object.OpenedObject.{OpenedObject}
@@ -135,24 +136,24 @@ module _ (slots : List (Option OpenedObject)) (numbers : BTreeMap ℕ ℕ) (inde
 
 -- ---- numbers fit
 
-first_below : (h : ℕ) (hs : List ℕ) → h < 2 ^ 31 → (q : ℕ) → (list_any (eqb q) hs ≡ true → q < 2 ^ 31) → (b : Bool) → eqb q h ≡ b → (b || list_any (eqb q) hs) ≡ true → q < 2 ^ 31
+first_below : (h : ℕ) (hs : List ℕ) → h < most_bytes → (q : ℕ) → (list_any (eqb q) hs ≡ true → q < most_bytes) → (b : Bool) → eqb q h ≡ b → (b || list_any (eqb q) hs) ≡ true → q < most_bytes
 first_below h hs low q later true same at = let e : q ≡ h = grind (arith, nat_tests, same) in omega (arith, low, e)
 first_below h hs low q later false other at = later at
 
-below_all : (hs : List ℕ) → AllByRecursion (λ h. h < 2 ^ 31) hs → (q : ℕ) → list_any (eqb q) hs ≡ true → q < 2 ^ 31
+below_all : (hs : List ℕ) → AllByRecursion (λ h. h < most_bytes) hs → (q : ℕ) → list_any (eqb q) hs ≡ true → q < most_bytes
 below_all [] low q is = absurd (cc)
 below_all (h ∷ hs) low q is = first_below h hs low.0 q (below_all hs low.1 q) (eqb q h) refl is
 
 tested_distinct : (hs : List ℕ) → IsDistinct (eq_by_cmp nat_cmp) hs → IsDistinct eqb hs
 tested_distinct hs is = subst (λ (e : ℕ → ℕ → Bool). IsDistinct e hs) (λ i x y. unsigned_tied x y i) is
 
-pub few_objects : (slots : List (Option OpenedObject)) (numbers : BTreeMap ℕ ℕ) → IsNumbered slots numbers → length slots ≤ 2 ^ 31
+pub few_objects : (slots : List (Option OpenedObject)) (numbers : BTreeMap ℕ ℕ) → IsNumbered slots numbers → length slots ≤ most_bytes
 few_objects slots numbers is =
     let hs = headers (objects_of slots) in
-    let few = length-le_from_distinct_below hs (2 ^ 31) (tested_distinct hs is.distinct) (below_all hs is.low) in
+    let few = length-le_from_distinct_below hs most_bytes (tested_distinct hs is.distinct) (below_all hs is.low) in
     omega (arith, few, length-map (objects_of slots) header_of, dense_length slots is.all)
 
-pub numbered_push : (slots : List (Option OpenedObject)) (numbers : BTreeMap ℕ ℕ) → IsNumbered slots numbers → (o : OpenedObject) → header_of o < 2 ^ 31
+pub numbered_push : (slots : List (Option OpenedObject)) (numbers : BTreeMap ℕ ℕ) → IsNumbered slots numbers → (o : OpenedObject) → header_of o < most_bytes
     → (Contains (headers (objects_of slots)) (header_of o) → ⊥) → (number : ℕ) → number ≡ length slots → (numbers' : BTreeMap ℕ ℕ) (key : ℕ) → key ≡ header_of o
     → ((q : ℕ) → lookup nat_cmp numbers' q ≡ cond (is_at (nat_cmp key) q) (Some number) (lookup nat_cmp numbers q)) → (slots' : List (Option OpenedObject))
     → slots' ≡ slots ++ Some o ∷ [] → IsNumbered slots' numbers'
@@ -163,6 +164,6 @@ numbered_push slots numbers is o low new number is_number numbers' key is_key up
       all = dense_push slots o is.all;
       index = index_push slots numbers is.index o numbers' (λ q. updates q ∙ (λ i. cond (is_at (nat_cmp (is_key i)) q) (Some (is_number i)) (lookup nat_cmp numbers q)));
       distinct = more (IsDistinct (eq_by_cmp nat_cmp)) (distinct_push (objects_of slots) o is.distinct new);
-      low = more (AllByRecursion (λ h. h < 2 ^ 31)) (subst (AllByRecursion (λ h. h < 2 ^ 31)) (sym (headers-append (objects_of slots) (o ∷ [])))
-          (all_append (λ h. h < 2 ^ 31) (headers (objects_of slots)) (header_of o ∷ []) is.low (low, tt)));
+      low = more (AllByRecursion (λ h. h < most_bytes)) (subst (AllByRecursion (λ h. h < most_bytes)) (sym (headers-append (objects_of slots) (o ∷ [])))
+          (all_append (λ h. h < most_bytes) (headers (objects_of slots)) (header_of o ∷ []) is.low (low, tt)));
     })

@@ -1,6 +1,6 @@
 -- A link that is to be put into a group of an opened image: what is known of the group and of the link before, and of the header of an array
 -- to which it leads when it is put.
-use Rattle.std.proofs.Common.{◌≡◌, ℕ, ◌+◌, ◌≤◌, ◌^◌, true, false, IsSome, List, [], ◌∷◌, ◌++◌, length, refl, sym, ap, ◌∙◌, subst, arith, Option, Some, None}
+use Rattle.std.proofs.Common.{◌≡◌, ℕ, ◌+◌, ◌≤◌, true, false, IsSome, List, [], ◌∷◌, ◌++◌, length, refl, sym, ap, ◌∙◌, subst, arith, Option, Some, None}
 use Rattle.std.specs.Prelude.{slice_get}
 use Rattle.std.specs.Option.{option_map_or}
 use Rattle.std.specs.Ordering.{nat_cmp}
@@ -12,6 +12,7 @@ use Rattle.h5_bytes.proofs.BlockLaws.{cover-append}
 use Rattle.h5_model.specs.Edits.Applied.{with_links}
 use Rattle.h5_model.specs.Edits.Refusal.{has_zero}
 use Rattle.h5_model.specs.Format.Addresses.{SymbolTable}
+use Rattle.h5_model.specs.Format.Limits.{most_bytes}
 use Rattle.h5_model.specs.Format.Messages.{prefix_at, reference_count}
 use Rattle.h5_model.specs.Format.Superblock.{AreK, leaf_k, internal_k, k_values, end_of_file, end_field, superblock_length}
 use Rattle.h5_model.specs.Format.Symbols.{Target, Header, Text}
@@ -84,7 +85,7 @@ module _ (old : Space) (slots : List (Option OpenedObject)) (numbers : BTreeMap 
   pub group_stood : IsGroupApart old t
   group_stood = record { read = group_read; apart = group_apart; long = group_long; k = group_k }
 
-  pub image_short : length old.bytes ≤ 2 ^ 31
+  pub image_short : length old.bytes ≤ most_bytes
   image_short = omega (arith, opened.reads.1.holds.whole, opened.reads.1.holds.superblock.small)
 
   -- ---- the link
@@ -127,7 +128,7 @@ module _ (old : Space) (slots : List (Option OpenedObject)) (numbers : BTreeMap 
       (moves : Moves old mid (blocks_told old.bytes t) (blocks_told mid.bytes t)) (exact : HasExactKeys old.bytes t → HasExactKeys mid.bytes t) where
     -- a soft link, and then the end of file address
     pub soft_put : (text : List ℕ) → target ≡ Text text → (new : Space) → Moves mid new (end_field mid.bytes ∷ []) (end_field new.bytes ∷ [])
-        → end_of_file new.bytes ≡ length new.bytes → length new.bytes ≤ 2 ^ 31 → IsGroupLinked old mid new slots parent p t name target []
+        → end_of_file new.bytes ≡ length new.bytes → length new.bytes ≤ most_bytes → IsGroupLinked old mid new slots parent p t name target []
     soft_put text soft new ended end small = record {
       group = at;
       kind = kind;
@@ -165,7 +166,7 @@ module _ (old : Space) (slots : List (Option OpenedObject)) (numbers : BTreeMap 
           omega (arith, same, few)
 
       -- a hard link to it, and then the count in its header and the end of file address
-      pub hard_put : target ≡ Header (header_of o) → (set new : Space) → IsTargetCounted mid set new slots number o → end_of_file new.bytes ≡ length new.bytes → length new.bytes ≤ 2 ^ 31
+      pub hard_put : target ≡ Header (header_of o) → (set new : Space) → IsTargetCounted mid set new slots number o → end_of_file new.bytes ≡ length new.bytes → length new.bytes ≤ most_bytes
           → IsGroupLinked old mid new slots parent p t name target o.messages.blocks
       hard_put hard set new its end small = record {
         group = at;

@@ -1,8 +1,9 @@
 -- A link that is put into a group of an opened image, then counted in the header of an array to which it leads, and then the end of file
 -- address written: what is known before, and what the image is then.
-use Rattle.std.proofs.Common.{◌≡◌, ◌↔◌, ℕ, ◌+◌, ◌<◌, ◌≤◌, ◌^◌, true, List, [], ◌∷◌, ◌++◌, length, refl, sym, ap, ◌∙◌, subst, arith, Option, Some, None, IsSome, Ok, Err}
+use Rattle.std.proofs.Common.{◌≡◌, ◌↔◌, ℕ, ◌+◌, ◌<◌, ◌≤◌, true, List, [], ◌∷◌, ◌++◌, length, refl, sym, ap, ◌∙◌, subst, arith, Option, Some, None, IsSome, Ok, Err}
 use Rattle.std.specs.BTreeMap.{BTreeMap}
 use Rattle.std.proofs.lemmas.Option.{same_Some}
+use Rattle.h5_model.specs.Format.Limits.{most_bytes}
 use Rattle.h5_model.specs.declared.link.Link.{Link}
 use Rattle.h5_model.specs.declared.link.LinkTo.{LinkTo}
 use Rattle.h5_model.specs.declared.link.LinkTo.TheVariants as to
@@ -72,9 +73,9 @@ pub no_fault : {A E : Type 0} (a : A) (e : E) → Ok a ≡ Err e → ⊥
 no_fault a e is = absurd (cc)
 
 -- what is left of the room, where neither refusal holds
-pub fits_by : (Deep Full Filled : Type 0) (k : ℕ) → (Deep → ⊥) → (Full → ⊥) → Deep ↔ Filled → Full ↔ ((Filled → ⊥) × (2 ^ 31 < k)) → k ≤ 2 ^ 31
+pub fits_by : (Deep Full Filled : Type 0) (k : ℕ) → (Deep → ⊥) → (Full → ⊥) → Deep ↔ Filled → Full ↔ ((Filled → ⊥) × (most_bytes < k)) → k ≤ most_bytes
 fits_by Deep Full Filled k no_deep no_full deep full =
-    let high : 2 ^ 31 < k → ⊥ = λ more. no_full (full.1 (λ filled. no_deep (deep.1 filled), more)) in
+    let high : most_bytes < k → ⊥ = λ more. no_full (full.1 (λ filled. no_deep (deep.1 filled), more)) in
     omega (arith, high)
 
 module _ (old : Space) (slots : List (Option OpenedObject)) (numbers : BTreeMap ℕ ℕ) (opened : IsOpened old slots numbers) (f : FileState) (view : opened_state old slots ≡ f)
@@ -126,12 +127,12 @@ module _ (old : Space) (slots : List (Option OpenedObject)) (numbers : BTreeMap 
       pub span_is : texts_span (name, lead) ≡ link_span (name, tree_target link.to)
       span_is = span_by slots name link.to lead leads
 
-      pub full_told : (Full : Type 0) → Full ↔ ((IsFullFor old.bytes t name → ⊥) × (2 ^ 31 < length old.bytes + link_room old.bytes t (texts_span (name, lead))))
-          → (u : SymbolTable) → IsGroupOf f parent u → Full ↔ ((IsFullFor f.image u name → ⊥) × (2 ^ 31 < length f.image + link_room f.image u (link_span (name, tree_target link.to))))
+      pub full_told : (Full : Type 0) → Full ↔ ((IsFullFor old.bytes t name → ⊥) × (most_bytes < length old.bytes + link_room old.bytes t (texts_span (name, lead))))
+          → (u : SymbolTable) → IsGroupOf f parent u → Full ↔ ((IsFullFor f.image u name → ⊥) × (most_bytes < length f.image + link_room f.image u (link_span (name, tree_target link.to))))
       full_told Full told =
           told_of old slots numbers opened f view parent t slot
-          (λ (image : List ℕ) (u : SymbolTable). Full ↔ ((IsFullFor image u name → ⊥) × (2 ^ 31 < length image + link_room image u (link_span (name, tree_target link.to)))))
-          (subst (λ (n : ℕ). Full ↔ ((IsFullFor old.bytes t name → ⊥) × (2 ^ 31 < length old.bytes + link_room old.bytes t n))) span_is told)
+          (λ (image : List ℕ) (u : SymbolTable). Full ↔ ((IsFullFor image u name → ⊥) × (most_bytes < length image + link_room image u (link_span (name, tree_target link.to)))))
+          (subst (λ (n : ℕ). Full ↔ ((IsFullFor old.bytes t name → ⊥) × (most_bytes < length old.bytes + link_room old.bytes t n))) span_is told)
 
       -- ---- when it is put
 
@@ -153,7 +154,7 @@ module _ (old : Space) (slots : List (Option OpenedObject)) (numbers : BTreeMap 
         superblock_there number o at set moved = marked_long old slots numbers opened parent p t slot.1 slot.2 mid moves number o at.0 at.1 set moved
 
         module _ (set new : Space) (room : ℕ) (spends : Spends old mid (link_room old.bytes t (texts_span (name, lead))) room)
-            (fits : length old.bytes + link_room old.bytes t (texts_span (name, lead)) ≤ 2 ^ 31) (counted : IsCountedAt mid set slots link.to)
+            (fits : length old.bytes + link_room old.bytes t (texts_span (name, lead)) ≤ most_bytes) (counted : IsCountedAt mid set slots link.to)
             (ended : Moves set new (end_field set.bytes ∷ []) (end_field new.bytes ∷ [])) (end : end_of_file new.bytes ≡ length new.bytes) (long : length new.bytes ≡ length set.bytes) where
           roomy : length new.bytes ≤ length old.bytes + link_room old.bytes t (link_span (name, tree_target link.to))
           roomy =
@@ -162,7 +163,7 @@ module _ (old : Space) (slots : List (Option OpenedObject)) (numbers : BTreeMap 
               let grown = spends.grown in
               omega (arith, long, as_long, subst (λ (n : ℕ). length mid.bytes ≤ length old.bytes + link_room old.bytes t n) span grown)
 
-          small : length new.bytes ≤ 2 ^ 31
+          small : length new.bytes ≤ most_bytes
           small = let as_long = counted_long mid set slots link.to counted in let grown = spends.grown in omega (arith, long, as_long, grown, fits)
 
           -- opened, and changed in place

@@ -1,6 +1,6 @@
 -- An object that is to be added to an opened image, and the link to it: what is known of the name, of the object's place and of its header
 -- before, and what the image is then.
-use Rattle.std.proofs.Common.{◌≡◌, ◌↔◌, ℕ, ◌+◌, ◌<◌, ◌≤◌, ◌^◌, cond, true, List, [], ◌∷◌, ◌++◌, length, refl, sym, ap, ◌∙◌, subst, arith, Option, Some, None, IsSome}
+use Rattle.std.proofs.Common.{◌≡◌, ◌↔◌, ℕ, ◌+◌, ◌<◌, ◌≤◌, cond, true, List, [], ◌∷◌, ◌++◌, length, refl, sym, ap, ◌∙◌, subst, arith, Option, Some, None, IsSome}
 use Rattle.std.specs.Prelude.{MatchOption, option_and_then}
 use Rattle.std.specs.Option.{option_map_or}
 use Rattle.std.specs.Ordering.{nat_cmp}
@@ -10,6 +10,7 @@ use Rattle.std.specs.FinMap.{get, insert}
 use Rattle.std.proofs.lemmas.Option.{slice_get_within}
 use Rattle.h5_model.specs.Edits.Applied.{with_links}
 use Rattle.h5_model.specs.Format.Addresses.{SymbolTable}
+use Rattle.h5_model.specs.Format.Limits.{most_bytes}
 use Rattle.h5_model.specs.Format.Messages.{Message}
 use Rattle.h5_model.specs.Format.Sizes.{text_span}
 use Rattle.h5_model.specs.Tree.Objects.{Tree, Object, Links, Link, ToObject, link_in, links_in}
@@ -88,13 +89,13 @@ module _ (old : Space) (slots : List (Option OpenedObject)) (numbers : BTreeMap 
   object_deep Deep told = told_of old slots numbers opened f view parent t slot (λ (image : List ℕ) (u : SymbolTable). Deep ↔ IsFullFor image u name) told
 
   pub object_full : (Full : Type 0) (at : ℕ) (c : ContentBytes) (lead : Leads) → lead ≡ lead_at at c → (len bytes : ℕ) → len ≡ bytes
-      → Full ↔ ((IsFullFor old.bytes t name → ⊥) × (2 ^ 31 < length old.bytes + (link_room old.bytes t (texts_span (name, lead)) + len)))
-      → (u : SymbolTable) → IsGroupOf f parent u → Full ↔ ((IsFullFor f.image u name → ⊥) × (2 ^ 31 < length f.image + (link_room f.image u (text_span name) + bytes)))
+      → Full ↔ ((IsFullFor old.bytes t name → ⊥) × (most_bytes < length old.bytes + (link_room old.bytes t (texts_span (name, lead)) + len)))
+      → (u : SymbolTable) → IsGroupOf f parent u → Full ↔ ((IsFullFor f.image u name → ⊥) × (most_bytes < length f.image + (link_room f.image u (text_span name) + bytes)))
   object_full Full at c lead leads len bytes size told =
       told_of old slots numbers opened f view parent t slot
-      (λ (image : List ℕ) (u : SymbolTable). Full ↔ ((IsFullFor image u name → ⊥) × (2 ^ 31 < length image + (link_room image u (text_span name) + bytes))))
-      (subst (λ (n : ℕ). Full ↔ ((IsFullFor old.bytes t name → ⊥) × (2 ^ 31 < length old.bytes + (link_room old.bytes t (text_span name) + n)))) size
-      (subst (λ (n : ℕ). Full ↔ ((IsFullFor old.bytes t name → ⊥) × (2 ^ 31 < length old.bytes + (link_room old.bytes t n + len)))) (object_span at c lead leads name) told))
+      (λ (image : List ℕ) (u : SymbolTable). Full ↔ ((IsFullFor image u name → ⊥) × (most_bytes < length image + (link_room image u (text_span name) + bytes))))
+      (subst (λ (n : ℕ). Full ↔ ((IsFullFor old.bytes t name → ⊥) × (most_bytes < length old.bytes + (link_room old.bytes t (text_span name) + n)))) size
+      (subst (λ (n : ℕ). Full ↔ ((IsFullFor old.bytes t name → ⊥) × (most_bytes < length old.bytes + (link_room old.bytes t n + len)))) (object_span at c lead leads name) told))
 
   pub object_name_new : HasNone old.bytes t name
   object_name_new = name_is_new old slots numbers opened parent slot.0 t slot.1 slot.2 name free_here

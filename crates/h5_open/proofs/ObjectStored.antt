@@ -1,9 +1,10 @@
 -- An object that was written into a block, the link to it that was put into a group, and the end of file address that was written: the room
 -- for them, and what the image is then.
-use Rattle.std.proofs.Common.{◌≡◌, ℕ, ◌+◌, ◌≤◌, ◌^◌, List, [], ◌∷◌, length, refl, ap, ◌∙◌, subst, arith}
+use Rattle.std.proofs.Common.{◌≡◌, ℕ, ◌+◌, ◌≤◌, List, [], ◌∷◌, length, refl, ap, ◌∙◌, subst, arith}
 use Rattle.h5_bytes.specs.Blocks.{block}
 use Rattle.h5_bytes.specs.Bytes.{part}
 use Rattle.h5_model.specs.Format.Addresses.{SymbolTable}
+use Rattle.h5_model.specs.Format.Limits.{most_bytes}
 use Rattle.h5_model.specs.Format.Sizes.{text_span}
 use Rattle.h5_model.specs.Format.Superblock.{k_values, end_of_file, end_field}
 use Rattle.h5_model.specs.Format.Symbols.{Target, Header}
@@ -57,7 +58,7 @@ module _ (old taken : Space) (t : SymbolTable) (group : IsGroupApart old t) (nam
   pub room_left : room + len ≤ old.room_bytes → now ≤ taken.room_bytes
   room_left enough = let same : now ≡ room = room_same in let left = spends.bytes_left in omega (arith, same, left, enough)
 
-  pub room_short : length old.bytes + (room + len) ≤ 2 ^ 31 → length taken.bytes + now ≤ 2 ^ 31
+  pub room_short : length old.bytes + (room + len) ≤ most_bytes → length taken.bytes + now ≤ most_bytes
   room_short short = let same : now ≡ room = room_same in let grown = spends.grown in omega (arith, same, grown, short)
 
   module _ (linked : Space) (spent : Spends taken linked now 20) where
@@ -68,7 +69,7 @@ module _ (old taken : Space) (t : SymbolTable) (group : IsGroupApart old t) (nam
         (put : IsLinkPut (target_link (name, lead)) (links_told taken.bytes t) (links_told linked.bytes t)) (apart : IsGroupApart linked t)
         (moves : Moves taken linked (blocks_told taken.bytes t) (blocks_told linked.bytes t)) (k : k_values linked.bytes ≡ k_values taken.bytes)
         (exact : HasExactKeys taken.bytes t → HasExactKeys linked.bytes t) (later : Moves linked new (end_field linked.bytes ∷ []) (end_field new.bytes ∷ []))
-        (end : end_of_file new.bytes ≡ length new.bytes) (long : length new.bytes ≡ length linked.bytes) (short : length old.bytes + (room + len) ≤ 2 ^ 31) where
+        (end : end_of_file new.bytes ≡ length new.bytes) (long : length new.bytes ≡ length linked.bytes) (short : length old.bytes + (room + len) ≤ most_bytes) where
       pub object_stored : IsObjectStored old taken linked new t name at b
       object_stored = record {
         took = subst (λ (n : ℕ). Moves old taken [] (block at n ∷ [])) size took;

@@ -3,6 +3,7 @@ use Rattle.std.proofs.Common.{◌≡◌, ℕ, ◌+◌, ◌*◌, ◌^◌, ◌<◌
 use Rattle.std.specs.BTreeMap.{BTreeMap}
 use Rattle.std.specs.List.{list_all}
 use Rattle.h5_model.specs.Format.Fixed.{Fixed, IsFixed, fits}
+use Rattle.h5_model.specs.Format.Limits.{most_cells}
 use Rattle.h5_model.specs.Format.Plain.{cells_bytes}
 use Rattle.h5_model.specs.Format.Described.{Described}
 use Rattle.h5_model.specs.Tree.Objects.{Dataset}
@@ -51,7 +52,7 @@ module _ {old : Space} {slots : List (Option OpenedObject)} {numbers : BTreeMap 
       (subst (λ (vs : List ℤ). IsStoredRun (opened_state old slots) number place vs ready.array) whole ready.run))
 
   -- no place is above 2^40
-  pub next_low : next + length left ≤ 2 ^ 40
+  pub next_low : next + length left ≤ most_cells
   next_low = run_low image slots numbers made.opened number object made.its.kept array next left left_run
 
   -- the first of them is stored

@@ -1,5 +1,5 @@
 -- Other sizes of an array of an opened image, as callers see the image: what is asked for, and what is given.
-use Rattle.std.proofs.Common.{◌≡◌, ◌↔◌, ℕ, ◌+◌, ◌*◌, ◌<◌, ◌≤◌, ◌^◌, ◌&&◌, Bool, IsFalse, IsTrue, true, List, [], ◌∷◌, length, sym, ap, ◌∙◌, subst, arith, Option, Some, nat_lt}
+use Rattle.std.proofs.Common.{◌≡◌, ◌↔◌, ℕ, ◌+◌, ◌*◌, ◌<◌, ◌≤◌, ◌&&◌, Bool, IsFalse, IsTrue, true, List, [], ◌∷◌, length, sym, ap, ◌∙◌, subst, arith, Option, Some, nat_lt}
 use Rattle.std.specs.Prelude.{if◌then◌else◌, slice_get, slice_set}
 use Rattle.std.specs.BTreeMap.{BTreeMap}
 use Rattle.std.specs.FinMap.{get}
@@ -8,6 +8,7 @@ use Rattle.std.proofs.lemmas.Option.{slice_get_within}
 use Rattle.h5_model.specs.Edits.Applied.{with_sizes, with_dataset}
 use Rattle.h5_model.specs.Edits.Refusal.{is_chunked}
 use Rattle.h5_model.specs.Format.Layout.{Layout, InMessage, InBlock, InChunks}
+use Rattle.h5_model.specs.Format.Limits.{most_bytes}
 use Rattle.h5_model.specs.Format.Messages.{Message}
 use Rattle.h5_model.specs.Format.Superblock.{end_of_file, end_field}
 use Rattle.h5_model.specs.Format.Described.{storage_of, Described}
@@ -101,13 +102,13 @@ module _ (image : Space) (slots : List (Option OpenedObject)) (numbers : BTreeMa
     header_said Full told lacks says = subst (λ (b : Bool). Full ↔ IsTrue b) (place_is lacks says) told
 
     pub image_said : (Full : Type 0)
-        → Full ↔ (IsFalse (has_no_place image.bytes p.messages) × (2 ^ 31 < length image.bytes + extent_room (messages_in image.bytes p.messages.list) sizes))
+        → Full ↔ (IsFalse (has_no_place image.bytes p.messages) × (most_bytes < length image.bytes + extent_room (messages_in image.bytes p.messages.list) sizes))
         → (lacks : Bool) → LacksMaxima f.image (get f.table number) lacks
-        → Full ↔ (IsFalse (lacks && has_full_header f number) × (2 ^ 31 < length f.image + extent_bytes lacks sizes))
+        → Full ↔ (IsFalse (lacks && has_full_header f number) × (most_bytes < length f.image + extent_bytes lacks sizes))
     image_said Full told lacks says =
-        subst (λ (g : FileState). Full ↔ (IsFalse (lacks && has_full_header f number) × (2 ^ 31 < length g.image + extent_bytes lacks sizes))) view
-        (subst (λ (n : ℕ). Full ↔ (IsFalse (lacks && has_full_header f number) × (2 ^ 31 < length image.bytes + n))) (bytes_are lacks says)
-        (subst (λ (b : Bool). Full ↔ (IsFalse b × (2 ^ 31 < length image.bytes + extent_room ms sizes))) (place_is lacks says) told))
+        subst (λ (g : FileState). Full ↔ (IsFalse (lacks && has_full_header f number) × (most_bytes < length g.image + extent_bytes lacks sizes))) view
+        (subst (λ (n : ℕ). Full ↔ (IsFalse (lacks && has_full_header f number) × (most_bytes < length image.bytes + n))) (bytes_are lacks says)
+        (subst (λ (b : Bool). Full ↔ (IsFalse b × (most_bytes < length image.bytes + extent_room ms sizes))) (place_is lacks says) told))
 
     -- nothing changed but what room there is
     module _ (r : Space) (was : r ≡ record image { room_bytes = r.room_bytes; room_blocks = r.room_blocks }) (p' : OpenedObject) (same : p' ≡ p) where
@@ -124,7 +125,7 @@ module _ (image : Space) (slots : List (Option OpenedObject)) (numbers : BTreeMa
     -- ---- what it gives
 
     module _ (mid new : Space) (p' : OpenedObject) (done : IsObjectResized image mid p p' sizes)
-        (grown : length mid.bytes ≤ length image.bytes + extent_room (messages_in image.bytes p.messages.list) sizes) (small : length mid.bytes ≤ 2 ^ 31)
+        (grown : length mid.bytes ≤ length image.bytes + extent_room (messages_in image.bytes p.messages.list) sizes) (small : length mid.bytes ≤ most_bytes)
         (ended : Moves mid new (end_field mid.bytes ∷ []) (end_field new.bytes ∷ [])) (end : end_of_file new.bytes ≡ length new.bytes)
         (long : length new.bytes ≡ length mid.bytes) where
       abbrev slots' : List (Option OpenedObject)

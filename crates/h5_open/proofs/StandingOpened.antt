@@ -1,5 +1,5 @@
 -- An opened image in which cells of an array were written where they stand, in a block or in a chunk.
-use Rattle.std.proofs.Common.{◌≡◌, ℕ, ◌+◌, ◌*◌, ◌^◌, ◌<◌, ◌≤◌, List, ◌∷◌, length, take, drop, sym, ap, ◌∙◌, subst, arith, inl, inr, Option, Some, ℤ, true}
+use Rattle.std.proofs.Common.{◌≡◌, ℕ, ◌+◌, ◌*◌, ◌<◌, ◌≤◌, List, ◌∷◌, length, take, drop, sym, ap, ◌∙◌, subst, arith, inl, inr, Option, Some, ℤ, true}
 use Rattle.std.specs.Prelude.{slice_get}
 use Rattle.std.specs.BTreeMap.{BTreeMap}
 use Rattle.std.specs.List.{list_all}
@@ -14,6 +14,7 @@ use Rattle.h5_bytes.proofs.BlockLaws.{holds_in}
 use Rattle.h5_bytes.proofs.PartLaws.{length-with_part}
 use Rattle.h5_model.specs.Format.Chunks.{Chunks}
 use Rattle.h5_model.specs.Format.Fixed.{IsFixed, fits}
+use Rattle.h5_model.specs.Format.Limits.{most_cells}
 use Rattle.h5_model.specs.Format.Messages.{Message, HasMessages, continuations, first_size, prefix_at}
 use Rattle.h5_model.specs.Format.Plain.{cells_bytes}
 use Rattle.h5_model.specs.Format.Described.{Described, HasArray}
@@ -130,7 +131,7 @@ module _ (old : Space) (slots : List (Option OpenedObject)) (numbers : BTreeMap 
   pub room : place + length values ≤ cells it.sizes
   room = subst (λ (e : Dataset). place + length values ≤ cells e.sizes) d_is run.room
 
-  pub run_low : place + length values ≤ 2 ^ 40
+  pub run_low : place + length values ≤ most_cells
   run_low = omega (arith, room, cells_low (list old slots numbers opened number p stands) it (array_content old slots numbers opened number p stands kind).0.array)
 
   pub all_of_type : list_all (fits it.fixed) values ≡ true

@@ -1,9 +1,10 @@
 -- Storage made for an array of an opened image, as callers see the image: what is asked for, and what is given.
-use Rattle.std.proofs.Common.{◌≡◌, ◌↔◌, ℕ, ◌+◌, ◌<◌, ◌≤◌, ◌^◌, List, [], ◌∷◌, length, sym, subst, arith, Option, Some}
+use Rattle.std.proofs.Common.{◌≡◌, ◌↔◌, ℕ, ◌+◌, ◌<◌, ◌≤◌, List, [], ◌∷◌, length, sym, subst, arith, Option, Some}
 use Rattle.std.specs.Prelude.{slice_get}
 use Rattle.std.specs.BTreeMap.{BTreeMap}
 use Rattle.std.specs.List.{Contains}
 use Rattle.h5_model.specs.Edits.Applied.{with_dataset}
+use Rattle.h5_model.specs.Format.Limits.{most_bytes}
 use Rattle.h5_model.specs.Format.Superblock.{end_of_file, end_field, superblock_length}
 use Rattle.h5_model.specs.Format.Described.{Described}
 use Rattle.h5_model.specs.Tree.Objects.{with_object}
@@ -57,7 +58,7 @@ module _ (image : Space) (slots : List (Option OpenedObject)) (numbers : BTreeMa
       subst (λ (a : Described). IsMissing image.bytes a (here.2).0 missing) (array_is image slots numbers opened number p at here.0 here.1) (here.2).1,
     )
 
-    pub short_here : length image.bytes ≤ 2 ^ 31
+    pub short_here : length image.bytes ≤ most_bytes
     short_here = omega (arith, opened.reads.1.holds.whole, opened.reads.1.holds.superblock.small)
 
     -- ---- what it gives
@@ -75,9 +76,9 @@ module _ (image : Space) (slots : List (Option OpenedObject)) (numbers : BTreeMa
     deep_first_said Deep = said_of (λ (bytes : List ℕ) (a : Described). IsDeepFor bytes a missing 0 → Deep)
 
     pub full_said : (Full : Type 0) → Full ↔ ((IsDeepFor image.bytes (described_in image.bytes p.messages) missing 0 → ⊥)
-        × (2 ^ 31 < length image.bytes + storage_bytes image.bytes (described_in image.bytes p.messages) missing))
-        → (a : Described) → IsArrayThere f number a → Full ↔ ((IsDeepFor f.image a missing 0 → ⊥) × (2 ^ 31 < length f.image + storage_bytes f.image a missing))
-    full_said Full = said_of (λ (bytes : List ℕ) (a : Described). Full ↔ ((IsDeepFor bytes a missing 0 → ⊥) × (2 ^ 31 < length bytes + storage_bytes bytes a missing)))
+        × (most_bytes < length image.bytes + storage_bytes image.bytes (described_in image.bytes p.messages) missing))
+        → (a : Described) → IsArrayThere f number a → Full ↔ ((IsDeepFor f.image a missing 0 → ⊥) × (most_bytes < length f.image + storage_bytes f.image a missing))
+    full_said Full = said_of (λ (bytes : List ℕ) (a : Described). Full ↔ ((IsDeepFor bytes a missing 0 → ⊥) × (most_bytes < length bytes + storage_bytes bytes a missing)))
 
     -- the superblock is there still
     pub superblock_there : (mid : Space)
@@ -88,10 +89,10 @@ module _ (image : Space) (slots : List (Option OpenedObject)) (numbers : BTreeMa
     module _ (mid new : Space)
         (made : (slab : Slab) → IsMissing image.bytes (described_in image.bytes p.messages) slab missing → IsStorageMade image mid p.messages slab missing)
         (spends : length mid.bytes ≤ length image.bytes + storage_bytes image.bytes (described_in image.bytes p.messages) missing)
-        (fits : length image.bytes + storage_bytes image.bytes (described_in image.bytes p.messages) missing ≤ 2 ^ 31)
+        (fits : length image.bytes + storage_bytes image.bytes (described_in image.bytes p.messages) missing ≤ most_bytes)
         (ended : Moves mid new (end_field mid.bytes ∷ []) (end_field new.bytes ∷ [])) (end : end_of_file new.bytes ≡ length new.bytes)
         (long : length new.bytes ≡ length mid.bytes) where
-      small : length mid.bytes ≤ 2 ^ 31
+      small : length mid.bytes ≤ most_bytes
       small = omega (arith, spends, fits)
 
       abbrev slab_here : Slab

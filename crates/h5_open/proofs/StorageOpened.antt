@@ -1,6 +1,6 @@
 -- An opened image in which storage was made for the cells of an array, where the array stands: it is opened as it is now, and in the tree
 -- that array alone is another.
-use Rattle.std.proofs.Common.{◌≡◌, ℕ, ◌+◌, ◌≤◌, ◌^◌, Bool, true, false, List, [], ◌∷◌, length, refl, sym, ap, ◌∙◌, subst, inl, inr, Option, Some, arith}
+use Rattle.std.proofs.Common.{◌≡◌, ℕ, ◌+◌, ◌≤◌, Bool, true, false, List, [], ◌∷◌, length, refl, sym, ap, ◌∙◌, subst, inl, inr, Option, Some, arith}
 use Rattle.std.specs.FinMap.{get}
 use Rattle.std.specs.Prelude.{not, slice_get, slice_index_or, ◌||◌}
 use Rattle.std.specs.BTreeMap.{BTreeMap}
@@ -9,6 +9,7 @@ use Rattle.std.proofs.lemmas.Bool.{not-false}
 use Rattle.h5_model.specs.Edits.Applied.{with_dataset}
 use Rattle.h5_model.specs.Edits.Refusal.{is_chunked}
 use Rattle.h5_model.specs.Format.Chunks.{Chunks}
+use Rattle.h5_model.specs.Format.Limits.{most_bytes}
 use Rattle.h5_model.specs.Format.Messages.{Message}
 use Rattle.h5_model.specs.Format.Superblock.{end_of_file, end_field}
 use Rattle.h5_model.specs.Format.Described.{storage_of, Described}
@@ -67,7 +68,7 @@ module _ (old : Space) (slots : List (Option OpenedObject)) (numbers : BTreeMap 
   -- storage was made, and then the end of file address was written
   module _ (mid new : Space) (slab : Slab) (missing : Missing) (made : IsStorageMade old mid p.messages slab missing)
       (ended : Moves mid new (end_field mid.bytes ∷ []) (end_field new.bytes ∷ [])) (end : end_of_file new.bytes ≡ length new.bytes)
-      (long : length new.bytes ≡ length mid.bytes) (small : length mid.bytes ≤ 2 ^ 31) where
+      (long : length new.bytes ≡ length mid.bytes) (small : length mid.bytes ≤ most_bytes) where
     abbrev mid_ms : List Message
     mid_ms = messages_in mid.bytes p.messages.list
 

@@ -1,6 +1,6 @@
 -- A link that is taken out of a group of an opened image where the group stands, and with it all that no path reaches then, is an edit in
 -- place.
-use Rattle.std.proofs.Common.{◌≡◌, ◌⊎◌, inl, inr, ℕ, zero, suc, ◌+◌, ◌-◌, ◌≤◌, ◌^◌, ◌==◌, true, false, Bool, List, [], ◌∷◌, ◌++◌, length, refl, sym, ap, ◌∙◌, subst, arith, Option, Some, None, IsSome}
+use Rattle.std.proofs.Common.{◌≡◌, ◌⊎◌, inl, inr, ℕ, zero, suc, ◌+◌, ◌-◌, ◌≤◌, ◌==◌, true, false, Bool, List, [], ◌∷◌, ◌++◌, length, refl, sym, ap, ◌∙◌, subst, arith, Option, Some, None, IsSome}
 use Rattle.std.specs.Prelude.{slice_get, option_map, if◌then◌else◌}
 use Rattle.std.specs.Option.{option_flatten, option_map_or}
 use Rattle.std.specs.Ordering.{nat_cmp}
@@ -14,6 +14,7 @@ use Rattle.h5_bytes.specs.Blocks.{cover, Keeps}
 use Rattle.h5_bytes.specs.declared.Block.{Block}
 use Rattle.h5_bytes.proofs.BlockLaws.{cover-append, holds_none}
 use Rattle.h5_model.specs.Format.Addresses.{SymbolTable}
+use Rattle.h5_model.specs.Format.Limits.{most_bytes}
 use Rattle.h5_model.specs.Format.Superblock.{end_field, end_of_file, k_values}
 use Rattle.h5_model.specs.Format.Symbols.{Target, Header, Text}
 use Rattle.h5_model.specs.Tree.Objects.{Tree, Object, Link, Links, ToObject, hard_links, link_in}
@@ -152,7 +153,7 @@ module _ (old : Space) (slots : List (Option OpenedObject)) (numbers : BTreeMap 
   k_now : k_values low.bytes ≡ k_values old.bytes
   k_now = k_kept old slots numbers opened low (links ++ headers) (blocks_told mid.bytes t ++ headers) moved moved_among
 
-  short : length low.bytes ≤ 2 ^ 31
+  short : length low.bytes ≤ most_bytes
   short = omega (arith, long, image_short old slots numbers opened parent p t at kind)
 
   is : IsGroupRelinked old mid low slots parent p t headers change
@@ -484,7 +485,7 @@ module _ (old : Space) (slots : List (Option OpenedObject)) (numbers : BTreeMap 
         (moves_same old new (before ++ (cells ++ blocks)) (after ++ cells) (end_field old.bytes ∷ flat_map (blocks_at old.bytes slots) touched)
         (end_field new.bytes ∷ flat_map (blocks_at new.bytes slots') touched) covered_before covered_after all_moves);
     end = subst (λ (image : List ℕ). end_of_file image ≡ length image) (sym its.bytes) end_now;
-    small = subst (λ (image : List ℕ). length image ≤ 2 ^ 31) (sym its.bytes) short;
+    small = subst (λ (image : List ℕ). length image ≤ most_bytes) (sym its.bytes) short;
     slots_moved = slots_cleared slots slots' (is_among touched) its.cleared.as_many opened.low each_slot;
     same = other_same;
     counts = λ n out some. none_lost n (not_lost n out);

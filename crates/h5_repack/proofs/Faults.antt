@@ -1,10 +1,11 @@
 -- A fault at one object, or of all objects together, is a fault of the tree.
-use Rattle.std.proofs.Common.{◌≡◌, ℕ, ◌+◌, ◌^◌, ◌<◌, ◌≤◌, inl, inr, List, [], ◌∷◌, sym, ap, ◌∙◌, subst, arith, length, Option, Some}
+use Rattle.std.proofs.Common.{◌≡◌, ℕ, ◌+◌, ◌<◌, ◌≤◌, inl, inr, List, [], ◌∷◌, sym, ap, ◌∙◌, subst, arith, length, Option, Some}
 use Rattle.std.proofs.lemmas.Option.{same_Some}
 use Rattle.std.specs.Prelude.{slice_get, is_some, IsSome}
 use Rattle.std.specs.List.{AllZip}
 use Rattle.std.specs.FinMap.{get}
 use Rattle.std.specs.Option.{option_flatten}
+use Rattle.h5_model.specs.Format.Limits.{most_bytes}
 use Rattle.h5_model.specs.Format.PlainLength.{plain_length}
 use Rattle.h5_model.specs.Tree.Objects.{Tree, Object}
 use Rattle.h5_repack.specs.Image.Written.{counts_of, end_from, image_end, object_length}
@@ -41,8 +42,8 @@ module _ (k : KValues) (objects : List (Option NewObject)) (tree : Tree) (held :
   whole_length : image_end k counts (pairs objects tree held order met) ≡ plain_length k counts tree
   whole_length = image_length k counts tree (pairs objects tree held order met) (is_order objects tree held order met)
 
-  object_long : (n : ℕ) (o : Object) → slice_get (listed objects tree held) n ≡ Some (Some o) → 2 ^ 31 < object_length k (counts n) o
-      → 2 ^ 31 < plain_length k counts tree
+  object_long : (n : ℕ) (o : Object) → slice_get (listed objects tree held) n ≡ Some (Some o) → most_bytes < object_length k (counts n) o
+      → most_bytes < plain_length k counts tree
   object_long n o is long =
       let found : get tree n ≡ Some o = numbers objects tree held n ∙ ap option_flatten is in
       let some : IsSome (get tree n) = ap is_some found in
@@ -51,11 +52,11 @@ module _ (k : KValues) (objects : List (Option NewObject)) (tree : Tree) (held :
       = subst (λ (x : Object). In (n, x) (pairs objects tree held order met)) own (in_pairs (object objects tree held) order n (in_order objects tree held order met n some)) in
       omega (arith, member_within k counts (plain_superblock_length k) (pairs objects tree held order met) n o there, long, whole_length)
 
-  stored_long : (n : ℕ) (w : StoredObject) → slice_get (stored_listed objects tree held) n ≡ Some (Some w) → 2 ^ 31 < stored_length k w
-      → 2 ^ 31 < plain_length k counts tree
+  stored_long : (n : ℕ) (w : StoredObject) → slice_get (stored_listed objects tree held) n ≡ Some (Some w) → most_bytes < stored_length k w
+      → most_bytes < plain_length k counts tree
   stored_long n w is long =
       let back = found_back objects tree held n w is in
-      object_long n w.object back.0 (subst (λ (chunks : List (List ℕ)). 2 ^ 31 < object_length k (length chunks) w.object) (sym back.1) long)
+      object_long n w.object back.0 (subst (λ (chunks : List (List ℕ)). most_bytes < object_length k (length chunks) w.object) (sym back.1) long)
 
   pub unwritten_measured : (fault : WriteFault) → AreUnmeasured k (stored_listed objects tree held) fault → IsUnwritten k (stored_in objects) tree fault
   unwritten_measured TooLong un = stored_long un.0 un.1 un.2 un.3

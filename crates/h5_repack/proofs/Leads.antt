@@ -1,9 +1,10 @@
 -- Where links lead in a layout, and that their texts don't depend on it.
-use Rattle.std.proofs.Common.{◌≡◌, ℕ, ◌+◌, ◌*◌, ◌^◌, ◌≤◌, List, [], ◌∷◌, map, refl, sym, ap, ◌∙◌, subst, arith, length, Option, Some, None}
+use Rattle.std.proofs.Common.{◌≡◌, ℕ, ◌+◌, ◌*◌, ◌≤◌, List, [], ◌∷◌, map, refl, sym, ap, ◌∙◌, subst, arith, length, Option, Some, None}
 use Rattle.std.proofs.lemmas.Slice.Zip.{AllZip-long}
 use Rattle.std.specs.Prelude.{slice_get}
 use Rattle.std.specs.List.{AllZip}
 use Rattle.std.specs.Option.{option_map_or}
+use Rattle.h5_model.specs.Format.Limits.{most_bytes}
 use Rattle.h5_model.specs.Format.Plain.{segment_bytes}
 use Rattle.h5_model.specs.Format.PlainLength.{nodes_over, rows_of}
 use Rattle.h5_model.specs.Format.Sizes.{group_node, symbol_node}
@@ -21,9 +22,9 @@ use Rattle.h5_repack.specs.Layout.{IsLowExtent, IsLowSize, extent_length, header
 
 -- ---- addresses
 
-pub heap_low : (h : ℕ) (s : Size) (p : GroupPlaces) → s.extent ≡ extent.Links p → IsLowSize s → h + size_length s ≤ 2 ^ 31 → h + s.header + p.tree ≤ 2 ^ 31
+pub heap_low : (h : ℕ) (s : Size) (p : GroupPlaces) → s.extent ≡ extent.Links p → IsLowSize s → h + size_length s ≤ most_bytes → h + s.header + p.tree ≤ most_bytes
 heap_low h s p e low within =
-    let own : (p.tree ≤ p.length) × (p.length ≤ 2 ^ 31) = subst IsLowExtent e low.extent_low in
+    let own : (p.tree ≤ p.length) × (p.length ≤ most_bytes) = subst IsLowExtent e low.extent_low in
     let length_is : extent_length s.extent ≡ p.length = ap extent_length e in
     omega (arith, own.0, length_is, within)
 

@@ -1,5 +1,5 @@
 -- The order in which objects are met is an order of their tree, and where their headers stand is the table of the order.
-use Rattle.std.proofs.Common.{◌≡◌, ◌⊎◌, ℕ, zero, suc, ◌+◌, ◌^◌, ◌<◌, ◌≤◌, inl, inr, List, [], ◌∷◌, map, refl, sym, ap, ◌∙◌, subst, arith, length, replicate, Option, Some, None, true, false}
+use Rattle.std.proofs.Common.{◌≡◌, ◌⊎◌, ℕ, zero, suc, ◌+◌, ◌<◌, ◌≤◌, inl, inr, List, [], ◌∷◌, map, refl, sym, ap, ◌∙◌, subst, arith, length, replicate, Option, Some, None, true, false}
 use Rattle.std.proofs.lemmas.Slice.Zip.{AllZip-long}
 use Rattle.std.proofs.lemmas.List.{length-replicate}
 use Rattle.std.proofs.lemmas.Option.{same_Some}
@@ -8,6 +8,7 @@ use Rattle.std.specs.Ordering.{nat_cmp, eq_by_cmp}
 use Rattle.std.specs.FinMap.{get, empty}
 use Rattle.std.specs.List.{AllByRecursion, AllZip, Contains, IsDistinct}
 use Rattle.std.specs.Option.{option_flatten, option_map_or}
+use Rattle.h5_model.specs.Format.Limits.{most_bytes}
 use Rattle.h5_model.specs.Tree.Objects.{Tree, Object, Content, Group, Array, Dataset}
 use Rattle.h5_repack.specs.Bodies.Headers.{AreStoredFor}
 use Rattle.h5_repack.specs.Image.Plain.{AreStoredIn, IsPlain}
@@ -287,7 +288,7 @@ module _ (objects : List (Option NewObject)) (tree : Tree) (held : IsTreeToWrite
           stands : (n : ℕ) (found : Option ℕ) → option_flatten (slice_get p.headers.items n) ≡ found → header_by l n ≡ unwrap_or found 0
           stands n found is = ap (λ (hs : List (Option ℕ)). unwrap_or (option_flatten (slice_get hs n)) 0) headers_is ∙ ap (λ (r : Option ℕ). unwrap_or r 0) is
 
-          each_low : (n : ℕ) (s : Size) → slice_get sizes n ≡ Some s → header_by l n + size_length s ≤ 2 ^ 31
+          each_low : (n : ℕ) (s : Size) → slice_get sizes n ≡ Some s → header_by l n + size_length s ≤ most_bytes
           each_low n s found = elim (met_or_none n) [
             | inl inside ↦
                 let at = placed_within (length_by_number sizes) (plain_superblock_length k) order nowhere apart below_nowhere n inside in

@@ -1,5 +1,5 @@
 -- What is appended of an object is its bytes in the layout.
-use Rattle.std.proofs.Common.{◌≡◌, ℕ, ◌+◌, ◌*◌, ◌^◌, ◌<◌, ◌≤◌, List, [], ◌∷◌, ◌++◌, map, refl, sym, ap, ◌∙◌, subst, arith, length, get_or, append_assoc, Some, Option, take}
+use Rattle.std.proofs.Common.{◌≡◌, ℕ, ◌+◌, ◌*◌, ◌<◌, ◌≤◌, List, [], ◌∷◌, ◌++◌, map, refl, sym, ap, ◌∙◌, subst, arith, length, get_or, append_assoc, Some, Option, take}
 use Rattle.std.proofs.lemmas.List.{take_more, append-nil}
 use Rattle.std.proofs.lemmas.List.Concat.{flat_map-append}
 use Rattle.std.proofs.lemmas.Option.{get_or_from_slice_get}
@@ -7,6 +7,7 @@ use Rattle.std.specs.Prelude.{slice_get, slice_index}
 use Rattle.std.specs.FinMap.{entries, len}
 use Rattle.std.specs.List.{AllZip, flat_map}
 use Rattle.std.specs.Option.{option_flatten, option_map_or}
+use Rattle.h5_model.specs.Format.Limits.{most_bytes}
 use Rattle.h5_model.specs.Format.Plain.{header_bytes}
 use Rattle.h5_model.specs.Format.PlainLength.{nodes_over, rows_of}
 use Rattle.h5_model.specs.Format.Sizes.{group_node}
@@ -53,7 +54,7 @@ pub header_read : (sizes : List Size) (n : ℕ) (s d : Size) → slice_get sizes
 header_read sizes n s d found = ap (λ (z : Size). z.header) (get_or_from_slice_get sizes n s d found)
 
 pub links_low : (h : ℕ) (sizes : List Size) (n : ℕ) (s d : Size) (p : GroupPlaces) → slice_get sizes n ≡ Some s → (get_or sizes n d).extent ≡ extent.Links p
-    → h + size_length s ≤ 2 ^ 31 → h + (get_or sizes n d).header + p.length ≤ 2 ^ 31
+    → h + size_length s ≤ most_bytes → h + (get_or sizes n d).header + p.length ≤ most_bytes
 links_low h sizes n s d p found e low =
     let own : extent_length s.extent ≡ p.length = ap extent_length (extent_read sizes n s d (extent.Links p) found e) in
     omega (arith, own, header_read sizes n s d found, low)

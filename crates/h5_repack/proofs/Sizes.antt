@@ -1,10 +1,11 @@
 -- How many bytes objects have, as they are measured.
-use Rattle.std.proofs.Common.{Vec, Global, ◌≡◌, ℕ, ◌+◌, ◌*◌, ◌^◌, ◌<◌, ◌≤◌, List, map, refl, sym, ap, ap₂, ◌∙◌, subst, arith, length, Some, None, Option, true, false, Bool, eqb-true}
+use Rattle.std.proofs.Common.{Vec, Global, ◌≡◌, ℕ, ◌+◌, ◌*◌, ◌<◌, ◌≤◌, List, map, refl, sym, ap, ap₂, ◌∙◌, subst, arith, length, Some, None, Option, true, false, Bool, eqb-true}
 use Rattle.std.proofs.lemmas.Slice.Zip.{AllZip-long}
 use Rattle.std.specs.Prelude.{◌==◌, if◌then◌else◌, slice_get}
 use Rattle.std.specs.List.{AllZip}
 use Rattle.std.specs.FinMap.{entries, len, len-entries}
 use Rattle.h5_model.specs.Edits.Refusal.{are_maxima}
+use Rattle.h5_model.specs.Format.Limits.{most_bytes}
 use Rattle.h5_model.specs.Format.Plain.{messages_bytes}
 use Rattle.h5_model.specs.Format.PlainLength.{content_bytes, data_bytes, nodes_over, rows_of}
 use Rattle.h5_model.specs.Format.Sizes.{chunk_node, header_size}
@@ -78,7 +79,7 @@ array_of x o a c is held = by_content (o.object).content refl (subst (λ (y : Ne
   }
 
 -- the other messages are no longer than the header
-pub others_low : (k : KValues) (others : OthersBytes) (o : StoredObject) (s : Size) → AreOthers (others_of o.object) others → IsPlain o.object → IsSize k o s → length others.bytes ≤ 2 ^ 31
+pub others_low : (k : KValues) (others : OthersBytes) (o : StoredObject) (s : Size) → AreOthers (others_of o.object) others → IsPlain o.object → IsSize k o s → length others.bytes ≤ most_bytes
 others_low k others o s are plain size = omega (arith, ap length are.bytes_are, length-others o.object plain.others, size.header, (size.low).header)
 
 -- ---- groups
@@ -101,7 +102,7 @@ module _ (links : List (Link ObjectNo)) (others : OthersBytes) (o : StoredObject
     pub own_count : length bare ≡ len is.group
     own_count = AllZip-long laws.IsLinkWritten (entries is.group) bare own_written ∙ sym (len-entries is.group)
 
-    pub group_long : 2 ^ 31 < links_length k.leaf k.internal bare → 2 ^ 31 < stored_length k o
+    pub group_long : most_bytes < links_length k.leaf k.internal bare → most_bytes < stored_length k o
     group_long long = omega (arith, long, own_length)
 
     pub group_deep : 15 < tree_level k.leaf k.internal bare → IsLowContent k (length o.chunks) (o.object).content → ⊥
@@ -110,7 +111,7 @@ module _ (links : List (Link ObjectNo)) (others : OthersBytes) (o : StoredObject
         let own : IsLow k.leaf k.internal is.group = subst (IsLowContent k (length o.chunks)) is.content low in
         omega (arith, own, level)
 
-    pub group_size : (header : ℕ) (p : GroupPlaces) → header ≡ length (group_written 0 0 others) → header ≤ 2 ^ 31 → ArePlaces k.leaf k.internal bare p
+    pub group_size : (header : ℕ) (p : GroupPlaces) → header ≡ length (group_written 0 0 others) → header ≤ most_bytes → ArePlaces k.leaf k.internal bare p
         → IsSize k o (record { header = header; extent = extent.Links p })
     group_size header p header_is low places =
         let size : header ≡ header_size o.object = header_is ∙ group_header_length 0 0 in
@@ -125,7 +126,7 @@ module _ (links : List (Link ObjectNo)) (others : OthersBytes) (o : StoredObject
 
 -- ---- arrays
 
-extent_few : (x : Extent) → IsLowExtent x → extent_length x ≤ 2 ^ 31
+extent_few : (x : Extent) → IsLowExtent x → extent_length x ≤ most_bytes
 extent_few (extent.Links p) low = low.1
 extent_few (extent.Data n) low = low
 
@@ -176,7 +177,7 @@ module _ (a : Described) (c : Cells) (others : OthersBytes) (o : StoredObject) (
       ∙ ap (λ (chunks : List (List ℕ)). data_bytes chunk_k (length chunks) is.dataset) is.chunks_are
 
   -- each chunk has a byte
-  pub chunks_few : (chunk_k : ℕ) → 1 ≤ chunk_k → length (data_written chunk_k c a 0) ≤ 2 ^ 31 → length (chunks_of c) ≤ 2 ^ 31
+  pub chunks_few : (chunk_k : ℕ) → 1 ≤ chunk_k → length (data_written chunk_k c a 0) ≤ most_bytes → length (chunks_of c) ≤ most_bytes
   chunks_few chunk_k some_k low =
       let same : data_bytes chunk_k (length (chunks_of c)) is.dataset ≡ data_bytes chunk_k (length o.chunks) is.dataset
       = ap (λ (chunks : List (List ℕ)). data_bytes chunk_k (length chunks) is.dataset) is.chunks_are in
@@ -209,7 +210,7 @@ module _ (a : Described) (c : Cells) (others : OthersBytes) (o : StoredObject) (
         array_bytes chunk_k some_k place ∙ ap (λ n. data_bytes n (length o.chunks) is.dataset) k_is ∙ sym (ap (content_bytes k (length o.chunks)) is.content)
 
     -- data that an image cannot have
-    pub array_long : ((place : ℕ) → IsLength None (length (data_written chunk_k c a place))) → 2 ^ 31 < stored_length k o
+    pub array_long : ((place : ℕ) → IsLength None (length (data_written chunk_k c a place))) → most_bytes < stored_length k o
     array_long long = omega (arith, long 0, array_content 0)
 
     -- a tree of chunks that is too deep
@@ -219,7 +220,7 @@ module _ (a : Described) (c : Cells) (others : OthersBytes) (o : StoredObject) (
         let level = tree_low chunk_k (subst (λ n. IsLowStorage n (length o.chunks) (is.dataset).storage) (sym k_is) own) in
         omega (arith, deep, level)
 
-    pub array_size : (header data_length : ℕ) → header ≡ length (header_written 0 a c others None) → header ≤ 2 ^ 31
+    pub array_size : (header data_length : ℕ) → header ≡ length (header_written 0 a c others None) → header ≤ most_bytes
         → ((place : ℕ) → IsLength (Some data_length) (length (data_written chunk_k c a place))) → root_level chunk_k (length (chunks_of c)) ≤ 15
         → IsSize k o (record { header = header; extent = extent.Data data_length })
     array_size header data_length header_is low length_is level =
@@ -236,7 +237,7 @@ module _ (a : Described) (c : Cells) (others : OthersBytes) (o : StoredObject) (
         }
 
     -- of an object that has a size the data and the tree of chunks are low
-    pub data_low : (s : Size) → IsSize k o s → (place : ℕ) → length (data_written chunk_k c a place) ≤ 2 ^ 31
+    pub data_low : (s : Size) → IsSize k o s → (place : ℕ) → length (data_written chunk_k c a place) ≤ most_bytes
     data_low s size place = omega (arith, array_content place, size.whole, size.header, extent_few s.extent (size.low).extent_low)
 
     pub level_low : (s : Size) → IsSize k o s → root_level chunk_k (length (chunks_of c)) ≤ 15

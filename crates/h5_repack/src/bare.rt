@@ -1,9 +1,10 @@
 //! A group without links and without attributes: its header, and behind it the one node of its tree, and its heap (File Format
 //! Specification 3.0, sections III.A.1, III.D and IV.A.1.a).
 
-ghost use Rattle.std.specs.Prelude.{◌≡◌, ℕ, ◌+◌, ◌^◌, ◌≤◌, ◌++◌, [], OnOk, length};
+ghost use Rattle.std.specs.Prelude.{◌≡◌, ℕ, ◌+◌, ◌≤◌, ◌++◌, [], OnOk, length};
 ghost use Rattle.h5_group.specs.Writing.Places.{ArePlaces};
 ghost use Rattle.h5_group.specs.Writing.Written.{links_bytes};
+ghost use Rattle.h5_model.specs.Format.Limits.{most_bytes};
 ghost use Rattle.h5_model.specs.Format.Sizes.{group_node};
 ghost use Rattle.h5_model.specs.Format.Superblock.{AreK, AreKValues};
 ghost use Rattle.h5_repack.specs.Bodies.Headers.{group_header};
@@ -44,7 +45,7 @@ pub fn bare_group_length(internal: u16) -> u64
 /// The addresses of the tree and of the heap of such a group whose header stands at the address `at`. That the group ends within
 /// 2147483648 bytes is the caller's condition.
 pub fn bare_group_table(internal: u16, at: u64) -> SymbolTable
-    requires { at + group_node internal + 160 ≤ 2 ^ 31 }
+    requires { at + group_node internal + 160 ≤ most_bytes }
     ensures { result ≡ record { tree = at + 40; heap = at + 40 + group_node internal } }
 {
     let tree = at + GROUP_HEADER;
@@ -64,7 +65,7 @@ pub fn push_bare_group(
     at: u64,
 ) -> Result<(), AllocError>
     requires k { AreKValues k.now }
-    requires low { at + group_node k.now.internal + 160 ≤ 2 ^ 31 }
+    requires low { at + group_node k.now.internal + 160 ≤ most_bytes }
     ensures bytes { OnOk result (out.new.items ≡ out.old.items
         ++ (group_header (at + 40) (at + 40 + group_node k.now.internal) []
         ++ links_bytes k.now.leaf k.now.internal (at + 40) [])) }

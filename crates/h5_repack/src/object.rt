@@ -1,7 +1,8 @@
 //! Objects as they are appended: a header, and behind it what belongs to it (File Format Specification 3.0, sections III and IV.A).
 
-ghost use Rattle.std.specs.Prelude.{◌≡◌, ◌+◌, ◌^◌, ◌<◌, ◌≤◌, ◌++◌, List, Option, OnOk, Some, length, map, slice_get};
+ghost use Rattle.std.specs.Prelude.{◌≡◌, ◌+◌, ◌<◌, ◌≤◌, ◌++◌, List, Option, OnOk, Some, length, map, slice_get};
 ghost use Rattle.std.specs.List.{AllByRecursion, AllZip, flat_map};
+ghost use Rattle.h5_model.specs.Format.Limits.{most_bytes};
 ghost use Rattle.h5_model.specs.Format.Superblock.{AreKValues};
 ghost use Rattle.h5_group.specs.Writing.Written.{links_bytes};
 ghost use Rattle.h5_btree.specs.Writing.Written.{root_level};
@@ -38,8 +39,8 @@ pub(crate) fn push_group(
     requires held { (o : StoredObject) × IsGroupObject links.now others.now o
         × IsExtent layout.now.k (length o.chunks) (o.object).content
         (Links places.now) }
-    requires low { at + places.now.length ≤ 2 ^ 31 }
-    requires header { length others.now.bytes ≤ 2 ^ 31 }
+    requires low { at + places.now.length ≤ most_bytes }
+    requires header { length others.now.bytes ≤ most_bytes }
     ensures { OnOk result
         (out.new.items ≡ out.old.items ++ (group_written at (at + places.now.tree) others.now
         ++ links_bytes layout.now.k.leaf layout.now.k.internal at
@@ -66,9 +67,9 @@ fn push_array(
     requires most { chunk_k ≤ 32767 }
     requires held { (o : StoredObject) × IsArrayObject array.now cells.now others.now o }
     requires level { root_level chunk_k (length (chunks_of cells.now)) ≤ 15 }
-    requires low { at ≤ 2 ^ 31 }
-    requires few { length (data_written chunk_k cells.now array.now at) ≤ 2 ^ 31 }
-    requires header { length others.now.bytes ≤ 2 ^ 31 }
+    requires low { at ≤ most_bytes }
+    requires few { length (data_written chunk_k cells.now array.now at) ≤ most_bytes }
+    requires header { length others.now.bytes ≤ most_bytes }
     ensures { OnOk result
         ((o : StoredObject) (is : IsArrayObject array.now cells.now others.now o)
         → out.new.items ≡ out.old.items ++ array_at chunk_k at count o is.dataset) }

@@ -2,6 +2,7 @@
 
 ghost use Rattle.std.specs.Prelude.{◌≡◌, ◌+◌, ◌<◌, ◌≤◌, ◌^◌, ◌++◌, List, Option, IfOk, IfErr, Some, OnOk, length, slice_get};
 ghost use Rattle.std.specs.List.{AllByRecursion, AllZip, flat_map};
+ghost use Rattle.h5_model.specs.Format.Limits.{most_bytes};
 ghost use Rattle.h5_model.specs.Tree.Objects.{Tree};
 ghost use Rattle.h5_model.specs.Format.Superblock.{AreKValues};
 ghost use Rattle.h5_repack.specs.Layout.{IsHeldObject, IsLowLayout, IsLowSize, IsSlotSize, StoredObject, front_at, numbered_at};
@@ -74,7 +75,7 @@ fn image_of(
     requires k { AreKValues layout.now.k }
     requires layout { IsLowLayout layout.now }
     requires some { 0 < length layout.now.sizes.now }
-    requires end { end ≤ 2 ^ 31 }
+    requires end { end ≤ most_bytes }
     requires filled { AllByRecursion (IsFilled objects.now) order.now }
     requires counted { length counts.now ≡ length objects.now }
     requires held { (listed : List (Option StoredObject)) × AllZip (SlotsHold IsHeldObject) objects.now listed

@@ -5,6 +5,7 @@ use Rattle.std.proofs.lemmas.Bool.Decides.{nat_tests}
 use Rattle.std.proofs.Math.Seq.{take-length}
 use Rattle.std.proofs.Math.Nat.{mul-le-mul_left, mul-le-mul_right}
 use Rattle.std.specs.List.{list_any}
+use Rattle.h5_model.specs.Format.Limits.{most_cells}
 use Rattle.h5_model.specs.Tree.Places.{cells}
 use Rattle.h5_model.specs.declared.Axis.{Axis}
 use Rattle.h5_model.specs.Views.Selection.{Slab, fits_along, fits_all, has_no_cell, overlaps, selects_none}
@@ -26,7 +27,7 @@ axis_room a d c fits more =
     rw whole at (steps_room (a.count - 1) a.stride d c (omega arith) (omega arith))
 
 pub step_room : (sizes : List ℕ) (a : Axis) (rest : Slab) → 1 ≤ length sizes → fits_all sizes (a ∷ rest) ≡ true
-    → 1 < a.count → cells sizes ≤ 2 ^ 40 → (c : ℕ) → c ≡ cells (take (length sizes - 1) (drop 1 sizes))
+    → 1 < a.count → cells sizes ≤ most_cells → (c : ℕ) → c ≡ cells (take (length sizes - 1) (drop 1 sizes))
     → a.count * (a.stride * c) < 2 ^ 64
 step_room [] a rest long fits more small c below = absurd (omega arith)
 step_room (d ∷ ds) a rest long fits more small c below =

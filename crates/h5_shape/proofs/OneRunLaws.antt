@@ -3,6 +3,7 @@ use Rattle.std.proofs.Common.{◌≡◌, ℕ, ◌≤◌, List, [], ◌∷◌, le
 use Rattle.std.proofs.lemmas.Bool.Decides.{nat_tests}
 use Rattle.std.proofs.lemmas.List.{append-nil}
 use Rattle.std.specs.List.{list_any}
+use Rattle.h5_model.specs.Format.Limits.{most_dimensions}
 use Rattle.h5_model.specs.declared.Hyper.{Hyper}
 use Rattle.h5_model.specs.Views.Selection.{Slab, axes_of, has_rank, has_no_stride, is_run, overlaps, selection_of, selects_none}
 use Rattle.h5_model.proofs.RefusalLaws.{length-axes_of}
@@ -21,7 +22,7 @@ use Rattle.h5_shape.proofs.SlabRuns.{within_fits, selection_none}
 
 module _ (sizes : List ℕ) (hyper : Hyper) where
   -- what the recursion over the dimensions gives is the run of the hyperslab
-  pub one-run_from : (inner : InnerRun) → has_rank (length sizes) hyper ≡ true → length sizes ≤ 32 → IsInnerRun sizes (axes_of hyper) inner
+  pub one-run_from : (inner : InnerRun) → has_rank (length sizes) hyper ≡ true → length sizes ≤ most_dimensions → IsInnerRun sizes (axes_of hyper) inner
       → IsOneRun sizes hyper (record { place = inner.place; length = inner.length })
   one-run_from inner ranks few run =
       let kept = run.selecting in

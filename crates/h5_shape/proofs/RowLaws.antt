@@ -1,5 +1,5 @@
 -- Selected cells by their numbers, and in rows of groups.
-use Rattle.std.proofs.Common.{◌≡◌, ℕ, zero, suc, ◌+◌, ◌-◌, ◌*◌, ◌/◌, ◌%◌, ◌^◌, ◌<◌, ◌≤◌, List, [], ◌∷◌, ◌++◌, length, get_or, take, drop, map, refl, sym, ap, ◌∙◌, arith, true, false}
+use Rattle.std.proofs.Common.{◌≡◌, ℕ, zero, suc, ◌+◌, ◌-◌, ◌*◌, ◌/◌, ◌%◌, ◌<◌, ◌≤◌, List, [], ◌∷◌, ◌++◌, length, get_or, take, drop, map, refl, sym, ap, ◌∙◌, arith, true, false}
 use Rattle.std.proofs.Math.Nat.{mul-le-mul_left, mul-le-mul_right}
 use Rattle.std.proofs.lemmas.Bool.{and_parts, or_parts}
 use Rattle.std.proofs.lemmas.Bool.Decides.{nat_tests}
@@ -7,6 +7,7 @@ use Rattle.std.proofs.lemmas.Grind.{flat_map-append}
 use Rattle.std.proofs.lemmas.List.{map-append}
 use Rattle.std.proofs.lemmas.Nat.{div-mul-add, mod-mul-add, mul-add-lt, mul-lt, div-add-mod', div_below, mod_below}
 use Rattle.std.specs.List.{list_any, range_with_len}
+use Rattle.h5_model.specs.Format.Limits.{most_cells}
 use Rattle.h5_model.specs.Tree.Places.{cells, index_of}
 use Rattle.h5_model.specs.declared.Axis.{Axis}
 use Rattle.h5_model.specs.Views.Selection.{Slab, selection_of, fits_along, fits_all, has_no_cell, overlaps, selects_none}
@@ -254,12 +255,12 @@ index_below a d t fits low =
 -- what an axis selects, and the places of it, within the cells of the array
 pub record HasRoom (sizes : List ℕ) (a : Axis) (c place : ℕ) : Type 0 where
   pub some : 0 < a.count * a.block
-  pub few : a.count * a.block ≤ 2 ^ 40
-  pub low : (t : ℕ) → t < a.count * a.block → a.start + t / a.block * a.stride + t % a.block < 2 ^ 40
+  pub few : a.count * a.block ≤ most_cells
+  pub low : (t : ℕ) → t < a.count * a.block → a.start + t / a.block * a.stride + t % a.block < most_cells
   pub at : (t : ℕ) → t < a.count * a.block → (a.start + t / a.block * a.stride + t % a.block) * c + place < cells sizes
 
 pub room_along : (sizes : List ℕ) (a : Axis) (rest : Slab) (c place : ℕ) → 1 ≤ length sizes → fits_all sizes (a ∷ rest) ≡ true → selects_none (a ∷ rest) ≡ false
-    → list_any overlaps (a ∷ rest) ≡ false → cells sizes ≤ 2 ^ 40 → c ≡ cells (take (length sizes - 1) (drop 1 sizes)) → place < c → HasRoom sizes a c place
+    → list_any overlaps (a ∷ rest) ≡ false → cells sizes ≤ most_cells → c ≡ cells (take (length sizes - 1) (drop 1 sizes)) → place < c → HasRoom sizes a c place
 room_along [] a rest c place long fits some apart small below low = absurd (omega arith)
 room_along (d ∷ ds) a rest c place long fits some apart small below low =
     let under : c ≡ cells ds = rw (tail_is d ds) at below in

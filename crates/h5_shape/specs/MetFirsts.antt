@@ -3,6 +3,7 @@
 use Rattle.std.specs.Prelude.{◌≡◌, ◌≢◌, ℕ, ◌+◌, ◌-◌, ◌*◌, ◌/◌, ◌⊎◌, ◌&&◌, ◌||◌, Bool, true, false, not, nat_lt, min, ◌≤◌, List, [], ◌∷◌, length, map}
 use Rattle.std.specs.List.{AllByRecursion, filter, list_any, range_with_len}
 use Rattle.h5_model.specs.declared.hyperslab.Axis.{Axis}
+use Rattle.h5_model.specs.Format.Limits.{most_dimensions}
 use Rattle.h5_model.specs.Tree.Places.{is_inside}
 use Rattle.h5_model.specs.Views.Selection.{Slab, is_selected, is_selected_along, overlaps}
 use Rattle.h5_model.specs.Views.Shown.{met_boxes}
@@ -92,7 +93,7 @@ AreRanked grid parts = AllByRecursion (λ (part : List Span). length part ≡ le
 
 -- boxes of this rank are left to be tested
 pub record AreTested (test : MetTest) (grid : List ℕ) (parts : List (List Span)) : Type 0 where
-  pub few : length grid ≤ 32
+  pub few : length grid ≤ most_dimensions
   pub test_of : IsTestOf test grid
   pub ranks : AreRanked grid parts
 

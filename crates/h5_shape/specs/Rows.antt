@@ -2,6 +2,7 @@
 -- reference, H5Sselect_hyperslab).
 use Rattle.std.specs.Prelude.{◌≡◌, ℕ, zero, suc, ◌+◌, ◌*◌, ◌/◌, ◌%◌, ◌^◌, ◌<◌, ◌≤◌, ◌≢◌, Bool, true, false, if◌then◌else◌, ⊤, List, [], ◌∷◌, ◌++◌, length}
 use Rattle.std.specs.List.{flat_map, list_any}
+use Rattle.h5_model.specs.Format.Limits.{most_cells}
 use Rattle.h5_model.specs.Tree.Places.{cells, index_of, place_of}
 use Rattle.h5_model.specs.Views.Selection.{Slab, fits_all, overlaps, selects_none}
 use Rattle.h5_shape.specs.declared.rows.CellRows.{CellRows}
@@ -55,8 +56,8 @@ pub record IsWalk (w : RowWalk) : Type 0 where
   pub fits : fits_all w.sizes.now w.axes.now ≡ true
   pub some : selects_none w.axes.now ≡ false
   pub apart : list_any overlaps w.axes.now ≡ false
-  pub small : cells w.sizes.now ≤ 2 ^ 40
-  pub few : cells (selection_shape w.axes.now) ≤ 2 ^ 40
+  pub small : cells w.sizes.now ≤ most_cells
+  pub few : cells (selection_shape w.axes.now) ≤ most_cells
   pub ahead : w.next + w.behind * row_cells w.rows ≤ cells (selection_shape w.axes.now)
   pub long : 0 < w.rows.length
   pub left : w.left ≤ w.rows.more

@@ -1,5 +1,6 @@
 //! The sizes of an array, and the row-major places of its cells (File Format Specification 3.0, section IV.A.2.b).
 ghost use Rattle.std.specs.Prelude.{◌≡◌, ◌-◌, ◌^◌, ◌<◌, ◌≤◌, ◌↔◌, [], ◌∷◌, ◌++◌, IsTrue, IsSome, IfSome, length, min, nat_le};
+ghost use Rattle.h5_model.specs.Format.Limits.{most_cells, most_dimensions};
 ghost use Rattle.h5_model.specs.Tree.Places.{cells as cells_of, extent_cells, place_of, IsInside, is_inside as inside};
 
 use std::marker::Model;
@@ -31,7 +32,7 @@ impl Model for Dims {
 impl Dims {
     /// These sizes, or `None` where there are more than 32. It takes no memory.
     pub fn new(sizes: &[u64]) -> Option<Dims>
-        ensures exact { IsSome result ↔ (length sizes.now ≤ 32) }
+        ensures exact { IsSome result ↔ (length sizes.now ≤ most_dimensions) }
         ensures numbers { IfSome result (λ dims. dims ≡ sizes.now) }
     {
         let rank = sizes.len();
@@ -57,7 +58,7 @@ impl Dims {
     ///
     /// That there are fewer than 32 is the caller's condition.
     pub fn push(&mut self, size: u64)
-        requires few { length self.old < 32 }
+        requires few { length self.old < most_dimensions }
         ensures { self.new ≡ self.old ++ size ∷ [] }
     {
         self.sizes[self.rank] = size;
@@ -67,7 +68,7 @@ impl Dims {
     /// The sizes, in cells, with the dimension that runs slowest first.
     pub fn sizes(&self) -> &[u64]
         ensures numbers { result.now ≡ self.now }
-        ensures rank { length self.now ≤ 32 }
+        ensures rank { length self.now ≤ most_dimensions }
     {
         &self.sizes[..self.rank]
     }
@@ -82,8 +83,8 @@ impl Dims {
     /// Whether the product of the sizes other than 0 is at most 2^40. Then there are at most 2^40 cells.
     #[tactic(auto, using(crate::proofs::Products::cells_few))]
     pub fn is_small(&self) -> bool
-        ensures product { result ≡ nat_le (extent_cells self.now) (2 ^ 40) }
-        ensures cells { IsTrue result → cells_of self.now ≤ 2 ^ 40 }
+        ensures product { result ≡ nat_le (extent_cells self.now) most_cells }
+        ensures cells { IsTrue result → cells_of self.now ≤ most_cells }
     {
         positive_product(self.sizes()) <= MAX_CELLS
     }

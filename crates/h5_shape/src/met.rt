@@ -2,6 +2,7 @@
 ghost use Rattle.std.specs.Prelude.{◌≡◌, ℕ, ◌^◌, ◌-◌, ◌%◌, ◌<◌, ◌≤◌, ◌==◌, IsTrue, List, MatchOption, [], drop, false, length, min, replicate};
 ghost use Rattle.std.specs.Iterator.{YieldsFirst, item_count};
 ghost use Rattle.std.specs.List.{AllByRecursion, list_any};
+ghost use Rattle.h5_model.specs.Format.Limits.{most_dimensions};
 ghost use Rattle.h5_model.specs.Views.Selection.{Within, overlaps};
 ghost use Rattle.h5_shape.specs.MetFirsts.{AreRanked, AreTestedOf, HasCorner, HasNextBox, IsTestOf, LieBeside, ShareNoBox, firsts_left, is_lost_at, is_reduced as is_reduced_to, is_written_at, last_along, loses_box, meets_along, meets_box, met_firsts, passes_box, reaches_past as reaches_past_of};
 ghost use Rattle.h5_shape.specs.PartCells.{part_corner};
@@ -117,7 +118,7 @@ pub fn lost_boxes<'a>(
 
 /// The boxes of these sizes, none of them 0, that hold a selected index and pass a test.
 fn tested_boxes<'a>(slab: &'a Slab<'a>, grid: &'a [u64], test: MetTest<'a>) -> MetBoxes<'a>
-    requires few { length grid.now ≤ 32 }
+    requires few { length grid.now ≤ most_dimensions }
     requires sized { list_any (λ d. d == 0) grid.now ≡ false }
     requires rank { length grid.now ≡ length slab.now }
     requires top { Within (replicate (length slab.now) (2 ^ 64)) slab.now }

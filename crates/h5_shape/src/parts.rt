@@ -1,5 +1,6 @@
 //! The boxes of a chunk grid that hold selected cells (File Format Specification 3.0, section III.A.1, chunked raw data).
 ghost use Rattle.std.specs.Prelude.{◌≡◌, ◌+◌, ◌*◌, ◌<◌, ◌≤◌, IsTrue, [], ◌∷◌, length, take, drop, MatchOption};
+ghost use Rattle.h5_model.specs.Format.Limits.{most_dimensions};
 ghost use Rattle.h5_shape.specs.Parts.{numbers_along, spans_from, parts_of};
 ghost use Rattle.h5_shape.specs.PartsLeft.{AreBoxed, AreOnAxes, GoesOnTo, IsBoxed, IsOnAxis, parts_from, spans_after};
 ghost use Rattle.h5_shape.specs.PartsStand.{GivesPart, IsAtPart, left_parts};
@@ -69,7 +70,7 @@ impl<'a> ChunkParts<'a> {
 
     /// No part.
     pub(crate) fn none(axes: &'a Axes<'a>, chunk: &'a [u64]) -> ChunkParts<'a>
-        requires { length axes.now ≤ 32 }
+        requires { length axes.now ≤ most_dimensions }
         ensures { result ≡ [] }
     {
         ChunkParts {
@@ -82,7 +83,7 @@ impl<'a> ChunkParts<'a> {
 
     /// Goes over to the parts of a selection of some cell.
     pub(crate) fn select(&mut self, axes: &'a Axes<'a>, chunk: &'a [u64])
-        requires rank { length axes.now ≤ 32 }
+        requires rank { length axes.now ≤ most_dimensions }
         requires boxed { AreBoxed axes.now chunk.now }
         ensures { self.new ≡ parts_of axes.now chunk.now }
     {

@@ -1,6 +1,7 @@
 //! Selected cells as rows of groups (HDF5 dataspace reference, H5Sselect_hyperslab).
 ghost use Rattle.std.specs.Prelude.{◌≡◌, ℕ, ◌+◌, ◌*◌, ◌/◌, ◌%◌, ◌^◌, ◌<◌, ◌≤◌, ◌≢◌, ◌∷◌, [], MatchOption, false, true, length};
 ghost use Rattle.std.specs.List.{list_any};
+ghost use Rattle.h5_model.specs.Format.Limits.{most_cells};
 ghost use Rattle.h5_model.specs.Tree.Places.{cells};
 ghost use Rattle.h5_model.specs.Views.Selection.{fits_all, overlaps, selection_of, selects_none};
 ghost use Rattle.h5_shape.specs.SpacedPlaces.{ArePlacesBelow};
@@ -67,7 +68,7 @@ impl CellRows {
         requires fits { fits_all sizes.now axes.now ≡ true }
         requires some { selects_none axes.now ≡ false }
         requires apart { list_any overlaps axes.now ≡ false }
-        requires small { cells sizes.now ≤ 2 ^ 40 }
+        requires small { cells sizes.now ≤ most_cells }
         requires one { self.old ≡ record { length = 1; step = 0; more = 0; count = 1 } }
         ensures cells { result ≡ cells sizes.now }
         ensures all { cells_in self.new ≡ cells (selection_shape axes.now) }
@@ -92,7 +93,7 @@ impl CellRows {
     /// Repeats all cells `count` times, `step` apart.
     fn repeat(&mut self, count: u64, step: u64)
         requires some { 0 < count }
-        requires room { cells_in self.old * count ≤ 2 ^ 40 }
+        requires room { cells_in self.old * count ≤ most_cells }
         requires long { 0 < self.old.length }
         requires rows { 0 < self.old.count }
         requires gaps { HasGaps self.old }
@@ -148,7 +149,7 @@ impl<'a> RowWalk<'a> {
         requires fits { fits_all sizes.now axes.now ≡ true }
         requires some { selects_none axes.now ≡ false }
         requires apart { list_any overlaps axes.now ≡ false }
-        requires small { cells sizes.now ≤ 2 ^ 40 }
+        requires small { cells sizes.now ≤ most_cells }
         ensures walk { IsWalk result.0 }
         ensures long { 0 < result.0.rows.length }
         ensures all { cells_at result.0.rows.length (result.1 ∷ groups_ahead result.0 result.1)
@@ -214,7 +215,7 @@ fn place_at(sizes: &[u64], axes: &Axes<'_>, number: u64) -> Reached
     requires fits { fits_all sizes.now axes.now ≡ true }
     requires some { selects_none axes.now ≡ false }
     requires apart { list_any overlaps axes.now ≡ false }
-    requires small { cells sizes.now ≤ 2 ^ 40 }
+    requires small { cells sizes.now ≤ most_cells }
     ensures place { result.place
         ≡ selected_place sizes.now axes.now (number % cells (selection_shape axes.now)) }
     ensures around { result.around ≡ number / cells (selection_shape axes.now) }

@@ -1,7 +1,8 @@
 //! The selected cells as runs of consecutive places.
-ghost use Rattle.std.specs.Prelude.{◌≡◌, ◌^◌, ◌≤◌, [], false, length};
+ghost use Rattle.std.specs.Prelude.{◌≡◌, ◌≤◌, [], false, length};
 ghost use Rattle.std.specs.Iterator.{YieldsFirst, item_count};
 ghost use Rattle.std.specs.List.{list_any};
+ghost use Rattle.h5_model.specs.Format.Limits.{most_cells};
 ghost use Rattle.h5_model.specs.Tree.Places.{cells};
 ghost use Rattle.h5_model.specs.Views.Selection.{Within, overlaps, selection_of, selects_none};
 ghost use Rattle.h5_shape.specs.Runs.{cell_runs};
@@ -59,7 +60,7 @@ impl<'a> CellRuns<'a> {
         requires within { Within sizes.now axes.now }
         requires some { selects_none axes.now ≡ false }
         requires apart { list_any overlaps axes.now ≡ false }
-        requires small { cells sizes.now ≤ 2 ^ 40 }
+        requires small { cells sizes.now ≤ most_cells }
         ensures { result ≡ cell_runs (selection_of sizes.now axes.now) }
     {
         let (walk, place) = RowWalk::of(sizes, axes);

@@ -1,5 +1,6 @@
 //! Hyperslabs that are one run of consecutive cells (HDF5 dataspace reference, H5Sselect_hyperslab).
 ghost use Rattle.std.specs.Prelude.{◌≡◌, ◌+◌, ◌^◌, ◌<◌, ◌≤◌, IfSome, IsSome, MatchOption, true, ◌∷◌, length, drop};
+ghost use Rattle.h5_model.specs.Format.Limits.{most_cells};
 ghost use Rattle.h5_model.specs.Tree.Places.{cells as cells_of};
 ghost use Rattle.h5_shape.specs.OneRun.{IsOneRun};
 ghost use Rattle.h5_shape.specs.InnerRuns.{HasNoInnerRun, IsInnerRun, follow_on, selects_along as selects_some};
@@ -27,7 +28,7 @@ struct InnerRun {
 /// `None` where the lists are no selection within the sizes, where they select no cell, or where the selected cells
 /// are more than one run. Takes no memory. That there are at most 2^40 cells is the caller's condition.
 pub fn one_run(dims: &Dims, hyper: &HyperRef<'_>) -> Option<CellRun>
-    requires small { cells_of dims.now ≤ 2 ^ 40 }
+    requires small { cells_of dims.now ≤ most_cells }
     ensures run { IfSome result (IsOneRun dims.now hyper.now) }
     ensures exact { (run : CellRun) → IsOneRun dims.now hyper.now run → IsSome result }
 {
@@ -43,7 +44,7 @@ pub fn one_run(dims: &Dims, hyper: &HyperRef<'_>) -> Option<CellRun>
 /// The run of the selected cells of the dimensions from k on.
 fn run_from(sizes: &[u64], axes: &Axes<'_>, k: usize) -> Option<InnerRun>
     requires rank { length axes.now ≡ length sizes.now }
-    requires small { cells_of (drop k sizes.now) ≤ 2 ^ 40 }
+    requires small { cells_of (drop k sizes.now) ≤ most_cells }
     ensures { MatchOption result (HasNoInnerRun (drop k sizes.now) (drop k axes.now))
         (IsInnerRun (drop k sizes.now) (drop k axes.now)) }
 {

@@ -1,6 +1,7 @@
 //! Hyperslab selections (HDF5 dataspace reference, H5Sselect_hyperslab).
 ghost use Rattle.std.specs.Prelude.{◌≡◌, ◌-◌, ◌^◌, ◌≤◌, ◌↔◌, IsTrue, EachIndex, length, min, replicate, slice_index};
 ghost use Rattle.std.specs.List.{list_any};
+ghost use Rattle.h5_model.specs.Format.Limits.{most_cells};
 ghost use Rattle.h5_model.specs.Views.Selection.{Within, fits_along, fits_all, has_no_stride, is_one_run, is_within as is_within_sizes, overlaps, selected_cells, selection_of, selects_none};
 ghost use Rattle.h5_model.specs.Tree.Places.{cells as cells_of};
 ghost use Rattle.h5_shape.specs.Parts.{parts_of};
@@ -120,7 +121,7 @@ impl<'a> Slab<'a> {
     pub fn runs<'b>(&'b self, dims: &'b Dims) -> CellRuns<'b>
         requires rank { length dims.now ≡ length self.now }
         requires within { Within dims.now self.now }
-        requires small { cells_of dims.now ≤ 2 ^ 40 }
+        requires small { cells_of dims.now ≤ most_cells }
         ensures value { result ≡ cell_runs (selection_of dims.now self.now) }
         ensures places { places_in result ≡ selection_of dims.now self.now }
         ensures maximal { AreMaximal result }
@@ -138,7 +139,7 @@ impl<'a> Slab<'a> {
     pub fn one_run(&self, dims: &Dims) -> bool
         requires rank { length dims.now ≡ length self.now }
         requires within { Within dims.now self.now }
-        requires small { cells_of dims.now ≤ 2 ^ 40 }
+        requires small { cells_of dims.now ≤ most_cells }
         ensures { result ≡ is_one_run dims.now self.now }
     {
         let mut runs = self.runs(dims);

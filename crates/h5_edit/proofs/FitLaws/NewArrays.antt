@@ -1,5 +1,5 @@
 -- A new array can be written in the plain layout (File Format Specification 3.0, sections IV.A.2.b, IV.A.2.f and IV.A.2.i).
-use Rattle.std.proofs.Common.{◌≡◌, ℕ, ◌+◌, ◌*◌, ◌^◌, ◌≤◌, Bool, List, [], ◌∷◌, length, Option, Some, None, true, false, refl, ap, arith}
+use Rattle.std.proofs.Common.{◌≡◌, ℕ, ◌+◌, ◌*◌, ◌≤◌, Bool, List, [], ◌∷◌, length, Option, Some, None, true, false, refl, ap, arith}
 use Rattle.std.specs.Prelude.{nat_lt, nat_le, ◌==◌, ◌||◌}
 use Rattle.std.specs.List.{AllZip, list_any}
 use Rattle.std.proofs.lemmas.Bool.Decides.{nat_tests}
@@ -7,6 +7,7 @@ use Rattle.std.proofs.lemmas.List.{length-replicate}
 use Rattle.std.proofs.lemmas.Slice.Zip.{AllZip-long}
 use Rattle.std.proofs.lemmas.Bool.{and_parts, or_parts, not-false}
 use Rattle.h5_model.specs.Format.Fixed.{IsFixed, fits}
+use Rattle.h5_model.specs.Format.Limits.{most_cells, most_dimensions}
 use Rattle.h5_model.specs.Tree.Places.{cells, extent_cells}
 use Rattle.h5_model.specs.Tree.Objects.{Tree, Array, Dataset, Contiguous, Chunked}
 use Rattle.h5_model.specs.Edits.Applied.{new_dataset, new_object, new_storage}
@@ -25,12 +26,12 @@ use Rattle.h5_edit.proofs.FitLaws.PlainObjects.{plain_new, no_others}
 
 -- a store that goes with the sizes and maxima, and a fill value of the type
 pub record IsSoundSpec (spec : Spec) : Type 0 where
-  pub ranked : length spec.dims ≤ 32
+  pub ranked : length spec.dims ≤ most_dimensions
   pub maxima : are_maxima spec.dims spec.maxima ≡ true
   pub shaped : is_store spec.store spec.dims spec.maxima ≡ true
   pub chunk_small : chunk_is_large spec.store (spec.fixed).size ≡ false
   pub data_small : compact_is_large spec.store (cells spec.dims * (spec.fixed).size) ≡ false
-  pub few : extent_cells spec.dims ≤ 2 ^ 40
+  pub few : extent_cells spec.dims ≤ most_cells
   pub of_type : fits spec.fixed spec.fill ≡ true
 
 -- ---- chunk sizes
@@ -62,7 +63,7 @@ chunk_sizes_of sizes maxima chunk bounded shaped =
     record { ranked = omega (arith, one, long, longer); same = omega (arith, long, longer); some = chunk_some chunk maxima parts.1 }
 
 -- so they can be named
-pub store_sizes : (sizes : List ℕ) (maxima : List (Option ℕ)) (s : Store (List ℕ)) → length sizes ≤ 32 → are_maxima sizes maxima ≡ true → is_store s sizes maxima ≡ true → HasChunkSizes s
+pub store_sizes : (sizes : List ℕ) (maxima : List (Option ℕ)) (s : Store (List ℕ)) → length sizes ≤ most_dimensions → are_maxima sizes maxima ≡ true → is_store s sizes maxima ≡ true → HasChunkSizes s
 store_sizes sizes maxima store.Compact ranked bounded shaped = tt
 store_sizes sizes maxima store.Contiguous ranked bounded shaped = tt
 store_sizes sizes maxima (store.Chunked chunk) ranked bounded shaped =

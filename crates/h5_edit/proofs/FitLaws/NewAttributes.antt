@@ -1,10 +1,11 @@
 -- What no rule refuses of an attribute that is to be set (File Format Specification 3.0, section IV.A.2.m).
-use Rattle.std.proofs.Common.{◌≡◌, ℕ, ◌≤◌, ◌^◌, List, length, true, false, None, arith}
+use Rattle.std.proofs.Common.{◌≡◌, ℕ, ◌≤◌, List, length, true, false, None, arith}
 use Rattle.std.specs.Prelude.{nat_lt, ◌==◌}
 use Rattle.std.specs.List.{list_all}
 use Rattle.std.proofs.lemmas.Bool.Decides.{nat_tests}
 use Rattle.std.proofs.lemmas.Bool.{or_parts, not-false}
 use Rattle.h5_model.specs.Format.Fixed.{fits}
+use Rattle.h5_model.specs.Format.Limits.{most_cells, most_dimensions}
 use Rattle.h5_model.specs.Format.Sizes.{attribute_size}
 use Rattle.h5_model.specs.Tree.Places.{cells, extent_cells}
 use Rattle.h5_model.specs.Edits.Refusal.{refusal_of, rules_of, has_zero, is_no_text}
@@ -17,10 +18,10 @@ use Rattle.h5_model.proofs.RefusalLaws.{none_holds}
 pub record IsNewAttribute (a : AttrSpec) : Type 0 where
   pub named : 1 ≤ length a.name
   pub text : has_zero a.name ≡ false
-  pub ranked : length a.dims ≤ 32
+  pub ranked : length a.dims ≤ most_dimensions
   pub counted : length a.values ≡ cells a.dims
   pub of_type : list_all (fits a.fixed) a.values ≡ true
-  pub few : extent_cells a.dims ≤ 2 ^ 40
+  pub few : extent_cells a.dims ≤ most_cells
   pub room : attribute_size (length a.name) a.dims (a.fixed).size ≤ 65528
 
 pub accepted_attribute : (tree : Tree) (next : ℕ) (path : List ℕ) (a : AttrSpec) → refusal_of tree next (SetAttr path a) ≡ None → IsNewAttribute a

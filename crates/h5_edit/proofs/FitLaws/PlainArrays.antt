@@ -11,6 +11,7 @@ use Rattle.std.proofs.lemmas.Slice.Zip.{AllZip-long}
 use Rattle.std.proofs.lemmas.Bool.{not-true, and_parts}
 use Rattle.h5_bytes.specs.Bytes.{byte_at, number_at, part, undefined_address}
 use Rattle.h5_bytes.specs.declared.Block.{Block}
+use Rattle.h5_model.specs.Format.Limits.{most_dimensions}
 use Rattle.h5_model.specs.Format.MessageTypes.{data_layout_kind, dataspace_kind, datatype_kind, fill_value_kind, old_fill_value_kind}
 use Rattle.h5_model.specs.Format.Messages.{Message, count_of, first_body}
 use Rattle.h5_model.specs.Format.Fixed.{Fixed, IsFixed, fits}
@@ -19,7 +20,7 @@ use Rattle.h5_model.specs.Tree.Places.{cells, index_of, place_of}
 use Rattle.h5_model.specs.Format.Extent.{extent_of}
 use Rattle.h5_model.specs.Format.Fill.{fill_value, old_fill_value, chosen_fill}
 use Rattle.h5_model.specs.Format.Chunks.{Chunks}
-use Rattle.h5_model.specs.Format.Layout.{Layout, InMessage, InBlock, InChunks, address_from, chunked_layout, compact_layout, contiguous_layout, layout_of, short_numbers_at}
+use Rattle.h5_model.specs.Format.Layout.{Layout, InMessage, InBlock, InChunks, address_from, chunked_layout, compact_layout, contiguous_layout, layout_of, short_numbers_at, most_compact_bytes}
 use Rattle.h5_model.specs.Format.Cells.{cell_of, cells_of, value_in_chunk}
 use Rattle.h5_model.specs.Format.Reads.{HasDataset}
 use Rattle.h5_model.specs.Format.Described.{IsChunkSmall, IsFill, storage_of}
@@ -185,13 +186,13 @@ module _ (image : List ℕ) (low : AreBytes image) (ms : List Message) (bodies :
       option_and_then_some extent_of (first_body dataspace_kind ms) (record { sizes = d.sizes; maxima = d.maxima }) has.array.space
       (λ body there is. read_bounded body (record { sizes = d.sizes; maxima = d.maxima }) (first_low ms bodies 1 body there) is has.array.small)
 
-  rank : length d.sizes ≤ 32
+  rank : length d.sizes ≤ most_dimensions
   rank =
       option_and_then_some extent_of (first_body dataspace_kind ms) (record { sizes = d.sizes; maxima = d.maxima }) has.array.space
       (λ body there is. (extent_long body (record { sizes = d.sizes; maxima = d.maxima }) is).1)
 
   abbrev IsLaid : Layout → Type 0
-  IsLaid (InMessage bytes) = (cells d.sizes * (d.fixed).size ≤ 65524) × AreBytes bytes
+  IsLaid (InMessage bytes) = (cells d.sizes * (d.fixed).size ≤ most_compact_bytes) × AreBytes bytes
   IsLaid (InBlock b) = Unit {0}
   IsLaid (InChunks chunk root) = (1 ≤ length chunk) × (length chunk ≡ length d.sizes) × (list_any (λ n. n == 0) chunk ≡ false)
 

@@ -14,6 +14,7 @@ use Rattle.h5_bytes.specs.Texts.{pad8, until_zero}
 use Rattle.h5_bytes.specs.declared.Block.{Block}
 use Rattle.h5_bytes.proofs.PartLaws.{length-part}
 use Rattle.h5_bytes.proofs.BlockLaws.{all_append}
+use Rattle.h5_model.specs.Format.Limits.{most_cells, most_dimensions}
 use Rattle.h5_model.specs.Format.Messages.{Message, IsMessage, Fills, FillBlocks, HasMessages, continuations, total_in, prefix_at, first_block}
 use Rattle.h5_model.specs.Format.Fixed.{Fixed, IsFixed, fixed_from, raw_at, value_at}
 use Rattle.h5_model.specs.Tree.Places.{cells, extent_cells}
@@ -96,12 +97,12 @@ module _ (image : List ℕ) (low : AreBytes image) (header : ℕ) (ms : List Mes
 -- ---- attributes
 
 -- a dataspace body has room for its sizes, of which there are 32 or less
-pub extent_long : (body : List ℕ) (x : Extent) → extent_of body ≡ Some x → (8 + 8 * length x.sizes ≤ length body) × (length x.sizes ≤ 32)
+pub extent_long : (body : List ℕ) (x : Extent) → extent_of body ≡ Some x → (8 + 8 * length x.sizes ≤ length body) × (length x.sizes ≤ most_dimensions)
 unfolding extent_of
 extent_long body x h =
     let p = cond_some (is_dataspace body) (extent_in body) x h in
     let ranks : length x.sizes ≡ rank_in body = ap (λ (e : Extent). length e.sizes) (sym p.1) ∙ length-map-range_with_len (size_in body) 0 (rank_in body) in
-    let low : rank_in body ≤ 32 = grind (arith, nat_tests, p.0) in
+    let low : rank_in body ≤ most_dimensions = grind (arith, nat_tests, p.0) in
     let room : 8 + 8 * rank_in body ≤ length body = grind (arith, nat_tests, p.0) in
     (omega (arith, ranks, room), omega (arith, ranks, low))
 
@@ -134,7 +135,7 @@ module _ (body : List ℕ) (short : length body < 65536) (padded : length body %
   by_version name a true first room said = room first
   by_version name a false later room said = (said, padded, short)
 
-module _ (body : List ℕ) (low : AreBytes body) (short : length body < 65536) (padded : length body % 8 ≡ 0) (e : List ℕ × Attribute) (few : extent_cells (e.1).sizes ≤ 2 ^ 40) where
+module _ (body : List ℕ) (low : AreBytes body) (short : length body < 65536) (padded : length body % 8 ≡ 0) (e : List ℕ × Attribute) (few : extent_cells (e.1).sizes ≤ most_cells) where
   from_parts : (t : Fixed) (x : Extent) → attribute_of body ≡ Some e → is_attribute body ≡ true
       → fixed_of (slice_range body (datatype_place body) (datatype_place body + datatype_size body)) ≡ Some t
       → extent_of (slice_range body (dataspace_place body) (dataspace_place body + dataspace_size body)) ≡ Some x
@@ -151,7 +152,7 @@ module _ (body : List ℕ) (low : AreBytes body) (short : length body < 65536) (
       let a : Attribute = record { fixed = t; sizes = x.sizes; values = values_at t body (data_place body) (cells x.sizes); body = kept_body body } in
       let room : (byte_at body 0 == 1) ≡ true → attribute_size (length (name_in body)) x.sizes t.size ≤ 65528
       = λ first. omega (arith, parts_long body first, named, ended, type_room, space_room, there, short, padded) in
-      let plain : extent_cells x.sizes ≤ 2 ^ 40 → IsPlainAttribute (name_in body, a)
+      let plain : extent_cells x.sizes ≤ most_cells → IsPlainAttribute (name_in body, a)
       = λ small. record {
         named = named;
         text = until_no_zero (slice_range body (name_start body) (name_start body + name_size body));
@@ -162,7 +163,7 @@ module _ (body : List ℕ) (low : AreBytes body) (short : length body < 65536) (
         few = small;
         body = by_version body short padded (name_in body) a (byte_at body 0 == 1) refl room (said ∙ ap Some (sym p.1));
       } in
-      subst (λ (a : List ℕ × Attribute). extent_cells (a.1).sizes ≤ 2 ^ 40 → IsPlainAttribute a) p.1 plain few
+      subst (λ (a : List ℕ × Attribute). extent_cells (a.1).sizes ≤ most_cells → IsPlainAttribute a) p.1 plain few
 
   -- an attribute that was read can be written: it is never longer than what was read
   pub plain_attribute : attribute_of body ≡ Some e → IsPlainAttribute e

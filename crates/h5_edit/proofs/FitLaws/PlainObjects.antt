@@ -1,5 +1,5 @@
 -- Objects that are read, and new ones, can be written in the plain layout (File Format Specification 3.0, section IV.A.2).
-use Rattle.std.proofs.Common.{◌≡◌, ℕ, ◌+◌, ◌^◌, ◌≤◌, List, [], ◌∷◌, length, map, true, false, cond, Some, refl, sym, ap, ◌∙◌, subst, arith, length-append}
+use Rattle.std.proofs.Common.{◌≡◌, ℕ, ◌+◌, ◌≤◌, List, [], ◌∷◌, length, map, true, false, cond, Some, refl, sym, ap, ◌∙◌, subst, arith, length-append}
 use Rattle.std.specs.Prelude.{◌==◌, ◌||◌}
 use Rattle.std.specs.List.{AllByRecursion, AllZip, filter}
 use Rattle.std.specs.Ordering.{nat_cmp}
@@ -8,6 +8,7 @@ use Rattle.std.specs.FinMap.{FinMap, entries}
 use Rattle.std.proofs.Math.ListN.{length-map}
 use Rattle.std.proofs.lemmas.Bool.Decides.{nat_tests}
 use Rattle.h5_bytes.specs.declared.Block.{Block}
+use Rattle.h5_model.specs.Format.Limits.{most_cells}
 use Rattle.h5_model.specs.Format.MessageTypes.{data_layout_kind, dataspace_kind, datatype_kind, fill_value_kind, old_fill_value_kind, symbol_table_kind, attribute_kind, comment_kind, old_modification_time_kind, modification_time_kind}
 use Rattle.h5_model.specs.Format.Messages.{Message, count_of}
 use Rattle.h5_model.specs.Tree.Places.{extent_cells}
@@ -41,7 +42,7 @@ abbrev IsRead : Message → List ℕ × Attribute → Type 0
 IsRead m a = attribute_of m.body ≡ Some a
 
 abbrev IsSmall : List ℕ × Attribute → Type 0
-IsSmall a = extent_cells (a.1).sizes ≤ 2 ^ 40
+IsSmall a = extent_cells (a.1).sizes ≤ most_cells
 
 plain_listed : (ms : List Message) (listed : List (List ℕ × Attribute)) → AllByRecursion IsPlainBody ms → AllZip IsRead ms listed → AllByRecursion IsSmall listed
     → AllByRecursion IsPlainAttribute listed

@@ -1,5 +1,5 @@
 -- Why a resize is refused, or that it is not: by its path, the array there, and its sizes.
-use Rattle.std.proofs.Common.{◌≡◌, ◌≢◌, ℕ, ◌+◌, ◌-◌, ◌^◌, ◌≤◌, ◌||◌, List, [], ◌∷◌, ◌++◌, drop, get_or, length, slice_get, take, take_all, refl, sym, ap, ◌∙◌, Bool, true, false, not, Option, Some, None, nat_le, nat_lt, arith}
+use Rattle.std.proofs.Common.{◌≡◌, ◌≢◌, ℕ, ◌+◌, ◌-◌, ◌≤◌, ◌||◌, List, [], ◌∷◌, ◌++◌, drop, get_or, length, slice_get, take, take_all, refl, sym, ap, ◌∙◌, Bool, true, false, not, Option, Some, None, nat_le, nat_lt, arith}
 use Rattle.std.proofs.Math.Bool.{or-false}
 use Rattle.std.proofs.lemmas.Bool.Decides.{nat_tests}
 use Rattle.std.proofs.lemmas.List.{drop_more}
@@ -8,6 +8,7 @@ use Rattle.std.specs.Prelude.{◌==◌, if◌then◌else◌}
 use Rattle.std.specs.Option.{option_map_or}
 use Rattle.std.proofs.lemmas.Bool.{not-false}
 use Rattle.h5_model.specs.Edits.Refusal.{refusal_of, rules_of, first_holding, is_chunked, some_above}
+use Rattle.h5_model.specs.Format.Limits.{most_cells}
 use Rattle.h5_model.specs.Scripts.Reading.{dataset_rules}
 use Rattle.h5_model.specs.Tree.Objects.{Tree, Dataset}
 use Rattle.h5_model.specs.Tree.Paths.{dataset_at}
@@ -27,11 +28,11 @@ pub same_rank : (dims sizes : List ℕ) (n : ℕ) → n ≡ length sizes → len
 same_rank dims sizes n same is = grind (arith, nat_tests)
 
 -- whether there are too many cells, by whether there are few
-pub many_of : (dims sizes : List ℕ) (small : Bool) → sizes ≡ dims → small ≡ nat_le (extent_cells sizes) (2 ^ 40) → nat_lt (2 ^ 40) (extent_cells dims) ≡ not small
+pub many_of : (dims sizes : List ℕ) (small : Bool) → sizes ≡ dims → small ≡ nat_le (extent_cells sizes) most_cells → nat_lt most_cells (extent_cells dims) ≡ not small
 many_of dims sizes small same is =
-    let told : small ≡ nat_le (extent_cells dims) (2 ^ 40) = is ∙ ap (λ (n : List ℕ). nat_le (extent_cells n) (2 ^ 40)) same in
+    let told : small ≡ nat_le (extent_cells dims) most_cells = is ∙ ap (λ (n : List ℕ). nat_le (extent_cells n) most_cells) same in
     by_test small told where
-      by_test : (b : Bool) → b ≡ nat_le (extent_cells dims) (2 ^ 40) → nat_lt (2 ^ 40) (extent_cells dims) ≡ not b
+      by_test : (b : Bool) → b ≡ nat_le (extent_cells dims) most_cells → nat_lt most_cells (extent_cells dims) ≡ not b
       by_test true told = grind (arith, nat_tests)
       by_test false told = grind (arith, nat_tests)
 
@@ -54,7 +55,7 @@ module _ (tree : Tree) (next : ℕ) (path dims : List ℕ) where
       (fault.RankMismatch, option_map_or (λ (d : Dataset). not (length dims == length d.sizes)) found false)
       ∷ (fault.NotChunked, option_map_or (λ (d : Dataset). not (is_chunked d.storage)) found false)
       ∷ (fault.AboveMaximum, option_map_or (λ (d : Dataset). some_above dims d.maxima) found false)
-      ∷ (fault.TooManyCells, nat_lt (2 ^ 40) (extent_cells dims))
+      ∷ (fault.TooManyCells, nat_lt most_cells (extent_cells dims))
       ∷ []
 
   resize_table : refusal_of tree next (Resize path dims) ≡ first_holding (dataset_rules tree path ++ asked_of (dataset_at tree path))
@@ -68,7 +69,7 @@ module _ (tree : Tree) (next : ℕ) (path dims : List ℕ) where
 
   module _ (d : Dataset) (there : first_holding (dataset_rules tree path) ≡ None) (at : dataset_at tree path ≡ Some d) where
     by_sizes : (ranked chunked above many : Bool) → (length dims == length d.sizes) ≡ ranked → is_chunked d.storage ≡ chunked → some_above dims d.maxima ≡ above
-        → nat_lt (2 ^ 40) (extent_cells dims) ≡ many
+        → nat_lt most_cells (extent_cells dims) ≡ many
         → refusal_of tree next (Resize path dims) ≡ (if not ranked then Some fault.RankMismatch else (if not chunked then Some fault.NotChunked
         else (if above then Some fault.AboveMaximum else (if many then Some fault.TooManyCells else None))))
     by_sizes ranked chunked above many p q r s =
@@ -90,10 +91,10 @@ module _ (tree : Tree) (next : ℕ) (path dims : List ℕ) where
         above_refused r = by_sizes true true true _ p q r refl
 
         module _ (r : some_above dims d.maxima ≡ false) where
-          pub many_refused : nat_lt (2 ^ 40) (extent_cells dims) ≡ true → refusal_of tree next (Resize path dims) ≡ Some fault.TooManyCells
+          pub many_refused : nat_lt most_cells (extent_cells dims) ≡ true → refusal_of tree next (Resize path dims) ≡ Some fault.TooManyCells
           many_refused s = by_sizes true true false true p q r s
 
-          pub resize_allowed : nat_lt (2 ^ 40) (extent_cells dims) ≡ false → refusal_of tree next (Resize path dims) ≡ None
+          pub resize_allowed : nat_lt most_cells (extent_cells dims) ≡ false → refusal_of tree next (Resize path dims) ≡ None
           resize_allowed s = by_sizes true true false false p q r s
 
 -- ---- what no rule refuses

@@ -6,6 +6,7 @@ use Rattle.std.specs.List.{list_all, list_any}
 use Rattle.std.specs.Option.{option_map_or}
 use Rattle.h5_model.specs.Edits.Refusal.{refusal_of, first_holding}
 use Rattle.h5_model.specs.Format.Fixed.{Fixed, fits}
+use Rattle.h5_model.specs.Format.Limits.{most_cells}
 use Rattle.h5_model.specs.Scripts.Reading.{dataset_rules}
 use Rattle.h5_model.specs.Tree.Objects.{Tree, Dataset}
 use Rattle.h5_model.specs.Tree.Paths.{dataset_at}
@@ -51,7 +52,7 @@ module _ (tree : Tree) (next : ℕ) (path : List ℕ) (hyper : Hyper) (values : 
 
 -- ---- how many cells
 
-pub same_count : (count many n : ℕ) → many ≤ 2 ^ 40 → count ≡ min many (2 ^ 64 - 1) → count ≡ n → n ≡ many
+pub same_count : (count many n : ℕ) → many ≤ most_cells → count ≡ min many (2 ^ 64 - 1) → count ≡ n → n ≡ many
 same_count count many n few is same = let exact : min many (2 ^ 64 - 1) ≡ many = omega arith in sym same ∙ is ∙ exact
 
 -- ---- the selection and the values

@@ -4,7 +4,7 @@ use Rattle.std.specs.Prelude.{◌≡◌, ℕ, ◌≤◌, ◌==◌, Option, None,
 use Rattle.std.specs.FinMap.{empty}
 use Rattle.std.specs.List.{list_any}
 use Rattle.h5_layout.specs.HeldChunks.{held_cells, held_chunks}
-use Rattle.h5_model.specs.Format.Layout.{Layout, InMessage, InBlock, InChunks}
+use Rattle.h5_model.specs.Format.Layout.{Layout, InMessage, InBlock, InChunks, most_compact_bytes}
 use Rattle.h5_model.specs.Format.Limits.{most_dimensions}
 use Rattle.h5_model.specs.Format.Messages.{Message}
 use Rattle.h5_model.specs.Format.Described.{Described, described_dataset}
@@ -50,7 +50,7 @@ HasChunkSizes _ = Unit {0}
 
 -- a layout of cells none of which stands anywhere yet; a message with room for any compact cells
 abbrev pub IsNewLayout : Store (List ℕ) → Layout → Type 0
-IsNewLayout store.Compact (InMessage bytes) = length bytes ≡ 65524
+IsNewLayout store.Compact (InMessage bytes) = length bytes ≡ most_compact_bytes
 IsNewLayout store.Contiguous (InBlock b) = b ≡ None
 IsNewLayout (store.Chunked chunk) (InChunks sizes root) = (sizes ≡ chunk) × (root ≡ None)
 IsNewLayout _ _ = ⊥

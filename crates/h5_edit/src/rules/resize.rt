@@ -2,6 +2,7 @@
 
 ghost use Rattle.std.specs.Prelude.{◌≡◌, ◌+◌, ◌≤◌, drop, false, length, nat_lt, MatchResult};
 ghost use Rattle.std.specs.Option.{option_map_or};
+ghost use Rattle.h5_model.specs.Format.Limits.{most_dimensions};
 ghost use Rattle.h5_model.specs.declared.edits.Edit.TheVariants.{Resize};
 ghost use Rattle.h5_model.specs.Edits.Refusal as rule;
 ghost use Rattle.h5_query.specs.Opened.Sound.{IsSound};
@@ -41,7 +42,7 @@ pub(crate) fn check_resize(opened: &Opened, path: &[u8], dims: &[u64]) -> Result
 /// Whether a size is above its maximum, of the sizes from dimension `k` on.
 fn is_above(extent: &ArrayExtent<'_>, k: usize, sizes: &[u64]) -> bool
     requires ranked { length extent.now.sizes ≡ k + length sizes.now }
-    requires few { length extent.now.sizes ≤ 32 }
+    requires few { length extent.now.sizes ≤ most_dimensions }
     ensures { result ≡ rule.some_above sizes.now (drop k extent.now.maxima) }
 {
     let [size, sizes @ ..] = sizes else {

@@ -7,6 +7,7 @@ use Rattle.std.specs.Option.{option_map_or}
 use Rattle.std.specs.Ordering.{nat_cmp, eq_by_cmp}
 use Rattle.h5_laws.specs.Trees.Sound.{IsSoundTree}
 use Rattle.h5_model.specs.Edits.Applied.{with_links}
+use Rattle.h5_model.specs.Format.Limits.{most_names}
 use Rattle.h5_model.specs.Tree.Objects.{Tree, Link, ToObject, follow, hard_links, leads_to, links_of, links_to, only_reached, with_object, within_names}
 
 abbrev pub without_link : Tree → ℕ → List ℕ → Tree
@@ -42,4 +43,4 @@ pub record IsTreeLeft (tree : Tree) (parent : ℕ) (name : List ℕ) (link : Lin
   pub there : (n : ℕ) → Contains numbers n → IsSome (get tree n)
   pub not_parent : Contains numbers parent → ⊥
   pub not_root : Contains numbers 0 → ⊥
-  pub within : (m n : ℕ) → link ≡ ToObject m → Contains numbers n → Contains (within_names tree 64 m) n
+  pub within : (m n : ℕ) → link ≡ ToObject m → Contains numbers n → Contains (within_names tree most_names m) n

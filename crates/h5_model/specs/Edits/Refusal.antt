@@ -6,6 +6,7 @@ use Rattle.std.specs.Option.{option_map_or, option_and_then}
 use Rattle.h5_bytes.specs.Bytes.{undefined_address}
 use Rattle.h5_model.specs.Format.Limits.{most_cells, most_chunk_bytes, most_dimensions, most_hard_links, most_names}
 use Rattle.h5_model.specs.Format.Fixed.{fits}
+use Rattle.h5_model.specs.Format.Layout.{most_compact_bytes}
 use Rattle.h5_model.specs.Tree.Places.{cells, extent_cells}
 use Rattle.h5_model.specs.Views.Selection.{Slab, axes_of, has_rank, has_no_stride, overlaps, is_within, selected_cells}
 use Rattle.h5_model.specs.Tree.Objects.{Tree, Soft, Dataset, Storage, Chunked, Object, hard_links, are_sizes}
@@ -193,9 +194,8 @@ abbrev pub has_large_chunk : Edit → Bool
 has_large_chunk (CreateDataset path s) = chunk_is_large s.store (s.fixed).size
 has_large_chunk _ = false
 
--- a layout message's body with the data has at most 65528 bytes
 abbrev pub compact_is_large : Store (List ℕ) → ℕ → Bool
-compact_is_large store.Compact bytes = nat_lt 65524 bytes
+compact_is_large store.Compact bytes = nat_lt most_compact_bytes bytes
 compact_is_large _ bytes = false
 
 abbrev pub has_large_data : Edit → Bool

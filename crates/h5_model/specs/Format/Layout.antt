@@ -19,6 +19,10 @@ short_numbers_at bytes at n = map (λ i. number_at bytes (at + 4 * i) 4) (range_
 abbrev pub address_from : ℕ → Option ℕ
 address_from n = if n == undefined_address then None else Some n
 
+-- the bytes that the cells in a message have at most: its body has at most 65528, and these stand behind 4 of them
+abbrev pub most_compact_bytes : ℕ
+most_compact_bytes = 65524
+
 -- class 0: a size and that many bytes, in which the cells have room
 abbrev pub compact_layout : ℕ → List ℕ → Option Layout
 compact_layout need body =

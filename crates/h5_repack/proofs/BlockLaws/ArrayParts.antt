@@ -4,6 +4,7 @@ use Rattle.std.proofs.lemmas.List.{length-replicate}
 use Rattle.std.proofs.lemmas.Option.{same_Some}
 use Rattle.std.specs.Prelude.{nat_lt, if◌then◌else◌, slice_get, slice_index}
 use Rattle.std.proofs.lemmas.Bool.{not-true}
+use Rattle.h5_model.specs.Format.Limits.{most_dimensions}
 use Rattle.h5_model.specs.Format.MessageTypes.{dataspace_kind, data_layout_kind}
 use Rattle.h5_bytes.specs.Texts.{pad8}
 use Rattle.h5_model.specs.Format.Bodies.{padded_body, dataspace_bytes, bounded_bytes, fill_bytes, chunked_bytes, short_words}
@@ -57,21 +58,21 @@ module _ (chunked : Bool) (sizes : List ℕ) (maxima : List (Option ℕ)) where
   space_by b = message_bytes (dataspace_kind, padded_body (if b then bounded_bytes sizes maxima else dataspace_bytes sizes))
 
   -- there is no zero behind it
-  same_body : length sizes ≤ 32 → length maxima ≡ length sizes → padded_body (space_body chunked sizes maxima) ≡ space_body chunked sizes maxima
+  same_body : length sizes ≤ most_dimensions → length maxima ≡ length sizes → padded_body (space_body chunked sizes maxima) ≡ space_body chunked sizes maxima
   same_body rank same =
       let long = (space_padded chunked sizes maxima rank same).2 in
       padded_full (space_body chunked sizes maxima) (pad8 (length (space_body chunked sizes maxima))) (omega (arith, long))
 
-  pub space_own : length sizes ≤ 32 → length maxima ≡ length sizes → (chunked || not (are_sizes sizes maxima)) ≡ false
+  pub space_own : length sizes ≤ most_dimensions → length maxima ≡ length sizes → (chunked || not (are_sizes sizes maxima)) ≡ false
       → message_bytes (dataspace_kind, padded_body (dataspace_bytes sizes)) ≡ message_bytes (dataspace_kind, space_body chunked sizes maxima)
   space_own rank same own = sym (ap space_by own) ∙ ap (λ body. message_bytes (dataspace_kind, body)) (same_body rank same)
 
-  pub space_bounded : length sizes ≤ 32 → length maxima ≡ length sizes → (chunked || not (are_sizes sizes maxima)) ≡ true
+  pub space_bounded : length sizes ≤ most_dimensions → length maxima ≡ length sizes → (chunked || not (are_sizes sizes maxima)) ≡ true
       → message_bytes (dataspace_kind, padded_body (bounded_bytes sizes maxima)) ≡ message_bytes (dataspace_kind, space_body chunked sizes maxima)
   space_bounded rank same other = sym (ap space_by other) ∙ ap (λ body. message_bytes (dataspace_kind, body)) (same_body rank same)
 
   -- its length
-  pub length-space : length sizes ≤ 32 → length maxima ≡ length sizes
+  pub length-space : length sizes ≤ most_dimensions → length maxima ≡ length sizes
       → message_size (dataspace_length (length sizes) + (if chunked || not (are_sizes sizes maxima) then 8 * length sizes else 0))
       ≡ length (message_bytes (dataspace_kind, space_body chunked sizes maxima))
   length-space rank same =

@@ -6,7 +6,7 @@ use Rattle.std.specs.List.{AllByRecursion, flat_map}
 use Rattle.h5_model.specs.Format.MessageTypes.{symbol_table_kind}
 use Rattle.h5_model.specs.Edits.Refusal.{is_chunked}
 use Rattle.h5_model.specs.Format.Fixed.{Fixed}
-use Rattle.h5_model.specs.Format.Layout.{Layout, InMessage, InBlock, InChunks}
+use Rattle.h5_model.specs.Format.Layout.{Layout, InMessage, InBlock, InChunks, most_compact_bytes}
 use Rattle.h5_model.specs.Tree.Places.{cells, index_of}
 use Rattle.h5_bytes.specs.declared.Block.{Block}
 use Rattle.h5_model.specs.Format.Bodies.{pair_bytes, contiguous_bytes, chunked_bytes}
@@ -179,7 +179,7 @@ whole_by (Chunks held) d are =
 
 -- and the layout can be written
 fits_by : (l : Layout) (c : Cells) (t : Fixed) (d : Dataset) → d.fixed ≡ t → IsPlainStorage d (storage_by l c (cells d.sizes)) → FitsLayout (cells d.sizes * t.size) l
-fits_by (InMessage bytes) c t d same plain = subst (λ (k : Fixed). cells d.sizes * k.size ≤ 65524) same plain
+fits_by (InMessage bytes) c t d same plain = subst (λ (k : Fixed). cells d.sizes * k.size ≤ most_compact_bytes) same plain
 fits_by (InBlock b) c t d same plain = tt
 fits_by (InChunks chunk root) c t d same plain = (plain.ranked, plain.some)
 

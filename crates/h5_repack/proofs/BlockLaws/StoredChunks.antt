@@ -7,6 +7,7 @@ use Rattle.std.proofs.lemmas.Option.{slice_get-get_or}
 use Rattle.std.specs.Prelude.{slice_get}
 use Rattle.std.specs.List.{AllByRecursion, flat_map}
 use Rattle.h5_model.specs.Format.Fixed.{Fixed}
+use Rattle.h5_model.specs.Format.Limits.{most_chunk_bytes}
 use Rattle.h5_model.specs.Format.Nodes.{Kind, chunk_kind, node_length}
 use Rattle.h5_model.specs.Format.PlainLength.{nodes_over}
 use Rattle.h5_model.specs.Tree.Places.{cells}
@@ -33,8 +34,8 @@ nodes_low nodes long kind k key few is =
     let low : nodes * long ≤ 2 ^ 33 * 2 ^ 25 = mul-le nodes long (2 ^ 33) (2 ^ 25) (omega (arith, few)) own in
     omega (arith, low)
 
-pub chunks_low : (count size : ℕ) → count < 2 ^ 32 → size ≤ 2 ^ 30 → count * size ≤ 2 ^ 62
-chunks_low count size few small = let low : count * size ≤ 2 ^ 32 * 2 ^ 30 = mul-le count size (2 ^ 32) (2 ^ 30) (omega (arith, few)) small in omega (arith, low)
+pub chunks_low : (count size : ℕ) → count < 2 ^ 32 → size ≤ most_chunk_bytes → count * size ≤ 2 ^ 62
+chunks_low count size few small = let low : count * size ≤ 2 ^ 32 * most_chunk_bytes = mul-le count size (2 ^ 32) most_chunk_bytes (omega (arith, few)) small in omega (arith, low)
 
 -- each chunk has a byte
 pub chunks_high : (count size : ℕ) → 1 ≤ size → count ≤ count * size

@@ -16,6 +16,7 @@ use Rattle.h5_bytes.proofs.PartLaws.{part-whole}
 use Rattle.h5_bytes.specs.Blocks.{block, Run}
 use Rattle.h5_bytes.specs.Texts.{pad8}
 use Rattle.h5_bytes.specs.declared.Block.{Block}
+use Rattle.h5_model.specs.Format.Limits.{most_bytes, most_cells, most_dimensions}
 use Rattle.h5_model.specs.Format.MessageTypes.{data_layout_kind, dataspace_kind, datatype_kind, fill_value_kind, old_fill_value_kind, nil_kind, attribute_kind, continuation_kind}
 use Rattle.h5_model.specs.Format.Cells.{cells_of, value_in_chunk}
 use Rattle.h5_model.specs.Format.Chunks.{Chunks}
@@ -23,7 +24,7 @@ use Rattle.h5_model.specs.Tree.Grid.{corner_of, inner_of}
 use Rattle.h5_model.specs.Format.Fill.{fill_value, old_fill_value, chosen_fill}
 use Rattle.h5_model.specs.Format.Fixed.{Fixed, IsFixed, fits}
 use Rattle.h5_model.specs.Edits.Refusal.{is_chunked}
-use Rattle.h5_model.specs.Format.Layout.{Layout, InMessage, InBlock, InChunks, layout_of}
+use Rattle.h5_model.specs.Format.Layout.{Layout, InMessage, InBlock, InChunks, layout_of, most_compact_bytes}
 use Rattle.h5_model.specs.Format.Messages.{Message, HasMessages, prefix_at, reference_count, count_of, first_body}
 use Rattle.h5_model.specs.Tree.Places.{cells, extent_cells, index_of, place_of}
 use Rattle.h5_model.specs.Format.Bodies.{padded_body, datatype_bytes, fill_bytes, compact_bytes, contiguous_bytes, chunked_bytes}
@@ -63,7 +64,7 @@ IsLayoutBody body = length body ≤ 65528
 -- ---- any array, whatever its layout
 
 module _ (t : Fixed) (sizes : List ℕ) (maxima : List (Option ℕ)) (fill : ℤ) (chunked : Bool) (body : List ℕ) (is : IsFixed t) (of : fits t fill ≡ true)
-    (rank : length sizes ≤ 32) (bound : AllZip IsBound sizes maxima) (short_body : IsLayoutBody body) where
+    (rank : length sizes ≤ most_dimensions) (bound : AllZip IsBound sizes maxima) (short_body : IsLayoutBody body) where
   abbrev time : ℕ
   time = if chunked then 3 else 1
 
@@ -178,7 +179,7 @@ module _ (t : Fixed) (sizes : List ℕ) (maxima : List (Option ℕ)) (fill : ℤ
         (known (others_of p) (others_pass p plain in_dataset other_in_dataset) without)
 
     -- what the layout says: the cells, how they are stored, and in which blocks
-    module _ (image : List ℕ) (storage : Storage) (cs : List ℤ) (few : extent_cells sizes ≤ 2 ^ 40) (layout : Layout) (held : Chunks) (blocks : List Block) where
+    module _ (image : List ℕ) (storage : Storage) (cs : List ℤ) (few : extent_cells sizes ≤ most_cells) (layout : Layout) (held : Chunks) (blocks : List Block) where
       abbrev array : Dataset
       array = record { fixed = t; sizes = sizes; maxima = maxima; storage = storage; fill = fill; cells = cs }
 
@@ -221,7 +222,7 @@ module _ (t : Fixed) (sizes : List ℕ) (maxima : List (Option ℕ)) (fill : ℤ
 
         module _ (whole : part at (length header) image ≡ header)
             (fits_in : nat_lt 65535 (4 + length (others_of p)) ≡ without) (most : 3 + length (others_of p) ≤ 65535)
-            (short : length header < 2 ^ 31) where
+            (short : length header < most_bytes) where
           listed : HasMessages image at messages (block at (length header) ∷ [])
           listed =
               let many = length-append own (others_of p) in
@@ -260,7 +261,7 @@ pub record IsLaid (image : List ℕ) (place end : ℕ) (address : Option ℕ) (d
   pub cells_are : d.cells ≡ cells_of image d.fixed d.fill d.sizes layout chunks
 
 module _ (image : List ℕ) (place : ℕ) (t : Fixed) (sizes : List ℕ) (maxima : List (Option ℕ)) (fill : ℤ) (cs : List ℤ) (is : IsFixed t) (all : AreOf t cs)
-    (counted : length cs ≡ cells sizes) (few : extent_cells sizes ≤ 2 ^ 40) where
+    (counted : length cs ≡ cells sizes) (few : extent_cells sizes ≤ most_cells) where
   abbrev bytes : List ℕ
   bytes = cells_bytes t cs
 
@@ -270,15 +271,15 @@ module _ (image : List ℕ) (place : ℕ) (t : Fixed) (sizes : List ℕ) (maxima
   long : length bytes ≡ cells sizes * t.size
   long = length-cells_bytes t cs ∙ ap (λ n. n * t.size) counted
 
-  room : cells sizes * t.size ≤ 2 ^ 40 * 8
-  room = let cells_few : cells sizes ≤ 2 ^ 40 = omega (arith, few, cells_le sizes) in mul-le-mul cells_few (size-high t is)
+  room : cells sizes * t.size ≤ most_cells * 8
+  room = let cells_few : cells sizes ≤ most_cells = omega (arith, few, cells_le sizes) in mul-le-mul cells_few (size-high t is)
 
   -- each cell reads the fill where none is stored
   filled : cs ≡ replicate (cells sizes) fill → (read : ℕ → ℤ) → ((k : ℕ) → fill ≡ read k) → cs ≡ map read (range_with_len 0 (cells sizes))
   filled unset read is =
       fill_by_all read cs (cells sizes) fill counted (λ k low. ap (λ (vs : List ℤ). get_or vs k fill) unset ∙ get_or-replicate (cells sizes) k fill fill low ∙ is k)
 
-  pub compact_laid : cells sizes * t.size ≤ 65524 → IsLaid image place (place + 0) None (array_by Compact)
+  pub compact_laid : cells sizes * t.size ≤ most_compact_bytes → IsLaid image place (place + 0) None (array_by Compact)
   compact_laid low =
       let whole : part 0 (length bytes) bytes ≡ bytes = part-whole bytes in
       record {
@@ -330,7 +331,7 @@ module _ (image : List ℕ) (place : ℕ) (t : Fixed) (sizes : List ℕ) (maxima
         cells_are = filled unset (λ k. fill) (λ k. refl);
       }
 
-  pub chunks_laid : (chunk : List ℕ) → length chunk ≡ length sizes → length sizes ≤ 32 → ArePlainChunks t chunk → cs ≡ replicate (cells sizes) fill → IsLaid image place (place + 0) None (array_by (Chunked chunk))
+  pub chunks_laid : (chunk : List ℕ) → length chunk ≡ length sizes → length sizes ≤ most_dimensions → ArePlainChunks t chunk → cs ≡ replicate (cells sizes) fill → IsLaid image place (place + 0) None (array_by (Chunked chunk))
   chunks_laid chunk same rank plain unset =
       let there : IsAddress None = λ n e. absurd (cc) in
       let body : List ℕ = chunked_bytes chunk None t.size in
@@ -355,7 +356,7 @@ module _ (image : List ℕ) (place : ℕ) (t : Fixed) (sizes : List ℕ) (maxima
 -- ---- any array in this layout
 
 module _ (image : List ℕ) (table : FinMap nat_cmp ℕ) (at place end count size : ℕ) (p : Object) (plain : IsPlainObject p) (d : Dataset) (is : IsHead d (length (others_of p)))
-    (address : Option ℕ) (laid : IsLaid image place end address d) (most : 3 + length (others_of p) ≤ 65535) (few_links : count < 2 ^ 32) (short : size < 2 ^ 31) where
+    (address : Option ℕ) (laid : IsLaid image place end address d) (most : 3 + length (others_of p) ≤ 65535) (few_links : count < 2 ^ 32) (short : size < most_bytes) where
   abbrev without : Bool
   without = nat_lt 65535 (4 + length (others_of p))
 

@@ -12,6 +12,7 @@ use Rattle.std.specs.FinMap.{entries, from_entries, entries_sorted, is_sorted, s
 use Rattle.std.specs.FinMap.Entries.{below_all}
 use Rattle.h5_bytes.specs.Texts.{pad8}
 use Rattle.h5_model.specs.Format.Fixed.{Fixed}
+use Rattle.h5_model.specs.Format.Limits.{most_cells}
 use Rattle.h5_model.specs.Tree.Places.{cells, extent_cells}
 use Rattle.h5_model.specs.Format.Sizes.{attribute_size}
 use Rattle.h5_model.specs.Tree.Objects.{Attribute, Attributes}
@@ -30,12 +31,12 @@ use Rattle.h5_repack.specs.Bodies.Sound.{IsPlainAttribute, IsPlainBody}
 
 -- ---- sizes and values
 
-all_small : (sizes : List ℕ) → AllByRecursion (λ n. n ≤ 2 ^ 40) sizes → AllByRecursion (λ n. n < 2 ^ 64) sizes
+all_small : (sizes : List ℕ) → AllByRecursion (λ n. n ≤ most_cells) sizes → AllByRecursion (λ n. n < 2 ^ 64) sizes
 all_small [] all = tt
 all_small (d ∷ ds) all = (omega (arith, all.0), all_small ds all.1)
 
-pub sizes_small : (sizes : List ℕ) → extent_cells sizes ≤ 2 ^ 40 → Small sizes
-sizes_small sizes few = small_from sizes (all_small sizes (sizes_below sizes (2 ^ 40) few))
+pub sizes_small : (sizes : List ℕ) → extent_cells sizes ≤ most_cells → Small sizes
+sizes_small sizes few = small_from sizes (all_small sizes (sizes_below sizes most_cells few))
 
 -- ---- the body of one attribute
 

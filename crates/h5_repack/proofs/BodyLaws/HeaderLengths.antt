@@ -1,8 +1,9 @@
 -- How many bytes the header of an array has in the plain layout (File Format Specification 3.0, sections IV.A.1.a and IV.A.2).
 use Rattle.std.proofs.Common.{◌≡◌, ℕ, ◌+◌, ◌*◌, List, [], ◌∷◌, ◌++◌, length, refl, ap, ◌≤◌, ◌∙◌, arith, Bool, true, false, ◌||◌, not, Option, ℤ, length-append}
 use Rattle.std.proofs.lemmas.Slice.Zip.{AllZip-long}
-use Rattle.std.specs.Prelude.{nat_lt, if◌then◌else◌, ◌^◌, ◌<◌, pos}
+use Rattle.std.specs.Prelude.{nat_lt, if◌then◌else◌, ◌<◌, pos}
 use Rattle.std.specs.List.{AllZip}
+use Rattle.h5_model.specs.Format.Limits.{most_cells, most_dimensions}
 use Rattle.h5_model.specs.Format.MessageTypes.{dataspace_kind, data_layout_kind}
 use Rattle.h5_bytes.specs.Texts.{pad8}
 use Rattle.h5_bytes.specs.Bytes.{little_bytes}
@@ -62,9 +63,9 @@ length-header_of count d others address =
 
 -- an array that a header can have, beside so many other messages, however it is stored
 pub record IsHead (d : Dataset) (others : ℕ) : Type 0 where
-  pub ranked : length d.sizes ≤ 32
+  pub ranked : length d.sizes ≤ most_dimensions
   pub bounded : AllZip IsBound d.sizes d.maxima
-  pub few : extent_cells d.sizes ≤ 2 ^ 40
+  pub few : extent_cells d.sizes ≤ most_cells
   pub fixed : IsFixed d.fixed
   pub sound : IsDataset d
   pub unwritten : 65535 < 4 + others → d.fill ≡ pos 0

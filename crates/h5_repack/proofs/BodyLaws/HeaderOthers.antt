@@ -1,6 +1,6 @@
 -- What every object may have stands in its header behind the messages of its content: the kept messages and the attributes are read
 -- back, and what is read of the content does not depend on them (File Format Specification 3.0, section IV.A.2).
-use Rattle.std.proofs.Common.{◌≡◌, ℕ, ◌+◌, ◌^◌, ◌≤◌, ◌==◌, ◌||◌, List, [], ◌∷◌, ◌++◌, length, length-append, map, refl, sym, ap, ◌∙◌, subst, arith, Bool, true, false, cond, Some, None, eqb-true}
+use Rattle.std.proofs.Common.{◌≡◌, ℕ, ◌+◌, ◌≤◌, ◌==◌, ◌||◌, List, [], ◌∷◌, ◌++◌, length, length-append, map, refl, sym, ap, ◌∙◌, subst, arith, Bool, true, false, cond, Some, None, eqb-true}
 use Rattle.std.proofs.lemmas.Bool.Decides.{nat_tests}
 use Rattle.std.proofs.lemmas.Grind.{flat_map-append}
 use Rattle.std.proofs.lemmas.List.{length-map}
@@ -10,6 +10,7 @@ use Rattle.std.specs.List.{AllByRecursion, AllZip, filter, find}
 use Rattle.std.specs.FinMap.{entries, len, len-entries}
 use Rattle.h5_bytes.specs.Texts.{pad8}
 use Rattle.h5_bytes.proofs.BlockLaws.{all_append}
+use Rattle.h5_model.specs.Format.Limits.{most_cells}
 use Rattle.h5_model.specs.Format.MessageTypes.{attribute_kind, comment_kind, old_modification_time_kind, modification_time_kind}
 use Rattle.h5_model.specs.Format.Messages.{Message, count_of, first_body}
 use Rattle.h5_model.specs.Tree.Places.{extent_cells}
@@ -154,7 +155,7 @@ each_read : (at : ℕ) (es : List (List ℕ × Attribute)) → AllByRecursion Is
 each_read at [] all = tt
 each_read at ((name, a) ∷ es) all = (attribute_read (name, a) all.0, each_read (at + 8 + length (attribute_message (name, a)).1) es all.1)
 
-all_small : (es : List (List ℕ × Attribute)) → AllByRecursion IsPlainAttribute es → AllByRecursion (λ (a : List ℕ × Attribute). extent_cells (a.1).sizes ≤ 2 ^ 40) es
+all_small : (es : List (List ℕ × Attribute)) → AllByRecursion IsPlainAttribute es → AllByRecursion (λ (a : List ℕ × Attribute). extent_cells (a.1).sizes ≤ most_cells) es
 all_small [] all = tt
 all_small (e ∷ es) all = ((all.0).few, all_small es all.1)
 

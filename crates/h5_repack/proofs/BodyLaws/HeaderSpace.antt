@@ -6,6 +6,7 @@ use Rattle.std.specs.Prelude.{if◌then◌else◌}
 use Rattle.std.specs.List.{AllByRecursion, AllZip}
 use Rattle.h5_model.specs.Format.Extent.{Extent, extent_of}
 use Rattle.h5_model.specs.Edits.Refusal.{are_maxima, is_maximum}
+use Rattle.h5_model.specs.Format.Limits.{most_dimensions}
 use Rattle.h5_model.specs.Format.Sizes.{dataspace_length, message_size}
 use Rattle.h5_model.specs.Tree.Objects.{are_sizes}
 use Rattle.h5_model.specs.Format.Bodies.{dataspace_bytes, bounded_bytes, or_undefined}
@@ -57,18 +58,18 @@ module _ (chunked : Bool) (sizes : List ℕ) (maxima : List (Option ℕ)) where
   abbrev body_by : Bool → List ℕ
   body_by b = cond b (bounded_bytes sizes maxima) (dataspace_bytes sizes)
 
-  plain_read : length sizes ≤ 32 → Small sizes → are_sizes sizes maxima ≡ true → extent_of (dataspace_bytes sizes) ≡ Some extent
+  plain_read : length sizes ≤ most_dimensions → Small sizes → are_sizes sizes maxima ≡ true → extent_of (dataspace_bytes sizes) ≡ Some extent
   plain_read rank small own =
       plain_back sizes (length (dataspace_bytes sizes)) (dataspace_bytes sizes) rank small (sym (padded_full (dataspace_bytes sizes) (length (dataspace_bytes sizes)) refl))
       ∙ ap (λ (ms : List (Option ℕ)). Some (record { sizes = sizes; maxima = ms })) (sym (own_maxima sizes maxima own))
 
-  bounded_read : length sizes ≤ 32 → Small sizes → AllZip IsBound sizes maxima → extent_of (bounded_bytes sizes maxima) ≡ Some extent
+  bounded_read : length sizes ≤ most_dimensions → Small sizes → AllZip IsBound sizes maxima → extent_of (bounded_bytes sizes maxima) ≡ Some extent
   bounded_read rank small bound =
       bounded_back sizes maxima (length (bounded_bytes sizes maxima)) (bounded_bytes sizes maxima) rank small (maxima_fit sizes maxima bound)
       (maxima_low sizes maxima bound) (sym (padded_full (bounded_bytes sizes maxima) (length (bounded_bytes sizes maxima)) refl))
 
   -- an extent is read back
-  pub space_back : length sizes ≤ 32 → Small sizes → AllZip IsBound sizes maxima → extent_of (space_body chunked sizes maxima) ≡ Some extent
+  pub space_back : length sizes ≤ most_dimensions → Small sizes → AllZip IsBound sizes maxima → extent_of (space_body chunked sizes maxima) ≡ Some extent
   space_back rank small bound = elim written as (λ b. written ≡ b → extent_of (body_by b) ≡ Some extent) [
     | true ↦ λ bounded. bounded_read rank small bound
     | false ↦ λ plain. plain_read rank small (no_maxima chunked (are_sizes sizes maxima) plain)
@@ -82,12 +83,12 @@ module _ (chunked : Bool) (sizes : List ℕ) (maxima : List (Option ℕ)) where
     | false ↦ omega (arith, words_long sizes)
   ]
 
-by_length : (n rank : ℕ) (b : Bool) → rank ≤ 32 → n ≡ dataspace_length rank + (if b then 8 * rank else 0) → (n % 8 ≡ 0) × (n < 65536) × (8 + n ≡ message_size n)
+by_length : (n rank : ℕ) (b : Bool) → rank ≤ most_dimensions → n ≡ dataspace_length rank + (if b then 8 * rank else 0) → (n % 8 ≡ 0) × (n < 65536) × (8 + n ≡ message_size n)
 by_length n rank true most e = (omega (arith, e), omega (arith, most, e), omega (arith, e))
 by_length n rank false most e = (omega (arith, e), omega (arith, most, e), omega (arith, e))
 
 -- a multiple of 8 bytes, which a message may have
-pub space_padded : (chunked : Bool) (sizes : List ℕ) (maxima : List (Option ℕ)) → length sizes ≤ 32 → length maxima ≡ length sizes
+pub space_padded : (chunked : Bool) (sizes : List ℕ) (maxima : List (Option ℕ)) → length sizes ≤ most_dimensions → length maxima ≡ length sizes
     → (length (space_body chunked sizes maxima) % 8 ≡ 0) × (length (space_body chunked sizes maxima) < 65536)
     × (8 + length (space_body chunked sizes maxima) ≡ message_size (length (space_body chunked sizes maxima)))
 space_padded chunked sizes maxima rank same =

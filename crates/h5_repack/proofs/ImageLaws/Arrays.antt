@@ -1,6 +1,6 @@
 -- How many bytes an array has in the plain image, and that it reads as that array where they stand, in blocks that hold each of them
 -- once (File Format Specification 3.0, sections IV.A.2.b to IV.A.2.i).
-use Rattle.std.proofs.Common.{◌≡◌, ℕ, ◌+◌, ◌-◌, ◌*◌, ◌^◌, ◌≤◌, ◌==◌, List, [], ◌∷◌, ◌++◌, length, length-append, refl, sym, ap, ◌∙◌, subst, arith, Bool, true, false, cond, eqb-true, Option, Some, None}
+use Rattle.std.proofs.Common.{◌≡◌, ℕ, ◌+◌, ◌-◌, ◌*◌, ◌≤◌, ◌==◌, List, [], ◌∷◌, ◌++◌, length, length-append, refl, sym, ap, ◌∙◌, subst, arith, Bool, true, false, cond, eqb-true, Option, Some, None}
 use Rattle.std.specs.Prelude.{IsSome, is_some, if◌then◌else◌}
 use Rattle.std.specs.Ordering.{nat_cmp}
 use Rattle.std.specs.FinMap.{FinMap, get}
@@ -9,6 +9,7 @@ use Rattle.h5_bytes.specs.Bytes.{part}
 use Rattle.h5_bytes.specs.Blocks.{block, Inside, Run, cover, holds}
 use Rattle.h5_bytes.specs.declared.Block.{Block}
 use Rattle.h5_bytes.proofs.BlockLaws.{cover-run, holds_join, run_rises}
+use Rattle.h5_model.specs.Format.Limits.{most_bytes}
 use Rattle.h5_model.specs.Format.Messages.{prefix_at, reference_count}
 use Rattle.h5_model.specs.Format.PlainLength.{content_bytes, data_bytes}
 use Rattle.h5_model.specs.Format.Reads.{HasObject, IsGroup}
@@ -98,7 +99,7 @@ module _ (array_length : ArrayLength) (k : KValues) (stored : StoredIn) (tree : 
   few_links : hard_links tree number ≤ 65535
   few_links = (plain.sound).few number (ap is_some is)
 
-  module _ (array_reads : ArrayReads) (end : ℕ) (fits_in : end ≤ 2 ^ 31) (image : List ℕ) (k_is : chunk_k image ≡ chunk_k_of k) (place : ℕ) (found : get table number ≡ Some place) (high : 1 ≤ place) (low : place + object_length k (counts_of stored number) o ≤ end)
+  module _ (array_reads : ArrayReads) (end : ℕ) (fits_in : end ≤ most_bytes) (image : List ℕ) (k_is : chunk_k image ≡ chunk_k_of k) (place : ℕ) (found : get table number ≡ Some place) (high : 1 ≤ place) (low : place + object_length k (counts_of stored number) o ≤ end)
       (there : part place (length (object_bytes k stored tree table (number, o))) image ≡ object_bytes k stored tree table (number, o)) where
     here : header ≡ place
     here = header_is table number place found

@@ -9,6 +9,7 @@ use Rattle.std.specs.FinMap.{FinMap, get, entries, len, len-entries, is_sorted, 
 use Rattle.std.specs.FinMap.Entries.{below_all}
 use Rattle.std.specs.List.{AllByRecursion, AllZip}
 use Rattle.std.specs.Option.{option_map_or, option_and_then}
+use Rattle.h5_model.specs.Format.Limits.{most_bytes}
 use Rattle.h5_model.specs.Format.Links.{Before, Ascend}
 use Rattle.h5_model.specs.Tree.Paths.{is_name}
 use Rattle.h5_model.specs.Format.PlainLength.{content_bytes, group_bytes, nodes_over, rows_of, plain_segment_size}
@@ -65,11 +66,11 @@ leads_array k o h (Group links) e none = absurd (cc)
 leads_array k o h (Array d) e none = rw e refl
 
 -- the heap of a group ends with it
-heap_within : (n s x h hs all : ℕ) → all ≡ n + 32 + s + x → h + (hs + all) ≤ 2 ^ 31 → h + hs + n < 2 ^ 32
+heap_within : (n s x h hs all : ℕ) → all ≡ n + 32 + s + x → h + (hs + all) ≤ most_bytes → h + hs + n < 2 ^ 32
 heap_within n s x h hs all is low = omega arith
 
 -- a link to an object that ends low leads there
-lead_to : (k : KValues) (count : ℕ) (o : Object) (h : ℕ) (c : Content) → o.content ≡ c → h + object_length k count o ≤ 2 ^ 31
+lead_to : (k : KValues) (count : ℕ) (o : Object) (h : ℕ) (c : Content) → o.content ≡ c → h + object_length k count o ≤ most_bytes
     → IsLead (leads_to_object k o h) × (target_of_leads (leads_to_object k o h) ≡ Header h)
 lead_to k count o h (Group links) e low =
     let leads = leads_group k o links h e in
@@ -203,7 +204,7 @@ module _ (k : KValues) (tree : Tree) (table : FinMap nat_cmp ℕ) (sound : IsSou
 
   -- ---- where they lead
 
-  module _ (counts : ℕ → ℕ) (end : ℕ) (placed : ArePlaced k counts tree table end) (fits_in : end ≤ 2 ^ 31) where
+  module _ (counts : ℕ → ℕ) (end : ℕ) (placed : ArePlaced k counts tree table end) (fits_in : end ≤ most_bytes) where
     -- where a link to an object leads
     object_lead : (n : ℕ) (o : Object) → get tree n ≡ Some o
         → IsLead (option_map_or (λ (x : Object). leads_to_object k x (header_in table n)) (get tree n) (ToArray 0))

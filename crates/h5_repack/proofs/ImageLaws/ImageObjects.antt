@@ -1,8 +1,9 @@
 -- Each object of a tree stands in the plain image where the table says.
-use Rattle.std.proofs.Common.{◌≡◌, ℕ, ◌+◌, ◌^◌, ◌≤◌, List, [], ◌∷◌, ◌++◌, length, length-append, append_assoc, refl, sym, ap, ap₂, ◌∙◌, arith, inl, inr, Some}
+use Rattle.std.proofs.Common.{◌≡◌, ℕ, ◌+◌, ◌≤◌, List, [], ◌∷◌, ◌++◌, length, length-append, append_assoc, refl, sym, ap, ap₂, ◌∙◌, arith, inl, inr, Some}
 use Rattle.std.specs.FinMap.{get}
 use Rattle.std.specs.List.{flat_map}
 use Rattle.h5_bytes.specs.Bytes.{part}
+use Rattle.h5_model.specs.Format.Limits.{most_bytes}
 use Rattle.h5_model.specs.Format.Superblock.{chunk_k_of, k_values}
 use Rattle.h5_model.specs.Tree.Objects.{Tree, Object, Content, Group, Array}
 use Rattle.h5_model.proofs.PlainMessages.{part-between}
@@ -97,7 +98,7 @@ module _ (links_length_is : LinksLength) (group_length : GroupLength) (array_len
     along_all : Along k counts (λ place e. IsPlace place e × IsThere k counts bytes image place e) (plain_superblock_length k) order
     along_all = along_both k counts IsPlace (IsThere k counts bytes image) (plain_superblock_length k) order along_places (along_there k counts bytes image front (plain_superblock_length k) order length-each long laid)
 
-    pub located : LinksRead → ArrayReads → end ≤ 2 ^ 31 → k_values image ≡ k → (e : ℕ × Object) → In e order → Located image k counts tree order e
+    pub located : LinksRead → ArrayReads → end ≤ most_bytes → k_values image ≡ k → (e : ℕ × Object) → In e order → Located image k counts tree order e
     located links_read array_reads fits_in k_is (n, o) there =
         let at = along_in k counts (λ place e. IsPlace place e × IsThere k counts bytes image place e) (plain_superblock_length k) order (n, o) along_all there in
         record {

@@ -1,9 +1,10 @@
 -- The plain image of a sound tree reads as that tree, and its blocks hold each of its bytes once.
-use Rattle.std.proofs.Common.{◌≡◌, ℕ, ◌+◌, ◌-◌, ◌^◌, ◌≤◌, List, ◌∷◌, ◌++◌, length, refl, sym, ap, ◌∙◌, subst, arith, Some}
+use Rattle.std.proofs.Common.{◌≡◌, ℕ, ◌+◌, ◌-◌, ◌≤◌, List, ◌∷◌, ◌++◌, length, refl, sym, ap, ◌∙◌, subst, arith, Some}
 use Rattle.std.specs.FinMap.{get, entries}
 use Rattle.std.specs.List.{flat_map, AllByRecursion}
 use Rattle.h5_bytes.specs.Blocks.{CoverOnce, Inside, holds}
 use Rattle.h5_bytes.proofs.BlockLaws.{holds_join, once_separate}
+use Rattle.h5_model.specs.Format.Limits.{most_bytes}
 use Rattle.h5_model.specs.Format.Reads.{Placed, all_blocks}
 use Rattle.h5_model.specs.Format.Superblock.{IsSuperblock, k_values, end_of_file, root_header, superblock_length}
 use Rattle.h5_model.specs.Tree.Objects.{Tree, Object}
@@ -49,7 +50,7 @@ module _ (links_length_is : LinksLength) (group_length : GroupLength) (array_len
     pub image_long : length image ≡ end
     image_long = length-image links_length_is group_length array_length k stored tree order plain is image front (front_long k end (content_place root (plain_superblock_length k)) (root_heap k root)) laid
 
-    module _ (links_read : LinksRead) (array_reads : ArrayReads) (fits_in : image_end k counts ((0, root) ∷ others) ≤ 2 ^ 31) where
+    module _ (links_read : LinksRead) (array_reads : ArrayReads) (fits_in : image_end k counts ((0, root) ∷ others) ≤ most_bytes) where
       laid_long : length (front ++ rest) ≡ end
       laid_long = ap length (sym laid) ∙ image_long
 
@@ -122,6 +123,6 @@ module _ (links_length_is : LinksLength) (group_length : GroupLength) (array_len
 module _ (links_read : LinksRead) (links_length_is : LinksLength) (group_length : GroupLength) (array_reads : ArrayReads) (array_length : ArrayLength) where
   pub image_reads : ImageReads
   image_reads k stored tree objects plain is fits_in =
-      subst (λ (xs : Objects). IsOrder tree xs → image_end k (counts_of stored) xs ≤ 2 ^ 31
+      subst (λ (xs : Objects). IsOrder tree xs → image_end k (counts_of stored) xs ≤ most_bytes
       → IsPlainReading (plain_image k stored tree xs) k (table_of k (counts_of stored) xs) tree)
       (sym is.first) (λ is' fits'. reading links_length_is group_length array_length k stored tree is.root is.others plain is' links_read array_reads fits') is fits_in

@@ -10,6 +10,7 @@ use Rattle.h5_bytes.specs.Blocks.{block, Inside, cover, holds}
 use Rattle.h5_bytes.specs.declared.Block.{Block}
 use Rattle.h5_bytes.proofs.BlockLaws.{holds_join}
 use Rattle.h5_bytes.proofs.PartLaws.{part-part, part-front, part-appended}
+use Rattle.h5_model.specs.Format.Limits.{most_bytes}
 use Rattle.h5_model.specs.Format.Links.{HasLinks}
 use Rattle.h5_model.specs.Format.Messages.{prefix_at, reference_count}
 use Rattle.h5_model.specs.Format.Plain.{messages_bytes}
@@ -105,7 +106,7 @@ module _ (links_length_is : LinksLength) (group_length : GroupLength) (k : KValu
   pub length-group : length (bytes (number, o)) ≡ object_length k (counts_of stored number) o
   length-group = ap length group_laid ∙ length-append header_part links_part ∙ ap₂ (λ (a b : ℕ). a + b) length-header_part length-links_part ∙ sym group_long
 
-  module _ (links_read : LinksRead) (end : ℕ) (placed : ArePlaced k (counts_of stored) tree table end) (fits_in : end ≤ 2 ^ 31) where
+  module _ (links_read : LinksRead) (end : ℕ) (placed : ArePlaced k (counts_of stored) tree table end) (fits_in : end ≤ most_bytes) where
     are_plain : ArePlainLinks k.leaf k.internal written
     are_plain = plain_links k tree table plain.sound (counts_of stored) end placed fits_in number o group is e (plain.in_range).groups group_low
 
@@ -130,7 +131,7 @@ module _ (links_length_is : LinksLength) (group_length : GroupLength) (k : KValu
       links_there : part (content_place o header) (links_length k.leaf k.internal written) image ≡ links_part
       links_there = (λ i. part (header + sym length-header_part i) (sym length-links_part i) image) ∙ second_part header header_part links_part image both_there
 
-      links_low : content_place o header + links_length k.leaf k.internal written ≤ 2 ^ 31
+      links_low : content_place o header + links_length k.leaf k.internal written ≤ most_bytes
       links_low = omega (arith, here, low, fits_in, group_long)
 
       linked : IsPlainGroup image k.leaf k.internal (content_place o header) written

@@ -2,6 +2,7 @@
 use Rattle.std.proofs.Common.{◌≡◌, ℕ, ◌^◌, ◌<◌, ◌≤◌, List, [], ◌∷◌, ◌++◌, length, refl, ap, ◌∙◌, sym, arith, length-append, Option, Some, None}
 use Rattle.h5_bytes.specs.Bytes.{number_at, byte_at, part, with_part, little_bytes, undefined_address}
 use Rattle.h5_bytes.proofs.FieldLaws.{number_at-with_field}
+use Rattle.h5_model.specs.Format.Limits.{most_bytes}
 use Rattle.h5_model.specs.Format.Plain.{plain_superblock_length, superblock_bytes}
 use Rattle.h5_model.specs.Format.Superblock.{AreKValues, IsSuperblock, base_place, chunk_k, chunk_k_of, driver_place, end_of_file, internal_k, k_values, leaf_k, length_with, root_header, superblock_length}
 use Rattle.h5_model.specs.declared.k_values.KValues.{KValues}
@@ -60,7 +61,7 @@ module _ (leaf internal end tree heap : ℕ) (rest : List ℕ) (leaf_low : leaf 
     root_is = refl;
   })
 
-module _ (k : KValues) (end tree heap : ℕ) (rest : List ℕ) (in_range : AreKValues k) (fits_in : end ≤ 2 ^ 31) where
+module _ (k : KValues) (end tree heap : ℕ) (rest : List ℕ) (in_range : AreKValues k) (fits_in : end ≤ most_bytes) where
   abbrev front : List ℕ
   front = front_of k end tree heap
 

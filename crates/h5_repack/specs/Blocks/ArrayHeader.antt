@@ -7,7 +7,7 @@ use Rattle.h5_model.specs.Edits.Refusal.{are_maxima}
 use Rattle.h5_model.specs.Format.Bodies.{pair_bytes}
 use Rattle.h5_model.specs.Format.MessageTypes.{symbol_table_kind}
 use Rattle.h5_model.specs.Format.Plain.{message_bytes, messages_bytes, cells_bytes}
-use Rattle.h5_model.specs.Format.Layout.{Layout, InMessage, InBlock, InChunks}
+use Rattle.h5_model.specs.Format.Layout.{Layout, InMessage, InBlock, InChunks, most_compact_bytes}
 use Rattle.h5_model.specs.Tree.Objects.{Storage, Compact, Contiguous, Chunked}
 use Rattle.h5_model.specs.Tree.Places.{cells}
 use Rattle.h5_model.specs.Format.Described.{Described}
@@ -104,7 +104,7 @@ header_written count a c o address =
 
 -- compact cells fit in a message; chunks have a dimension, and no size is 0
 abbrev pub FitsLayout : ℕ → Layout → Type 0
-FitsLayout len (InMessage bytes) = len ≤ 65524
+FitsLayout len (InMessage bytes) = len ≤ most_compact_bytes
 FitsLayout len (InBlock b) = Unit {0}
 FitsLayout len (InChunks chunk root) = (1 ≤ length chunk) × (list_any (λ n. n == 0) chunk ≡ false)
 

@@ -3,6 +3,7 @@ use Rattle.std.specs.Prelude.{◌≡◌, ℕ, ◌+◌, ◌*◌, ◌%◌, ◌<◌
 use Rattle.std.specs.List.{AllByRecursion, AllZip, list_any}
 use Rattle.std.specs.FinMap.{entries}
 use Rattle.h5_bytes.specs.Bytes.{undefined_address}
+use Rattle.h5_model.specs.Format.Layout.{most_compact_bytes}
 use Rattle.h5_model.specs.Format.Limits.{most_cells, most_chunk_bytes, most_dimensions}
 use Rattle.h5_model.specs.Format.Messages.{most_messages}
 use Rattle.h5_model.specs.Format.AttributeBody.{attribute_of}
@@ -56,7 +57,7 @@ pub record ArePlainChunks (t : Fixed) (chunk : List ℕ) : Type 0 where
 
 -- compact cells fit in a message; there are contiguous cells where they are stored; chunks fit in their bounds
 abbrev pub IsPlainStorage : Dataset → Storage → Type 0
-IsPlainStorage d Compact = cells d.sizes * (d.fixed).size ≤ 65524
+IsPlainStorage d Compact = cells d.sizes * (d.fixed).size ≤ most_compact_bytes
 IsPlainStorage d (Contiguous true) = 1 ≤ cells d.sizes
 IsPlainStorage d (Contiguous false) = IsUnset d
 IsPlainStorage d (Chunked chunk) = ArePlainChunks d.fixed chunk

@@ -2,6 +2,7 @@
 ghost use Rattle.std.specs.Prelude.{◌≡◌, ℕ, ◌-◌, ◌*◌, ◌^◌, ◌<◌, ◌≤◌, ◌++◌, OnOk, nat_le, true, length, replicate};
 ghost use Rattle.h5_model.specs.Format.Fixed.{bytes_of, fits};
 ghost use Rattle.h5_bytes.specs.Numbers.{zeros};
+ghost use Rattle.h5_model.specs.Format.Limits.{most_bytes};
 ghost use Rattle.h5_model.specs.Format.Plain.{cells_bytes};
 ghost use Rattle.h5_model.specs.Tree.Places.{cells as cells_of};
 ghost use Rattle.h5_btree.specs.Writing.Written.{root_level};
@@ -170,8 +171,8 @@ pub fn push_data(
     requires most { chunk_k ≤ 32767 }
     requires array { IsArrayToWrite array.now cells.now }
     requires level { root_level chunk_k (length (chunks_of cells.now)) ≤ 15 }
-    requires low { place ≤ 2 ^ 31 }
-    requires few { length (data_written chunk_k cells.now array.now place) ≤ 2 ^ 31 }
+    requires low { place ≤ most_bytes }
+    requires few { length (data_written chunk_k cells.now array.now place) ≤ most_bytes }
     ensures { OnOk result (out.new.items ≡ out.old.items ++ data_written chunk_k cells.now array.now place) }
 {
     if !stores_data(array, cells) {

@@ -1,6 +1,7 @@
 //! Chunks that are stored behind their tree, as they are appended (File Format Specification 3.0, sections III.A.1 and IV.A.2.i).
 ghost use Rattle.std.specs.Prelude.{◌≡◌, ℕ, ℤ, ◌+◌, ◌-◌, ◌*◌, ◌^◌, ◌<◌, ◌≤◌, ◌++◌, ◌∷◌, IfOk, List, OnOk, Some, drop, length, map, nat_le, slice_get};
 ghost use Rattle.std.specs.List.{AllByRecursion};
+ghost use Rattle.h5_model.specs.Format.Limits.{most_bytes, most_chunk_bytes};
 ghost use Rattle.h5_model.specs.Format.Nodes.{chunk_kind, node_length};
 ghost use Rattle.h5_model.specs.Format.PlainLength.{nodes_over as nodes};
 ghost use Rattle.h5_model.specs.Tree.Objects.{Chunked};
@@ -119,7 +120,7 @@ fn children_of<'a>(
     at: u64,
 ) -> Result<Vec<Child<ChunkKey<'a>>>, AllocError>
     requires size { size ≡ part_length held.now }
-    requires small { size ≤ 2 ^ 30 }
+    requires small { size ≤ most_chunk_bytes }
     requires last { IsLastKey held.now last.now }
     requires low { at ≤ 2 ^ 62 }
     requires few { length held.now.parts < 2 ^ 32 }
@@ -152,8 +153,8 @@ fn push_chunk_tree(
     requires high_k { chunk_k ≤ 32767 }
     requires level { level chunk_k (length held.now.parts) ≤ 15 }
     requires whole { AreWhole held.now }
-    requires low { place ≤ 2 ^ 31 }
-    requires few { length (chunks_written chunk_k held.now place) ≤ 2 ^ 31 }
+    requires low { place ≤ most_bytes }
+    requires few { length (chunks_written chunk_k held.now place) ≤ most_bytes }
     ensures { OnOk result ((first : List ℕ) (others : List (List ℕ))
         → part_offsets held.now ≡ first ∷ others
         → out.new.items ≡ out.old.items
@@ -195,8 +196,8 @@ pub(crate) fn push_chunks(
     requires most { chunk_k ≤ 32767 }
     requires level { level chunk_k (length (part_offsets held.now)) ≤ 15 }
     requires whole { AreWhole held.now }
-    requires low { place ≤ 2 ^ 31 }
-    requires few { length (chunks_written chunk_k held.now place) ≤ 2 ^ 31 }
+    requires low { place ≤ most_bytes }
+    requires few { length (chunks_written chunk_k held.now place) ≤ most_bytes }
     ensures { OnOk result (out.new.items ≡ out.old.items ++ chunks_written chunk_k held.now place) }
 {
     if held.is_empty() {

@@ -5,6 +5,7 @@ ghost use Rattle.std.specs.Option.{ForSome};
 ghost use Rattle.h5_bytes.specs.Texts.{pad8};
 ghost use Rattle.h5_model.specs.Format.Bodies.{pair_bytes};
 ghost use Rattle.h5_model.specs.Format.Fixed.{fits};
+ghost use Rattle.h5_model.specs.Format.Limits.{most_bytes};
 ghost use Rattle.h5_model.specs.Format.Plain.{message_bytes, messages_bytes};
 ghost use Rattle.h5_model.specs.Format.Sizes.{message_size};
 ghost use Rattle.h5_model.specs.Tree.Places.{cells as cells_of};
@@ -167,7 +168,7 @@ pub fn push_group_header(
     others: &Others,
 ) -> Result<(), AllocError>
     requires few { others.now.count + 1 ≤ 65535 }
-    requires low { length others.now.bytes ≤ 2 ^ 31 }
+    requires low { length others.now.bytes ≤ most_bytes }
     ensures { OnOk result (out.new.items ≡ out.old.items ++ group_written tree heap others.now) }
 {
     let bytes = others.bytes();
@@ -284,7 +285,7 @@ pub fn push_array_header(
     requires array { IsArrayToWrite array.now cells.now }
     requires few { others.now.count + 3 ≤ 65535 }
     requires address { ForSome address (λ at. at < 2 ^ 64 - 1) }
-    requires low { length others.now.bytes ≤ 2 ^ 31 }
+    requires low { length others.now.bytes ≤ most_bytes }
     ensures { OnOk result (out.new.items
         ≡ out.old.items ++ header_written references array.now cells.now others.now address) }
 {

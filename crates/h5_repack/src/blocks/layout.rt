@@ -3,6 +3,7 @@ ghost use Rattle.std.specs.Prelude.{◌≡◌, ℕ, ◌+◌, ◌*◌, ◌-◌, �
 ghost use Rattle.std.specs.List.{list_any};
 ghost use Rattle.std.specs.Option.{ForSome};
 ghost use Rattle.h5_model.specs.Format.Bodies.{chunked_bytes, compact_bytes, contiguous_bytes, padded_body};
+ghost use Rattle.h5_model.specs.Format.Layout.{most_compact_bytes};
 ghost use Rattle.h5_model.specs.Format.Plain.{cells_bytes, message_bytes};
 ghost use Rattle.h5_model.specs.Format.Sizes.{layout_size};
 ghost use Rattle.h5_model.specs.Tree.Places.{cells as cells_of};
@@ -83,7 +84,7 @@ fn push_compact(
     array: &ArrayRef<'_>,
     cells: &Cells<'_>,
 ) -> Result<(), AllocError>
-    requires few { cells_of array.now.sizes * array.now.fixed.size ≤ 65524 }
+    requires few { cells_of array.now.sizes * array.now.fixed.size ≤ most_compact_bytes }
     requires room { HasRoom cells.now (cells_of array.now.sizes * array.now.fixed.size) }
     ensures { OnOk result (out.new.items
         ≡ out.old.items
@@ -100,7 +101,7 @@ fn push_compact(
 
 /// The layout message of a compact array, each cell of which is the fill.
 fn push_compact_fill(out: &mut Vec<u8>, array: &ArrayRef<'_>) -> Result<(), AllocError>
-    requires { cells_of array.now.sizes * array.now.fixed.size ≤ 65524 }
+    requires { cells_of array.now.sizes * array.now.fixed.size ≤ most_compact_bytes }
     ensures { OnOk result (out.new.items ≡ out.old.items ++ message_bytes (
       8,
       padded_body
@@ -122,7 +123,7 @@ fn push_compact_fill(out: &mut Vec<u8>, array: &ArrayRef<'_>) -> Result<(), Allo
 
 /// The layout message of a compact array whose cells are these bytes.
 fn push_compact_data(out: &mut Vec<u8>, bytes: &[u8]) -> Result<(), AllocError>
-    requires { length bytes.now ≤ 65524 }
+    requires { length bytes.now ≤ most_compact_bytes }
     ensures { OnOk result
         (out.new.items ≡ out.old.items ++ message_bytes (8, padded_body (compact_bytes bytes.now))) }
 {

@@ -1,6 +1,7 @@
 use Rattle.std.proofs.Common.{ℕ, ◌+◌, ◌*◌, ◌^◌, ◌≤◌, List, Some, subst, sym, arith}
 use Rattle.h5_layout.specs.Lacking.{IsFound}
 use Rattle.h5_layout.specs.Storage.{storage_bytes}
+use Rattle.h5_model.specs.Format.Limits.{most_bytes}
 use Rattle.h5_model.specs.Tree.Objects.{Dataset}
 use Rattle.h5_model.specs.declared.edits.Edit.TheVariants.{Write}
 use Rattle.h5_model.specs.declared.hyperslab.Hyper.{Hyper}
@@ -78,7 +79,7 @@ module _ (c : After-size) {path : List ℕ} {hyper : Hyper} (is : IsTarget c.arg
       (run_standing m is mid allowed growth (c.in-Ok.ensures.changed a is.write.there) (c.in-Ok.ensures.stored a (axes_of hyper) is.write.there found.1)
       c.make_storage.ensures.sound c.in-Ok.at (c.in-Ok.ensures.placed a (axes_of hyper) is.write.there found))
 
-  low : c.in-Ok.at ≤ 2 ^ 31
+  low : c.in-Ok.at ≤ most_bytes
   low = run_low m is mid allowed growth (c.in-Ok.ensures.changed a is.write.there) (c.in-Ok.ensures.stored a (axes_of hyper) is.write.there found.1)
       c.make_storage.ensures.sound c.in-Ok.at (c.in-Ok.ensures.placed a (axes_of hyper) is.write.there found)
 

@@ -1,6 +1,7 @@
-use Rattle.std.proofs.Common.{◌≡◌, ◌≤◌, ◌+◌, ◌*◌, ◌^◌, ℕ, List, [], drop, get_or, length, map, sym, ap, ◌∙◌, subst, arith}
+use Rattle.std.proofs.Common.{◌≡◌, ◌≤◌, ◌+◌, ◌*◌, ℕ, List, [], drop, get_or, length, map, sym, ap, ◌∙◌, subst, arith}
 use Rattle.std.proofs.lemmas.List.{drop_all, length-map}
 use Rattle.std.proofs.Math.Nat.{mul-le-mul_right}
+use Rattle.h5_model.specs.Format.Limits.{most_cells}
 use Rattle.h5_file.specs.ByArray.{numbers_on}
 use Rattle.h5_file.specs.declared.by_array.ArrayView.{ArrayView}
 use Rattle.h5_file.specs.declared.views.KeptView.{KeptView}
@@ -55,7 +56,7 @@ follow_one-count-requires-clause-fit c = λ at x there.
     next_ready c.args.number.0 c.args.array.now c.args.touched.now c.args.views.now (numbers (drop i own)) c.loop-view.count c.loop-view.views c.loop-view.invariant.followed
     (get_or own i any).number (numbers (drop (i + 1) own)) (left_next i own any c.loop-view-test.true) c.requires.rise.0 c.requires.rise.1 at there c.requires.fit x
 
-low : (c : After-follow_one-count) → c.loop-view.count + c.follow_one-count.result ≤ (c.loop-view.view-index + 1) * 2 ^ 40
+low : (c : After-follow_one-count) → c.loop-view.count + c.follow_one-count.result ≤ (c.loop-view.view-index + 1) * most_cells
 low c = omega (arith, c.loop-view.invariant.low, c.follow_one-count.ensures.few)
 
 pub overflow_add-count : goal.overflow_add-count
@@ -63,7 +64,7 @@ overflow_add-count c =
     let sum = low (goal.at.overflow_add-count c).After-follow_one-count in
     let many = few (goal.at.overflow_add-count c).After-views_on-own in
     let rows : c.loop-view.view-index + 1 ≤ 1024 = omega (arith, c.loop-view-test.true, many) in
-    let all : (c.loop-view.view-index + 1) * 2 ^ 40 ≤ 1024 * 2 ^ 40 = mul-le-mul_right (2 ^ 40) rows in
+    let all : (c.loop-view.view-index + 1) * most_cells ≤ 1024 * most_cells = mul-le-mul_right most_cells rows in
     omega (arith, sum, all)
 
 pub loop-view-preserved : goal.loop-view-preserved

@@ -1,4 +1,5 @@
-use Rattle.std.proofs.Common.{◌≡◌, ◌^◌, ◌≤◌, ◌+◌, length, sym, ap, ◌∙◌, subst, arith}
+use Rattle.std.proofs.Common.{◌≡◌, ◌≤◌, ◌+◌, length, sym, ap, ◌∙◌, subst, arith}
+use Rattle.h5_model.specs.Format.Limits.{most_cells}
 use Rattle.h5_file.specs.Patched.{AreCorners, ArePatched}
 use Rattle.h5_file.specs.Touched.{met_with}
 use Rattle.h5_file.proofs.FollowLaws.{grid_of, met_corners, met_few, nothing_patched}
@@ -10,7 +11,7 @@ boxes c =
     c.in-Some.ensures c.args.array.now
     (grid_of c.args.array.now c.args.touched.now c.args.grid.now c.args.slab.now c.requires.array c.requires.rank c.requires.apart)
 
-few : (c : In-Some) → length c.in-Some.boxes ≤ 2 ^ 40
+few : (c : In-Some) → length c.in-Some.boxes ≤ most_cells
 few c =
     let r = c.requires.array in
     let less = met_few c.args.array.now r.sound c.args.touched.now r.touch c.args.slab.now r.few in

@@ -1,5 +1,6 @@
-use Rattle.std.proofs.Common.{◌≡◌, ◌+◌, ◌^◌, ◌∷◌, true, drop, get_or, arith}
+use Rattle.std.proofs.Common.{◌≡◌, ◌+◌, ◌∷◌, true, drop, get_or, arith}
 use Rattle.std.proofs.lemmas.List.{drop_more}
+use Rattle.h5_model.specs.Format.Limits.{most_cells}
 use Rattle.h5_shape.specs.InnerRuns.{selects_along}
 use Rattle.h5_shape.proofs.InnerSteps.{axis_here, split_axis, none_inner, none_joined, run_around, inner_small, around_small, innermost}
 use Rattle.h5_shape.proofs.single_run.+run_from.Goals as goal
@@ -15,7 +16,7 @@ run_from-requires t c =
       omega arith,
       (
         c.requires.rank,
-        inner_small (get_or c.args.sizes.now c.args.k 0) (drop (c.args.k + 1) c.args.sizes.now) c.at-axis.result (2 ^ 40) here (rw now at c.requires.small),
+        inner_small (get_or c.args.sizes.now c.args.k 0) (drop (c.args.k + 1) c.args.sizes.now) c.at-axis.result most_cells here (rw now at c.requires.small),
       ),
     )
 
@@ -44,7 +45,7 @@ overflow_add-result t c =
     omega (
       arith,
       around_small (get_or c.args.sizes.now c.args.k 0) (drop (c.args.k + 1) c.args.sizes.now) c.at-axis.result (drop (c.args.k + 1) c.args.axes.now)
-          c.in_ok-inner.inner (2 ^ 40) here c.in_ok-inner.ensures (cc) (rw now at c.requires.small),
+          c.in_ok-inner.inner most_cells here c.in_ok-inner.ensures (cc) (rw now at c.requires.small),
     )
 
 pub overflow_mul-result-3 : goal.overflow_mul-result-3
@@ -54,7 +55,7 @@ overflow_mul-result-3 t c =
     omega (
       arith,
       around_small (get_or c.args.sizes.now c.args.k 0) (drop (c.args.k + 1) c.args.sizes.now) c.at-axis.result (drop (c.args.k + 1) c.args.axes.now)
-          c.in_ok-inner.inner (2 ^ 40) here c.in_ok-inner.ensures (cc) (rw now at c.requires.small),
+          c.in_ok-inner.inner most_cells here c.in_ok-inner.ensures (cc) (rw now at c.requires.small),
     )
 
 pub returns : goal.returns

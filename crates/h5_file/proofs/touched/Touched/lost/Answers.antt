@@ -1,7 +1,8 @@
-use Rattle.std.proofs.Common.{◌≡◌, ◌≤◌, ◌^◌, ℕ, List, Some, None, true, false, sym, ap, ◌∙◌, subst}
+use Rattle.std.proofs.Common.{◌≡◌, ◌≤◌, ℕ, List, Some, None, true, false, sym, ap, ◌∙◌, subst}
 use Rattle.std.specs.Option.{is_some}
 use Rattle.std.specs.Result.{result_ok}
 use Rattle.h5_model.specs.Edits.Refusal.{first_holding}
+use Rattle.h5_model.specs.Format.Limits.{most_cells}
 use Rattle.h5_model.specs.Scripts.Reading.{dataset_rules}
 use Rattle.h5_model.specs.Tree.Paths.{dataset_at}
 use Rattle.h5_model.specs.Tree.Places.{cells}
@@ -40,5 +41,5 @@ returns c =
     let there = found (goal.at.returns c).In_ok-_number in
     let kept : c.in_ok-kept.kept ≡ c.args.dims.now = c.in_ok-kept.ensures.numbers in
     let before : c.in_ok-before.before ≡ d.sizes = c.in_ok-before.ensures.numbers ∙ c.sizes.ensures.numbers ∙ c.dims.ensures in
-    let few : cells c.in_ok-before.before ≤ 2 ^ 40 = subst (λ (ds : List ℕ). cells ds ≤ 2 ^ 40) (sym before) (sound_at f c.image-image.ensures.low c.image-image.ensures.sound c.args.path.now d there).few in
+    let few : cells c.in_ok-before.before ≤ most_cells = subst (λ (ds : List ℕ). cells ds ≤ most_cells) (sym before) (sound_at f c.image-image.ensures.low c.image-image.ensures.sound c.args.path.now d there).few in
     (kept, few, d, there, before)

@@ -1,7 +1,8 @@
-use Rattle.std.proofs.Common.{◌≡◌, ℕ, ◌+◌, ◌≤◌, ◌^◌, ◌∙◌, List, Option, Some, length, sym, ap, subst, arith}
+use Rattle.std.proofs.Common.{◌≡◌, ℕ, ◌+◌, ◌≤◌, ◌∙◌, List, Option, Some, length, sym, ap, subst, arith}
 use Rattle.std.specs.Prelude.{slice_get}
 use Rattle.std.proofs.lemmas.Option.{same_Some, slice_get_within}
 use Rattle.std.proofs.lemmas.Result.{err_from_is_err_and}
+use Rattle.h5_model.specs.Format.Limits.{most_bytes}
 use Rattle.h5_model.specs.declared.link.LinkTo.{LinkTo}
 use Rattle.h5_model.specs.declared.link.LinkTo.TheVariants as to
 use Rattle.h5_model.specs.declared.object_no.ObjectNo.{ObjectNo}
@@ -213,7 +214,7 @@ index_same c = elim c.match-link.branch [
   | in_default w ↦ ap (λ (i : Inside). i.index) w.self-inside-is
 ]
 
-fits : (c : After-write_end) → length c.self.inside.image.bytes + link_room c.self.inside.image.bytes c.group_table-table.result (texts_span (c.args.link.now.name.now, leads_of c.place_of-to.result)) ≤ 2 ^ 31
+fits : (c : After-write_end) → length c.self.inside.image.bytes + link_room c.self.inside.image.bytes c.group_table-table.result (texts_span (c.args.link.now.name.now, leads_of c.place_of-to.result)) ≤ most_bytes
 fits c = fits_by _ _ _ _ (no_fault _ _) (no_fault _ _) c.in_ok-put_link.ensures.deep c.in_ok-put_link.ensures.full
 
 opened_now : (c : After-write_end) → IsOpened c.write_end.new.image c.self.inside.index.objects.items c.self.inside.index.numbers

@@ -1,7 +1,8 @@
-use Rattle.std.proofs.Common.{◌≡◌, ℕ, ◌+◌, ◌≤◌, ◌^◌, ◌∙◌, List, Option, length, length-append, sym, ap, subst, arith}
+use Rattle.std.proofs.Common.{◌≡◌, ℕ, ◌+◌, ◌≤◌, ◌∙◌, List, Option, length, length-append, sym, ap, subst, arith}
 use Rattle.std.specs.BTreeMap.{BTreeMap}
 use Rattle.std.proofs.lemmas.Result.{err_from_is_err_and}
 use Rattle.h5_model.specs.Format.Addresses.{SymbolTable}
+use Rattle.h5_model.specs.Format.Limits.{most_bytes}
 use Rattle.h5_model.specs.Format.Sizes.{text_span}
 use Rattle.h5_space.specs.Space.{Space, next_place}
 use Rattle.h5_group.specs.Heap.Links.{Leads, object_leads}
@@ -35,11 +36,11 @@ roomy_place : (old new : Space) (len at : ℕ) → at ≡ next_place len old →
 roomy_place old new len at place bytes blocks is = place ∙ sym (ap (next_place len) is)
 
 roomy_short : (old new : Space) (t : SymbolTable) (name : List ℕ) (at : ℕ) (c : ContentBytes) (lead : Leads) → lead ≡ lead_at at c → (len bytes blocks : ℕ)
-    → new ≡ record old { room_bytes = bytes; room_blocks = blocks } → length old.bytes + (link_room old.bytes t (texts_span (name, lead)) + len) ≤ 2 ^ 31
-    → length new.bytes + (link_room new.bytes t (text_span name) + len) ≤ 2 ^ 31
+    → new ≡ record old { room_bytes = bytes; room_blocks = blocks } → length old.bytes + (link_room old.bytes t (texts_span (name, lead)) + len) ≤ most_bytes
+    → length new.bytes + (link_room new.bytes t (text_span name) + len) ≤ most_bytes
 roomy_short old new t name at c lead leads len bytes blocks is fits =
-    subst (λ (image : List ℕ). length image + (link_room image t (text_span name) + len) ≤ 2 ^ 31) (sym (ap (λ (s : Space). s.bytes) is))
-    (subst (λ (n : ℕ). length old.bytes + (link_room old.bytes t n + len) ≤ 2 ^ 31) (object_span at c lead leads name) fits)
+    subst (λ (image : List ℕ). length image + (link_room image t (text_span name) + len) ≤ most_bytes) (sym (ap (λ (s : Space). s.bytes) is))
+    (subst (λ (n : ℕ). length old.bytes + (link_room old.bytes t n + len) ≤ most_bytes) (object_span at c lead leads name) fits)
 
 -- how many bytes the object has
 size_is : (b : ObjectBytes) (behind : ℕ) → behind ≡ length (stored_content b.content) → length b.header.now + behind ≡ length (object_bytes b)

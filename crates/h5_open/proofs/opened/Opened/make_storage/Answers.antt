@@ -1,9 +1,10 @@
-use Rattle.std.proofs.Common.{◌≡◌, ℕ, Bor, get_or, ◌+◌, ◌≤◌, ◌^◌, ◌∙◌, length, List, Option, Some, sym, subst, arith}
+use Rattle.std.proofs.Common.{◌≡◌, ℕ, Bor, get_or, ◌+◌, ◌≤◌, ◌∙◌, length, List, Option, Some, sym, subst, arith}
 use Rattle.std.specs.Prelude.{slice_get}
 use Rattle.std.specs.BTreeMap.{BTreeMap}
 use Rattle.std.specs.Option.{option_copied}
 use Rattle.std.proofs.lemmas.Option.{slice_get_within}
 use Rattle.std.proofs.lemmas.Result.{err_from_is_err_and}
+use Rattle.h5_model.specs.Format.Limits.{most_bytes}
 use Rattle.h5_space.specs.Space.{Space}
 use Rattle.h5_layout.specs.declared.lacking.Missing.{Missing}
 use Rattle.h5_open.specs.declared.opened.object.OpenedObject.{OpenedObject}
@@ -111,7 +112,7 @@ at_end c = lent c.self.inside.image c.self.inside.index.objects.items c.self.ins
     c.index.result.now c.index.ensures c.as_ref.result c.as_ref.ensures.value c.unwrap-object.result c.unwrap-object.ensures
 
 fits : (c : After-write_end) → length c.self.inside.image.bytes
-    + storage_bytes c.self.inside.image.bytes (described_in c.self.inside.image.bytes c.unwrap-object.result.now.messages) c.args.missing.now ≤ 2 ^ 31
+    + storage_bytes c.self.inside.image.bytes (described_in c.self.inside.image.bytes c.unwrap-object.result.now.messages) c.args.missing.now ≤ most_bytes
 fits c =
     let e = c.in_ok-at.ensures in
     fits_by _ _ _ _ (λ deep. no_fault _ _ (e.deep_first deep)) (no_fault _ _) ((λ deep. deep), (λ deep. deep)) e.full

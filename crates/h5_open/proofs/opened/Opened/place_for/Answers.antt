@@ -1,4 +1,5 @@
-use Rattle.std.proofs.Common.{◌≡◌, ◌+◌, ◌<◌, ◌≤◌, ◌^◌, length, ap, ◌∙◌, subst, arith}
+use Rattle.std.proofs.Common.{◌≡◌, ◌+◌, ◌<◌, ◌≤◌, length, ap, ◌∙◌, subst, arith}
+use Rattle.h5_model.specs.Format.Limits.{most_bytes}
 use Rattle.h5_open.specs.ObjectAdded.{place_in}
 use Rattle.h5_open.specs.Opened.Sound.{IsSound}
 use Rattle.h5_open.specs.Opened.State.{FileState}
@@ -7,7 +8,7 @@ use Rattle.h5_open.proofs.OpenedLaws.Sounds.{sound}
 use Rattle.h5_open.proofs.opened.Opened.place_for.Goals as goal
 use Rattle.h5_open.proofs.opened.Opened.place_for.Goals.{Joined-then-at-gt-MAXIMUM_IMAGE, then-at-gt-MAXIMUM_IMAGE-via-then-at-gt-MAXIMUM_IMAGE, then-at-gt-MAXIMUM_IMAGE-via-else-at-gt-MAXIMUM_IMAGE+then-len-at}
 
-past : (c : Joined-then-at-gt-MAXIMUM_IMAGE) → 2 ^ 31 < c.place_for-at.result + c.args.len
+past : (c : Joined-then-at-gt-MAXIMUM_IMAGE) → most_bytes < c.place_for-at.result + c.args.len
 past c = elim c.then-at-gt-MAXIMUM_IMAGE.branch [
   | then-at-gt-MAXIMUM_IMAGE-via-then-at-gt-MAXIMUM_IMAGE w ↦ omega (arith, w.if-at-gt-MAXIMUM_IMAGE.true)
   | then-at-gt-MAXIMUM_IMAGE-via-else-at-gt-MAXIMUM_IMAGE+then-len-at w ↦ omega (arith, w.if-at-gt-MAXIMUM_IMAGE.false, w.if-len-at.true)
@@ -19,8 +20,8 @@ returns-then-at-gt-MAXIMUM_IMAGE-clause-place c =
     let opened = c.self.invariant in
     let low = past c in
     let long : length image.bytes ≡ length c.args.self.now.image = ap (λ (f : FileState). length f.image) c.self.view_is in
-    let small : length image.bytes ≤ 2 ^ 31 = omega (arith, opened.reads.1.holds.whole, opened.reads.1.holds.superblock.small) in
-    let end = past_end image c.args.len c.requires.some (λ p. omega (arith, opened.apart p)) (2 ^ 31) small (omega (arith, low, c.place_for-at.ensures)) in
+    let small : length image.bytes ≤ most_bytes = omega (arith, opened.reads.1.holds.whole, opened.reads.1.holds.superblock.small) in
+    let end = past_end image c.args.len c.requires.some (λ p. omega (arith, opened.apart p)) most_bytes small (omega (arith, low, c.place_for-at.ensures)) in
     omega (arith, end, long)
 
 pub returns-then-at-gt-MAXIMUM_IMAGE-clause-sound : goal.returns-then-at-gt-MAXIMUM_IMAGE-clause-sound

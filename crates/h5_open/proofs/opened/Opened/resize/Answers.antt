@@ -1,9 +1,10 @@
-use Rattle.std.proofs.Common.{◌≡◌, ◌↔◌, ℕ, MutBor, get_or, ◌+◌, ◌<◌, ◌≤◌, ◌^◌, ◌∙◌, Bool, true, false, length, List, Option, Some, Ok, Err, refl, arith}
+use Rattle.std.proofs.Common.{◌≡◌, ◌↔◌, ℕ, MutBor, get_or, ◌+◌, ◌<◌, ◌≤◌, ◌∙◌, Bool, true, false, length, List, Option, Some, Ok, Err, refl, arith}
 use Rattle.std.specs.Prelude.{slice_get, slice_set}
 use Rattle.std.specs.BTreeMap.{BTreeMap}
 use Rattle.std.specs.Option.{option_copied_mut}
 use Rattle.std.proofs.lemmas.Option.{slice_get_within}
 use Rattle.std.proofs.lemmas.Result.{err_from_is_err_and}
+use Rattle.h5_model.specs.Format.Limits.{most_bytes}
 use Rattle.h5_space.specs.Space.{Space}
 use Rattle.h5_header.specs.Listed.{messages_in}
 use Rattle.h5_header.specs.declared.add.AddFault.{AddFault}
@@ -31,9 +32,9 @@ lent image slots numbers opened f view number sizes asked =
 no_fault : (e : AddFault) → Ok (tt {0}) ≡ Err e → ⊥
 no_fault e is = absurd (cc)
 
-fits_by : (P Q : Type 0) (b : Bool) (k : ℕ) → (P → ⊥) → (Q → ⊥) → P ↔ (b ≡ true) → Q ↔ ((b ≡ false) × (2 ^ 31 < k)) → k ≤ 2 ^ 31
+fits_by : (P Q : Type 0) (b : Bool) (k : ℕ) → (P → ⊥) → (Q → ⊥) → P ↔ (b ≡ true) → Q ↔ ((b ≡ false) × (most_bytes < k)) → k ≤ most_bytes
 fits_by P Q true k place short header image = absurd (place (header.1 refl))
-fits_by P Q false k place short header image = let fits : 2 ^ 31 < k → ⊥ = λ high. short (image.1 (refl, high)) in omega (arith, fits)
+fits_by P Q false k place short header image = let fits : most_bytes < k → ⊥ = λ high. short (image.1 (refl, high)) in omega (arith, fits)
 
 pub index_mut-requires : goal.index_mut-requires
 index_mut-requires c =
@@ -119,12 +120,12 @@ at_end c = lent c.self.inside.image c.self.inside.index.objects.items c.self.ins
     c.index_mut.result.now c.index_mut.ensures.value c.as_mut.result c.as_mut.ensures.value c.unwrap-object.result c.unwrap-object.ensures
 
 fits : (c : After-write_end)
-    → length c.self.inside.image.bytes + extent_room (messages_in c.self.inside.image.bytes c.unwrap-object.result.now.messages.list) c.args.sizes.now ≤ 2 ^ 31
+    → length c.self.inside.image.bytes + extent_room (messages_in c.self.inside.image.bytes c.unwrap-object.result.now.messages.list) c.args.sizes.now ≤ most_bytes
 fits c =
     let e = c.in_ok-resize_object.ensures in
     fits_by _ _ _ _ (no_fault fault.HeaderFull) (no_fault fault.ImageFull) e.header_full e.image_full
 
-small : (c : After-write_end) → length c.resize_object.new.image.bytes ≤ 2 ^ 31
+small : (c : After-write_end) → length c.resize_object.new.image.bytes ≤ most_bytes
 small c = omega (arith, fits c, c.in_ok-resize_object.ensures.spends)
 
 opened_now : (c : After-write_end)

@@ -1,4 +1,4 @@
-use Rattle.std.proofs.Common.{◌≡◌, ◌↔◌, ◌∷◌, [], ℕ, MutBor, get_or, IsSome, ◌+◌, ◌<◌, ◌≤◌, ◌^◌, ◌∙◌, Bool, true, false, nat_lt, length, List, Option, Some, None, Ok, Err, refl, sym, ap, subst, arith}
+use Rattle.std.proofs.Common.{◌≡◌, ◌↔◌, ◌∷◌, [], ℕ, MutBor, get_or, IsSome, ◌+◌, ◌<◌, ◌≤◌, ◌∙◌, Bool, true, false, nat_lt, length, List, Option, Some, None, Ok, Err, refl, sym, ap, subst, arith}
 use Rattle.std.specs.Prelude.{slice_get}
 use Rattle.std.specs.BTreeMap.{BTreeMap}
 use Rattle.std.specs.FinMap.{get, insert}
@@ -8,6 +8,7 @@ use Rattle.std.proofs.lemmas.Option.{same_Some, slice_get_within}
 use Rattle.std.proofs.lemmas.Result.{err_from_is_err_and}
 use Rattle.h5_model.specs.Edits.Applied.{with_attributes}
 use Rattle.h5_model.specs.Format.AttributeBody.{attribute_of}
+use Rattle.h5_model.specs.Format.Limits.{most_bytes, most_cells}
 use Rattle.h5_model.specs.Format.Messages.{prefix_at, reference_count}
 use Rattle.h5_model.specs.Format.Reads.{HasAttributes}
 use Rattle.h5_model.specs.Format.Superblock.{end_of_file, end_field}
@@ -51,11 +52,11 @@ image_by P Q full n is told = (
 no_fault : (e : AddFault) → Ok (tt {0}) ≡ Err e → ⊥
 no_fault e is = absurd (cc)
 
-room_by : (P Q : Type 0) (n k : ℕ) → (P → ⊥) → (Q → ⊥) → P ↔ (65535 < n + 2) → Q ↔ ((n + 2 ≤ 65535) × (2 ^ 31 < k)) → k ≤ 2 ^ 31
+room_by : (P Q : Type 0) (n k : ℕ) → (P → ⊥) → (Q → ⊥) → P ↔ (65535 < n + 2) → Q ↔ ((n + 2 ≤ 65535) × (most_bytes < k)) → k ≤ most_bytes
 room_by P Q n k small short header image =
     let none : 65535 < n + 2 → ⊥ = λ high. small (header.1 high) in
     let low : n + 2 ≤ 65535 = omega (arith, none) in
-    let fits : 2 ^ 31 < k → ⊥ = λ high. short (image.1 (low, high)) in
+    let fits : most_bytes < k → ⊥ = λ high. short (image.1 (low, high)) in
     omega (arith, fits)
 
 with_made : (image r : Space) (a b : ℕ) → r ≡ record image { room_bytes = a; room_blocks = b } → r ≡ record image { room_bytes = r.room_bytes; room_blocks = r.room_blocks }
@@ -77,9 +78,9 @@ module _ (image : Space) (slots : List (Option OpenedObject)) (numbers : BTreeMa
     full : has_full_header f number ≡ nat_lt 65535 (length p.messages.list + 2)
     full = ap (λ (g : FileState). has_full_header g number) (sym view) ∙ header_full image slots numbers opened number p at
 
-    image_of : (P : Type 0) (size : ℕ) → P ↔ ((length p.messages.list + 2 ≤ 65535) × (2 ^ 31 < length image.bytes + (32 + size)))
-        → P ↔ ((length p.messages.list + 2 ≤ 65535) × (2 ^ 31 < length f.image + (32 + size)))
-    image_of P size = subst (λ (g : FileState). P ↔ ((length p.messages.list + 2 ≤ 65535) × (2 ^ 31 < length g.image + (32 + size)))) view
+    image_of : (P : Type 0) (size : ℕ) → P ↔ ((length p.messages.list + 2 ≤ 65535) × (most_bytes < length image.bytes + (32 + size)))
+        → P ↔ ((length p.messages.list + 2 ≤ 65535) × (most_bytes < length f.image + (32 + size)))
+    image_of P size = subst (λ (g : FileState). P ↔ ((length p.messages.list + 2 ≤ 65535) × (most_bytes < length g.image + (32 + size)))) view
 
     module _ (r : Space) (was : r ≡ record image { room_bytes = r.room_bytes; room_blocks = r.room_blocks }) where
       roomy_opened : IsOpened r slots numbers
@@ -95,10 +96,10 @@ module _ (image : Space) (slots : List (Option OpenedObject)) (numbers : BTreeMa
       -- ---- set
 
       module _ (room : ℕ) (roomy : Listed) (is : roomy ≡ record p.messages { room = room }) (mid new : Space) (m : Listed) (body : List ℕ)
-          (attribute : (name : List ℕ) × (a : Attribute) × (attribute_of body ≡ Some (name, a)) × (extent_cells a.sizes ≤ 2 ^ 40))
-          (room_left : length image.bytes + (32 + length body) ≤ 2 ^ 31)
+          (attribute : (name : List ℕ) × (a : Attribute) × (attribute_of body ≡ Some (name, a)) × (extent_cells a.sizes ≤ most_cells))
+          (room_left : length image.bytes + (32 + length body) ≤ most_bytes)
           (standing : IsStanding mid.bytes m) (header : m.header ≡ roomy.header) (still : IsSaidStill (messages_in r.bytes roomy.list) (messages_in mid.bytes m.list))
-          (set : (name : List ℕ) → (a : Attribute) → attribute_of body ≡ Some (name, a) → extent_cells a.sizes ≤ 2 ^ 40 → (before : Attributes)
+          (set : (name : List ℕ) → (a : Attribute) → attribute_of body ≡ Some (name, a) → extent_cells a.sizes ≤ most_cells → (before : Attributes)
           → HasAttributes (messages_in r.bytes roomy.list) before → HasAttributes (messages_in mid.bytes m.list) (insert before name a))
           (counted : reference_count (prefix_at mid.bytes m.header) ≡ reference_count (prefix_at r.bytes roomy.header))
           (moves : Moves r mid roomy.blocks m.blocks) (spends : Spends r mid (32 + length body) 1) (ended : Moves mid new (end_field mid.bytes ∷ []) (end_field new.bytes ∷ []))
@@ -109,10 +110,10 @@ module _ (image : Space) (slots : List (Option OpenedObject)) (numbers : BTreeMa
         same_long : length r.bytes ≡ length image.bytes
         same_long = ap (λ (s : Space). length s.bytes) was
 
-        few : (name : List ℕ) (a : Attribute) → attribute_of body ≡ Some (name, a) → extent_cells a.sizes ≤ 2 ^ 40
+        few : (name : List ℕ) (a : Attribute) → attribute_of body ≡ Some (name, a) → extent_cells a.sizes ≤ most_cells
         few name a says =
             let same = same_Some (attribute.0, attribute.1) (name, a) (sym attribute.2 ∙ says) in
-            subst (λ (x : List ℕ × Attribute). extent_cells (x.1).sizes ≤ 2 ^ 40) same attribute.3
+            subst (λ (x : List ℕ × Attribute). extent_cells (x.1).sizes ≤ most_cells) same attribute.3
 
         edited : (name : List ℕ) (a : Attribute) → attribute_of body ≡ Some (name, a)
             → IsHeaderEdited r mid new slots slots' number p (with_messages r slots numbers roomy_opened number p at m) (λ before. insert before name a)
@@ -231,7 +232,7 @@ at_set c = lent c.self.inside.image c.self.inside.index.objects.items c.self.ins
 was_set : (c : After-write_end) → c.make_room.new.image ≡ record c.self.inside.image { room_bytes = c.make_room.new.image.room_bytes; room_blocks = c.make_room.new.image.room_blocks }
 was_set c = with_made c.self.inside.image c.make_room.new.image _ _ c.in_ok-make_room.ensures.made
 
-left_set : (c : After-write_end) → length c.self.inside.image.bytes + (32 + length c.args.body.now) ≤ 2 ^ 31
+left_set : (c : After-write_end) → length c.self.inside.image.bytes + (32 + length c.args.body.now) ≤ most_bytes
 left_set c = room_by _ _ (length c.unwrap-object.result.now.messages.list) _ (no_fault fault.HeaderFull) (no_fault fault.ImageFull)
     c.in_ok-make_room.ensures.header_full c.in_ok-make_room.ensures.image_full
 

@@ -1,4 +1,5 @@
-use Rattle.std.proofs.Common.{◌≡◌, ◌+◌, ◌*◌, ◌≤◌, ◌^◌, ℕ, sym, subst, arith, length}
+use Rattle.std.proofs.Common.{◌≡◌, ◌+◌, ◌*◌, ◌≤◌, ℕ, sym, subst, arith, length}
+use Rattle.h5_model.specs.Format.Limits.{most_bytes}
 use Rattle.h5_repack.specs.Blocks.ArrayHeader.{IsLength}
 use Rattle.h5_repack.specs.Blocks.StoredChunks.{chunks_written}
 use Rattle.h5_repack.proofs.BlockLaws.StoredChunks.{chunks_low, chunks_long, chunks_many}
@@ -14,7 +15,7 @@ returns-then-count-gt-MAXIMUM_IMAGE c place =
 pub overflow_add-nodes_length : goal.overflow_add-nodes_length
 overflow_add-nodes_length c =
     let count : ℕ = c.len-count.result in
-    let few : count ≤ 2 ^ 31 = c.if-count-gt-MAXIMUM_IMAGE.false in
+    let few : count ≤ most_bytes = c.if-count-gt-MAXIMUM_IMAGE.false in
     let low = chunks_low count c.chunk_length-size.result (omega (arith, few)) c.chunk_length-size.ensures.few in
     omega (arith, low, c.nodes_length.ensures.few)
 

@@ -1,5 +1,6 @@
 use Rattle.std.proofs.Common.{◌≡◌, ◌+◌, ◌*◌, ◌≤◌, ◌++◌, ◌∙◌, ◌||◌, not, sym, ap, arith, length, true, false}
 use Rattle.std.specs.Prelude.{if◌then◌else◌}
+use Rattle.h5_model.specs.Format.Limits.{most_dimensions}
 use Rattle.h5_model.specs.Format.MessageTypes.{dataspace_kind}
 use Rattle.h5_model.specs.Format.Bodies.{padded_body, dataspace_bytes, bounded_bytes}
 use Rattle.h5_model.specs.Format.Plain.{message_bytes}
@@ -19,7 +20,7 @@ pub returns-then-has_maxima : goal.returns-then-has_maxima
 returns-then-has_maxima c =
     let a = c.args.array.now in
     let sizes : c.sizes-sizes.result.now ≡ a.sizes = c.sizes-sizes.ensures.numbers ∙ c.dims.ensures.sizes in
-    let rank : length a.sizes ≤ 32 = omega (arith, c.sizes-sizes.ensures.rank, ap length c.dims.ensures.sizes) in
+    let rank : length a.sizes ≤ most_dimensions = omega (arith, c.sizes-sizes.ensures.rank, ap length c.dims.ensures.sizes) in
     let same : length a.maxima ≡ length a.sizes = length-are_maxima a.sizes a.maxima c.requires in
     let long : length c.read_maxima.new.maxima ≡ length c.sizes-sizes.result.now = ap length c.read_maxima.ensures ∙ same ∙ ap length (sym sizes) in
     let written : (in_chunks a.layout || not (are_sizes a.sizes a.maxima)) ≡ true
@@ -38,7 +39,7 @@ pub returns-else-has_maxima : goal.returns-else-has_maxima
 returns-else-has_maxima c =
     let a = c.args.array.now in
     let sizes : c.sizes-sizes.result.now ≡ a.sizes = c.sizes-sizes.ensures.numbers ∙ c.dims.ensures.sizes in
-    let rank : length a.sizes ≤ 32 = omega (arith, c.sizes-sizes.ensures.rank, ap length c.dims.ensures.sizes) in
+    let rank : length a.sizes ≤ most_dimensions = omega (arith, c.sizes-sizes.ensures.rank, ap length c.dims.ensures.sizes) in
     let same : length a.maxima ≡ length a.sizes = length-are_maxima a.sizes a.maxima c.requires in
     let written : (in_chunks a.layout || not (are_sizes a.sizes a.maxima)) ≡ false
     = (λ i. in_chunks a.layout || not (are_sizes (sym sizes i) (sym c.read_maxima.ensures i))) ∙ sym c.writes_maxima-has_maxima.ensures ∙ c.if-has_maxima.false in
