@@ -1,9 +1,10 @@
 -- What the first fault of a header says of its attributes.
-use Rattle.std.proofs.Common.{◌≡◌, ℕ, ◌<◌, ◌≤◌, ◌^◌, inl, inr, List, [], ◌∷◌, Option, Some, None, suc, ◌⊎◌, eqb-true, true, false, cond, refl, sym, ◌∙◌, ap, subst, arith}
+use Rattle.std.proofs.Common.{◌≡◌, ℕ, ◌<◌, ◌≤◌, inl, inr, List, [], ◌∷◌, Option, Some, None, suc, ◌⊎◌, eqb-true, true, false, cond, refl, sym, ◌∙◌, ap, subst, arith}
 use Rattle.std.specs.Prelude.{if◌then◌else◌, nat_le}
 use Rattle.std.specs.Option.{option_or}
 use Rattle.std.specs.List.{AllByRecursion, AllZip, cons_option, filter, filter_map}
 use Rattle.std.proofs.lemmas.Bool.Decides.{nat_tests}
+use Rattle.h5_model.specs.Format.Limits.{most_cells}
 use Rattle.h5_model.specs.Format.MessageTypes.{attribute_kind}
 use Rattle.h5_model.specs.Format.Messages.{Message}
 use Rattle.h5_model.specs.Tree.Places.{extent_cells}
@@ -17,27 +18,27 @@ use Rattle.h5_attr.specs.Attributes.{attributes_in, attributes_of, HasNamesOnce,
 
 -- an attribute message that is read, and whose extent is small
 abbrev IsGood : Message → Type 0
-IsGood m = (a : List ℕ × Attribute) × (attribute_of m.body ≡ Some a) × (extent_cells (a.1).sizes ≤ 2 ^ 40)
+IsGood m = (a : List ℕ × Attribute) × (attribute_of m.body ≡ Some a) × (extent_cells (a.1).sizes ≤ most_cells)
 
 -- the body has another form, or its extent is large
 abbrev BodyBreach : Cause → List ℕ → Type 0
 BodyBreach AttributeForm body = attribute_of body ≡ None
-BodyBreach TooLarge body = (a : List ℕ × Attribute) × (attribute_of body ≡ Some a) × (2 ^ 40 < extent_cells (a.1).sizes)
+BodyBreach TooLarge body = (a : List ℕ × Attribute) × (attribute_of body ≡ Some a) × (most_cells < extent_cells (a.1).sizes)
 BodyBreach _ body = ⊥
 
-small_test : (n : ℕ) → nat_le n (2 ^ 40) ≡ true → n ≤ 2 ^ 40
+small_test : (n : ℕ) → nat_le n most_cells ≡ true → n ≤ most_cells
 small_test n h = grind (arith, nat_tests)
 
-large_test : (n : ℕ) → nat_le n (2 ^ 40) ≡ false → 2 ^ 40 < n
+large_test : (n : ℕ) → nat_le n most_cells ≡ false → most_cells < n
 large_test n h = grind (arith, nat_tests)
 
-small_passes : (n : ℕ) → n ≤ 2 ^ 40 → nat_le n (2 ^ 40) ≡ true
+small_passes : (n : ℕ) → n ≤ most_cells → nat_le n most_cells ≡ true
 small_passes n h = grind (arith, nat_tests)
 
 good_by : (m : Message) (o : Option (List ℕ × Attribute)) → attribute_of m.body ≡ o → fault_of o ≡ None → IsGood m
 good_by m None is none = cc
 good_by m (Some a) is none =
-    elim (nat_le (extent_cells (a.1).sizes) (2 ^ 40)) as (λ b. nat_le (extent_cells (a.1).sizes) (2 ^ 40) ≡ b → (if b then None else Some TooLarge) ≡ None → IsGood m) [
+    elim (nat_le (extent_cells (a.1).sizes) most_cells) as (λ b. nat_le (extent_cells (a.1).sizes) most_cells ≡ b → (if b then None else Some TooLarge) ≡ None → IsGood m) [
       | true ↦ λ small _. (a, is, small_test (extent_cells (a.1).sizes) small)
       | false ↦ λ large no. cc
     ] refl none
@@ -45,7 +46,7 @@ good_by m (Some a) is none =
 broken_by : (m : Message) (cause : Cause) (o : Option (List ℕ × Attribute)) → attribute_of m.body ≡ o → fault_of o ≡ Some cause → BodyBreach cause m.body
 broken_by m cause None is e = let form : AttributeForm ≡ cause = cc in subst (λ (x : Cause). BodyBreach x m.body) form is
 broken_by m cause (Some a) is e =
-    elim (nat_le (extent_cells (a.1).sizes) (2 ^ 40)) as (λ b. nat_le (extent_cells (a.1).sizes) (2 ^ 40) ≡ b → (if b then None else Some TooLarge) ≡ Some cause → BodyBreach cause m.body) [
+    elim (nat_le (extent_cells (a.1).sizes) most_cells) as (λ b. nat_le (extent_cells (a.1).sizes) most_cells ≡ b → (if b then None else Some TooLarge) ≡ Some cause → BodyBreach cause m.body) [
       | true ↦ λ small no. cc
       | false ↦ λ large so. let form : TooLarge ≡ cause = cc in subst (λ (x : Cause). BodyBreach x m.body) form (a, is, large_test (extent_cells (a.1).sizes) large)
     ] refl e
@@ -69,7 +70,7 @@ abbrev IsRead : Message → List ℕ × Attribute → Type 0
 IsRead m a = attribute_of m.body ≡ Some a
 
 abbrev IsSmall : List ℕ × Attribute → Type 0
-IsSmall a = extent_cells (a.1).sizes ≤ 2 ^ 40
+IsSmall a = extent_cells (a.1).sizes ≤ most_cells
 
 each_read : (ms : List Message) → AllByRecursion IsGood ms → AllZip IsRead ms (filter_map (λ (m : Message). attribute_of m.body) ms)
 each_read [] good = tt

@@ -1,5 +1,5 @@
 -- The attributes of a header without one of them.
-use Rattle.std.proofs.Common.{◌≡◌, ℕ, ◌^◌, ◌≤◌, ◌==◌, Bool, true, false, cond, if◌then◌else◌, List, [], ◌∷◌, ◌++◌, map, Option, Some, None, refl, sym, ap, ◌∙◌, subst, nat_eq}
+use Rattle.std.proofs.Common.{◌≡◌, ℕ, ◌≤◌, ◌==◌, Bool, true, false, cond, if◌then◌else◌, List, [], ◌∷◌, ◌++◌, map, Option, Some, None, refl, sym, ap, ◌∙◌, subst, nat_eq}
 use Rattle.std.specs.Ordering.{nat_cmp, eq_by_cmp}
 use Rattle.std.specs.Cmp.{eq_by_cmp_equiv}
 use Rattle.std.specs.Cmp.Lexicographic.{slice_cmp, nat_list_cmp_total, pointwise, same_text, texts_ties}
@@ -8,6 +8,7 @@ use Rattle.std.specs.List.{AllByRecursion, AllZip, filter, IsDistinct}
 use Rattle.std.specs.FinMap.{find as value_at, remove, from_entries, get-from_entries, get-remove, same_map, nat_cmp-IsAntisymmetric, slice_cmp-IsAntisymmetric}
 use Rattle.std.proofs.lemmas.List.Elements.{filter-append}
 use Rattle.h5_model.specs.Format.AttributeBody.{attribute_of}
+use Rattle.h5_model.specs.Format.Limits.{most_cells}
 use Rattle.h5_model.specs.Format.MessageTypes.{nil_kind, attribute_kind}
 use Rattle.h5_model.specs.Format.Messages.{Message}
 use Rattle.h5_model.specs.Format.Reads.{HasAttributes, is_attribute_message}
@@ -138,14 +139,14 @@ has_others front x y back name holds nil attributes has =
     = filter-append is_attribute_message front (y ∷ back) ∙ ap (λ (b : Bool). these front ++ (if b then y ∷ these back else these back)) out in
     let cut = told_cut (these front) x (these back) has.listed (subst (λ (ms : List Message). AllZip Says ms has.listed) before has.each) in
     let distinct : IsDistinct same (names (cut.before ++ cut.entry ∷ cut.behind)) = subst (λ (es : List Entry). IsDistinct same (names es)) cut.whole has.distinct in
-    let small = subst (AllByRecursion (λ (a : Entry). extent_cells (a.1).sizes ≤ 2 ^ 40)) cut.whole has.small in
+    let small = subst (AllByRecursion (λ (a : Entry). extent_cells (a.1).sizes ≤ most_cells)) cut.whole has.small in
     let one : Some cut.entry ≡ Some (name, is.1.0) = sym cut.here ∙ is.1.1 in
     let called : (cut.entry).0 ≡ name = ap (λ (o : Option Entry). option_map_or (λ (a : Entry). a.0) o []) one in
     record {
       listed = cut.before ++ cut.behind;
       each = subst (λ (ms : List Message). AllZip Says ms (cut.before ++ cut.behind)) (sym after) (told_join (these front) (these back) cut.before cut.behind cut.left cut.right);
       distinct = less_distinct cut.before cut.entry cut.behind distinct;
-      small = less_small (λ (a : Entry). extent_cells (a.1).sizes ≤ 2 ^ 40) cut.before cut.entry cut.behind small;
+      small = less_small (λ (a : Entry). extent_cells (a.1).sizes ≤ most_cells) cut.before cut.entry cut.behind small;
       all = ap (λ (n : List ℕ). remove attributes n) (sym called)
           ∙ ap (λ (m : Attributes). remove m (cut.entry).0) (has.all ∙ ap from_entries cut.whole)
           ∙ less_map cut.before cut.entry cut.behind distinct;

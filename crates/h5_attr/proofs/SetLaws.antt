@@ -1,5 +1,5 @@
 -- The attributes of a header with one more.
-use Rattle.std.proofs.Common.{◌≡◌, ℕ, ◌^◌, ◌≤◌, ◌==◌, Bool, true, false, cond, if◌then◌else◌, List, [], ◌∷◌, ◌++◌, Option, Some, None, position, refl, sym, ap, ◌∙◌, subst, nat_eq}
+use Rattle.std.proofs.Common.{◌≡◌, ℕ, ◌≤◌, ◌==◌, Bool, true, false, cond, if◌then◌else◌, List, [], ◌∷◌, ◌++◌, Option, Some, None, position, refl, sym, ap, ◌∙◌, subst, nat_eq}
 use Rattle.std.proofs.lemmas.Bool.{or_parts}
 use Rattle.std.specs.Ordering.{nat_cmp}
 use Rattle.std.specs.Cmp.{eq_by_cmp_equiv}
@@ -8,6 +8,7 @@ use Rattle.std.specs.Option.{option_map_or}
 use Rattle.std.specs.List.{AllByRecursion, AllZip, filter, IsDistinct, list_any}
 use Rattle.std.specs.FinMap.{get, find as value_at, insert, remove, from_entries, get-from_entries, get-insert, get-remove, same_map, nat_cmp-IsAntisymmetric, slice_cmp-IsAntisymmetric}
 use Rattle.h5_model.specs.Format.AttributeBody.{attribute_of}
+use Rattle.h5_model.specs.Format.Limits.{most_cells}
 use Rattle.h5_model.specs.Format.MessageTypes.{attribute_kind}
 use Rattle.h5_model.specs.Format.Messages.{Message}
 use Rattle.h5_model.specs.Format.Reads.{HasAttributes, is_attribute_message}
@@ -171,7 +172,7 @@ none_removed name ms none attributes has = subst (HasAttributes ms) (sym same_wi
 
 -- where no attribute has the name, it is among those of the header afterwards
 adds_attribute : (ms ms' : List Message) (body name : List ℕ) (a : Attribute) → AddsMessage ms ms' attribute_kind body → attribute_of body ≡ Some (name, a)
-    → extent_cells a.sizes ≤ 2 ^ 40 → (attributes : Attributes) → HasAttributes ms attributes → get attributes name ≡ None → HasAttributes ms' (insert attributes name a)
+    → extent_cells a.sizes ≤ most_cells → (attributes : Attributes) → HasAttributes ms attributes → get attributes name ≡ None → HasAttributes ms' (insert attributes name a)
 adds_attribute ms ms' body name a adds says few attributes has none =
     let among = adds_among (λ k. k == attribute_kind) ms ms' attribute_kind body refl refl refl refl adds in
     let put : Message = record { kind = attribute_kind; at = among.at; body = body } in
@@ -180,19 +181,19 @@ adds_attribute ms ms' body name a adds says few attributes has none =
     = sym (get-from_entries nat_list_cmp_total has.listed name) ∙ ap (λ (m : Attributes). get m name) (sym has.all) ∙ none in
     let other : Differs name (split.before ++ split.behind) = subst (Differs name) split.whole (finds_none name has.listed unnamed) in
     let distinct : IsDistinct same (names (split.before ++ split.behind)) = subst (λ (es : List Entry). IsDistinct same (names es)) split.whole has.distinct in
-    let small = subst (AllByRecursion (λ (e : Entry). extent_cells (e.1).sizes ≤ 2 ^ 40)) split.whole has.small in
+    let small = subst (AllByRecursion (λ (e : Entry). extent_cells (e.1).sizes ≤ most_cells)) split.whole has.small in
     record {
       listed = split.before ++ (name, a) ∷ split.behind;
       each = subst (λ (these : List Message). AllZip Says these (split.before ++ (name, a) ∷ split.behind)) (sym among.after)
           (told_more among.front among.back put split.before split.behind (name, a) split.left says split.right);
       distinct = more_distinct split.before (name, a) split.behind distinct other;
-      small = more_small (λ (e : Entry). extent_cells (e.1).sizes ≤ 2 ^ 40) split.before (name, a) split.behind small few;
+      small = more_small (λ (e : Entry). extent_cells (e.1).sizes ≤ most_cells) split.before (name, a) split.behind small few;
       all = ap (λ (m : Attributes). insert m name a) (has.all ∙ ap from_entries split.whole) ∙ more_map split.before (name, a) split.behind other;
     }
 
 -- so it is where the one that had it before is out
 pub set_attribute : (next ms' : List Message) (body name : List ℕ) (a : Attribute) → AddsMessage next ms' attribute_kind body → attribute_of body ≡ Some (name, a)
-    → extent_cells a.sizes ≤ 2 ^ 40 → (attributes : Attributes) → HasAttributes next (remove attributes name) → HasAttributes ms' (insert attributes name a)
+    → extent_cells a.sizes ≤ most_cells → (attributes : Attributes) → HasAttributes next (remove attributes name) → HasAttributes ms' (insert attributes name a)
 set_attribute next ms' body name a adds says few attributes has =
     subst (HasAttributes ms') (insert-remove attributes name a)
     (adds_attribute next ms' body name a adds says few (remove attributes name) has (removed_none attributes name))

@@ -7,6 +7,7 @@ ghost use Rattle.h5_model.specs.Edits.Applied.{attribute_from};
 ghost use Rattle.h5_model.specs.Edits.Refusal.{has_zero};
 ghost use Rattle.h5_model.specs.Format.AttributeBody.{attribute_of};
 ghost use Rattle.h5_model.specs.Format.Fixed.{IsFixed, fits};
+ghost use Rattle.h5_model.specs.Format.Limits.{most_dimensions};
 ghost use Rattle.h5_model.specs.Format.Sizes.{attribute_size};
 ghost use Rattle.h5_model.specs.Tree.Places.{cells};
 
@@ -26,7 +27,7 @@ pub fn new_body(alloc: Global, attr: &AttrSpec) -> Result<Vec<u8>, AllocError>
     requires named { 1 ≤ length attr.now.name }
     requires text { has_zero attr.now.name ≡ false }
     requires typed { IsFixed attr.now.fixed }
-    requires ranked { length attr.now.dims ≤ 32 }
+    requires ranked { length attr.now.dims ≤ most_dimensions }
     requires counted { length attr.now.values ≡ cells attr.now.dims }
     requires of_type { list_all (fits attr.now.fixed) attr.now.values ≡ true }
     requires room { attribute_size (length attr.now.name) attr.now.dims attr.now.fixed.size ≤ 65528 }

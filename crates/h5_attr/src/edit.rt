@@ -3,6 +3,7 @@
 ghost use Rattle.std.specs.Prelude.{◌≡◌, ◌<◌, ◌≤◌, ◌+◌, ◌%◌, ◌^◌, ℕ, List, true, Some, IsSome, length, position, slice_index_or};
 ghost use Rattle.std.specs.FinMap.{insert, remove as without};
 ghost use Rattle.h5_model.specs.Format.AttributeBody.{attribute_of};
+ghost use Rattle.h5_model.specs.Format.Limits.{most_cells};
 ghost use Rattle.h5_model.specs.Format.Messages.{prefix_at, reference_count};
 ghost use Rattle.h5_model.specs.Format.MessageTypes.{attribute_kind};
 ghost use Rattle.h5_model.specs.Format.Reads.{HasAttributes};
@@ -44,7 +45,7 @@ pub fn set(image: &mut Image, messages: &mut Messages, body: &[u8])
     ensures standing { IsStanding image.new.bytes messages.new }
     ensures set { (name : List ℕ) → (attribute : Attribute)
         → attribute_of body.now ≡ Some (name, attribute)
-        → extent_cells attribute.sizes ≤ 2 ^ 40
+        → extent_cells attribute.sizes ≤ most_cells
         → (attributes : Attributes)
         → HasAttributes (messages_in image.old.bytes messages.old.list) attributes
         → HasAttributes (messages_in image.new.bytes messages.new.list) (insert attributes name attribute) }

@@ -2,6 +2,7 @@
 
 ghost use Rattle.std.specs.Prelude.{◌≡◌, ◌≢◌, ◌↔◌, ℕ, ◌+◌, ◌*◌, ◌^◌, ◌<◌, ◌≤◌, List, [], ◌∷◌, Err, IsOk, OnErr, OnOk, length, if◌then◌else◌};
 ghost use Rattle.std.specs.List.{AllByRecursion, insert};
+ghost use Rattle.h5_model.specs.Format.Limits.{most_bytes};
 ghost use Rattle.h5_model.specs.Format.Nodes.{node_at, node_length};
 ghost use Rattle.h5_space.specs.Moves.{Spends};
 ghost use Rattle.h5_space.specs.Space.{Space};
@@ -92,12 +93,12 @@ pub fn insert_at(
     ensures deep { (result ≡ Err InsertFault.TreeTooDeep) ↔ IsTooDeep image.old.bytes kind way.now }
     ensures full { (result ≡ Err (InsertFault.Space SpaceFault.ImageFull))
         ↔ ((IsTooDeep image.old.bytes kind way.now → ⊥)
-        × (2 ^ 31 < length image.old.bytes + (length way.now + 1) * node_length kind)) }
+        × (most_bytes < length image.old.bytes + (length way.now + 1) * node_length kind)) }
     ensures err { OnErr result (image.new ≡ image.old) }
     ensures covered { (IsTooDeep image.old.bytes kind way.now → ⊥)
         → (length way.now + 1) * node_length kind ≤ image.old.room_bytes
         → length way.now + 1 ≤ image.old.room_blocks
-        → length image.old.bytes + (length way.now + 1) * node_length kind ≤ 2 ^ 31 → IsOk result }
+        → length image.old.bytes + (length way.now + 1) * node_length kind ≤ most_bytes → IsOk result }
 {
     let levels = way.steps().len();
     if levels == MOST_STEPS && is_full_way(image, kind, way) {

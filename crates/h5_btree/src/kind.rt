@@ -1,6 +1,7 @@
 //! Kinds of B-trees, by the keys of their nodes (File Format Specification 3.0, section III.A.1).
 
 ghost use Rattle.std.specs.Prelude.{◌≡◌, ◌*◌, ◌≤◌};
+ghost use Rattle.h5_model.specs.Format.Limits.{most_dimensions};
 ghost use Rattle.h5_model.specs.Format.Nodes.{chunk_kind, group_kind, node_length as length_of};
 
 use std::marker::Model;
@@ -44,7 +45,7 @@ impl NodeKind {
     /// element. That K is at most 32767, and that there are at most 32 dimensions, is the caller's condition.
     pub fn chunks(k: u16, rank: usize) -> Self
         requires k { k ≤ 32767 }
-        requires rank { rank ≤ 32 }
+        requires rank { rank ≤ most_dimensions }
         ensures { result ≡ chunk_kind k rank }
     {
         NodeKind {

@@ -1,7 +1,8 @@
 //! A child taken out of a tree, where the tree stands (File Format Specification 3.0, section III.A.1).
 
-ghost use Rattle.std.specs.Prelude.{◌≡◌, ◌↔◌, ℕ, ◌+◌, ◌-◌, ◌^◌, ◌<◌, ◌≤◌, List, ◌∷◌, Err, IsOk, OnErr, OnOk, length};
+ghost use Rattle.std.specs.Prelude.{◌≡◌, ◌↔◌, ℕ, ◌+◌, ◌-◌, ◌<◌, ◌≤◌, List, ◌∷◌, Err, IsOk, OnErr, OnOk, length};
 ghost use Rattle.std.specs.List.{remove};
+ghost use Rattle.h5_model.specs.Format.Limits.{most_bytes};
 ghost use Rattle.h5_model.specs.Format.Nodes.{IsNode, entries_in, node_at, node_bytes, node_length};
 ghost use Rattle.h5_space.specs.Moves.{Spends};
 ghost use Rattle.h5_space.specs.Space.{Space};
@@ -50,9 +51,9 @@ pub fn remove_at(image: &mut Image, kind: NodeKind, way: &Way) -> Result<(), Spa
         → EndsInTree image.old kind root level way.now owned list k
         → IsTakenAlong image.old image.new kind root way.now (remove list k) owned) }
     ensures long { OnOk result (length image.new.bytes ≡ length image.old.bytes) }
-    ensures full { (result ≡ Err SpaceFault.ImageFull) ↔ (2 ^ 31 < length image.old.bytes) }
+    ensures full { (result ≡ Err SpaceFault.ImageFull) ↔ (most_bytes < length image.old.bytes) }
     ensures err { OnErr result (image.new ≡ image.old) }
-    ensures covered { length way.now ≤ image.old.room_blocks + 1 → length image.old.bytes ≤ 2 ^ 31
+    ensures covered { length way.now ≤ image.old.room_blocks + 1 → length image.old.bytes ≤ most_bytes
         → IsOk result }
 {
     image.reserve(0, way.steps().len() as u64 - 1)?;

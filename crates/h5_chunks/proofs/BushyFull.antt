@@ -9,6 +9,7 @@ use Rattle.std.specs.List.{AllByRecursion}
 use Rattle.h5_bytes.specs.Blocks.{Inside, block, cover, holds}
 use Rattle.h5_bytes.specs.declared.Block.{Block}
 use Rattle.h5_bytes.proofs.BlockLaws.{all_right, cover-append, holds-le, holds_in}
+use Rattle.h5_model.specs.Format.Limits.{most_bytes}
 use Rattle.h5_model.specs.Format.Rows.{Reading, leaves}
 use Rattle.h5_model.specs.Format.Nodes.{node_at, tree_blocks}
 use Rattle.h5_model.specs.Format.Reached.{Shape, shape_kind}
@@ -127,7 +128,7 @@ module _ (s : Space) (shape : Shape) (root : ℕ) (chunks : AreChunksApart s sha
           absurd (omega (arith, power, one))
 
 -- A TREE WHOSE ROOT WAS LOW NEVER GETS TOO DEEP
-pub never_full : (s : Space) (shape : Shape) (root low : ℕ) (offsets : List ℕ) → AreChunksApart s shape root → CanBeStored shape → length s.bytes ≤ 2 ^ 31
+pub never_full : (s : Space) (shape : Shape) (root low : ℕ) (offsets : List ℕ) → AreChunksApart s shape root → CanBeStored shape → length s.bytes ≤ most_bytes
     → is_low_level (chunk_k s.bytes) low ≡ true → IsBushy s.bytes shape root low → IsFullAt s.bytes shape root offsets → ⊥
 never_full s shape root low offsets chunks storable short is_low bushy full =
     let some = storable.some in

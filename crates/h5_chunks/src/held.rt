@@ -4,6 +4,7 @@ ghost use Rattle.std.specs.Prelude.{◌≡◌, ◌+◌, ◌*◌, ◌≤◌, ◌+
 ghost use Rattle.std.specs.FinMap.{entries, retain_keys};
 ghost use Rattle.std.specs.List.{AllByRecursion, filter};
 ghost use Rattle.h5_model.specs.Format.Chunks.{offsets_in};
+ghost use Rattle.h5_model.specs.Format.Limits.{most_dimensions};
 ghost use Rattle.h5_model.specs.Format.Superblock.{chunk_k as k_of};
 ghost use Rattle.h5_model.specs.Tree.Places.{is_inside};
 ghost use Rattle.h5_btree.specs.Walk.Below.{reading_in};
@@ -97,7 +98,7 @@ fn push_place<'a>(
     sizes: &[u64],
 ) -> Result<(), AllocError>
     requires long { length place.key.now ≡ 8 + 8 * (length sizes.now + 1) }
-    requires few { length sizes.now ≤ 32 }
+    requires few { length sizes.now ≤ most_dimensions }
     ensures { OnOk result (places.new.items ≡ places.old.items
         ++ filter (λ p. is_inside sizes.now (offsets_in (length sizes.now) p.key.now)) (place.entry ∷ [])) }
 {
@@ -110,7 +111,7 @@ fn push_place<'a>(
 /// Whether the chunk with this key holds a cell of an extent of these sizes: its first one.
 pub(crate) fn is_held(key: &[u8], sizes: &[u64]) -> bool
     requires long { length key.now ≡ 8 + 8 * (length sizes.now + 1) }
-    requires few { length sizes.now ≤ 32 }
+    requires few { length sizes.now ≤ most_dimensions }
     ensures { result ≡ is_inside sizes.now (offsets_in (length sizes.now) key.now) }
 {
     for d in 0..sizes.len() {

@@ -3,6 +3,7 @@
 ghost use Rattle.std.specs.Prelude.{◌≡◌, ◌+◌, ◌*◌, ◌≤◌, ◌↔◌, IsTrue, length};
 ghost use Rattle.std.specs.List.{AllZip};
 ghost use Rattle.h5_model.specs.Format.Chunks.{IsChunkKey, IsOffset, offsets_in};
+ghost use Rattle.h5_model.specs.Format.Limits.{most_dimensions};
 ghost use Rattle.h5_chunks.specs.Lists.{key_length as length_of_key};
 ghost use Rattle.h5_chunks.specs.Shapes.{AreChunkSizes};
 
@@ -16,7 +17,7 @@ pub(crate) const LONGEST_KEY: usize = 272;
 
 /// How many bytes a key of so many dimensions has.
 pub fn key_length(rank: usize) -> usize
-    requires { rank ≤ 32 }
+    requires { rank ≤ most_dimensions }
     ensures { result ≡ length_of_key rank }
 {
     OFFSETS + 8 * (rank + 1)

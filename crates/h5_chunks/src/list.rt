@@ -2,6 +2,7 @@
 
 ghost use Rattle.std.specs.Prelude.{◌≡◌, ◌==◌, ◌^◌, ◌<◌, ◌≤◌, ◌++◌, ◌∷◌, [], OnOk, length, slice_index_or};
 ghost use Rattle.h5_model.specs.Format.Chunks.{offsets_in};
+ghost use Rattle.h5_model.specs.Format.Limits.{most_dimensions};
 ghost use Rattle.h5_chunks.specs.Lists.{IsKeyOf, key_length as length_of_key};
 
 use crate::key::{LONGEST_KEY, OFFSETS, key_length};
@@ -115,7 +116,7 @@ impl ChunkList {
 
 /// Writes the key of a chunk of `bytes` bytes at these offsets.
 fn write_key(key: &mut [u8], bytes: u64, offsets: &[u64])
-    requires few { length offsets.now ≤ 32 }
+    requires few { length offsets.now ≤ most_dimensions }
     requires long { length key.old ≡ length_of_key (length offsets.now) }
     requires small { bytes < 2 ^ 32 }
     ensures key { IsKeyOf (length offsets.now) bytes key.new }

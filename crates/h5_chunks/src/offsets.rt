@@ -4,6 +4,7 @@ ghost use Rattle.std.specs.Prelude.{◌≡◌, ◌+◌, ◌*◌, ◌≤◌, ◌+
 ghost use Rattle.std.specs.Ordering.{nat_cmp, is_lt};
 ghost use Rattle.std.specs.Cmp.Lexicographic.{slice_cmp};
 ghost use Rattle.h5_model.specs.Format.Chunks.{all_offsets_in, offsets_in};
+ghost use Rattle.h5_model.specs.Format.Limits.{most_dimensions};
 
 use crate::key::OFFSETS;
 use h5_bytes::u64_at;
@@ -30,7 +31,7 @@ impl Model for Offsets {
 impl Offsets {
     /// The offsets of a key of a tree of chunks of so many dimensions.
     pub(crate) fn of_key(rank: usize, key: &[u8]) -> Offsets
-        requires few { rank ≤ 32 }
+        requires few { rank ≤ most_dimensions }
         requires long { length key.now ≡ 8 + 8 * (rank + 1) }
         ensures offsets { result ≡ offsets_in rank key.now }
         ensures rank { length result ≡ rank }
@@ -43,7 +44,7 @@ impl Offsets {
     /// The offsets, the one that runs slowest first.
     pub(crate) fn as_slice(&self) -> &[u64]
         ensures offsets { result.now ≡ self.now }
-        ensures few { length self.now ≤ 32 }
+        ensures few { length self.now ≤ most_dimensions }
     {
         &self.numbers[..self.rank]
     }
@@ -59,7 +60,7 @@ impl Offsets {
 /// Whether the chunk with one key is before the chunk with the other: their offsets in the first `rank` dimensions
 /// are compared one by one.
 pub fn is_key_before(rank: usize, key: &[u8], other: &[u8]) -> bool
-    requires few { rank ≤ 32 }
+    requires few { rank ≤ most_dimensions }
     requires long { length key.now ≡ 8 + 8 * (rank + 1) }
     requires other_long { length other.now ≡ 8 + 8 * (rank + 1) }
     ensures { result ≡ is_lt (slice_cmp nat_cmp (offsets_in rank key.now) (offsets_in rank other.now)) }
@@ -69,7 +70,7 @@ pub fn is_key_before(rank: usize, key: &[u8], other: &[u8]) -> bool
 
 /// Reads as many offsets of a key as there is room for.
 fn read_offsets(key: &[u8], offsets: &mut [u64])
-    requires few { length offsets.old ≤ 32 }
+    requires few { length offsets.old ≤ most_dimensions }
     requires long { length key.now ≡ 8 + 8 * (length offsets.old + 1) }
     ensures { offsets.new ≡ offsets_in (length offsets.old) key.now }
 {
@@ -81,7 +82,7 @@ fn read_offsets(key: &[u8], offsets: &mut [u64])
 /// The order of a key and the chunk at these offsets, whose offset for the element is 0, by all numbers from the first on.
 pub(crate) fn key_order(key: &[u8], offsets: &[u64]) -> Ordering
     requires long { length key.now ≡ 8 + 8 * (length offsets.now + 1) }
-    requires few { length offsets.now ≤ 32 }
+    requires few { length offsets.now ≤ most_dimensions }
     ensures { result ≡ slice_cmp nat_cmp
         (all_offsets_in (length offsets.now) key.now) (offsets.now ++ 0 ∷ []) }
 {

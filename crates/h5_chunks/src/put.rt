@@ -6,6 +6,7 @@ ghost use Rattle.std.specs.List.{AllByRecursion, AllZip};
 ghost use Rattle.h5_bytes.specs.Blocks.{Keeps, block};
 ghost use Rattle.h5_bytes.specs.Bytes.{part};
 ghost use Rattle.h5_model.specs.Format.Chunks.{IsChunkKey, IsOffset, offsets_in};
+ghost use Rattle.h5_model.specs.Format.Limits.{most_bytes};
 ghost use Rattle.h5_model.specs.Format.Nodes.{node_at, node_length as length_of_node};
 ghost use Rattle.h5_model.specs.Format.Reached.{shape_kind};
 ghost use Rattle.h5_model.specs.Format.Superblock.{chunk_k as k_of};
@@ -83,7 +84,7 @@ pub fn store(image: &mut Image, shape: &ChunkShape<'_>, root: u64, key: &[u8]) -
         (offsets_in (length shape.now.sizes) key.now) → ⊥ }
     requires bytes { room_of image.old.bytes shape.now ≤ image.old.room_bytes }
     requires calls { 18 ≤ image.old.room_blocks }
-    requires short { length image.old.bytes + room_of image.old.bytes shape.now ≤ 2 ^ 31 }
+    requires short { length image.old.bytes + room_of image.old.bytes shape.now ≤ most_bytes }
     ensures stored { HasChunksNow image.old image.new shape.now root
         (insert (chunks_told image.old.bytes shape.now root)
         (offsets_in (length shape.now.sizes) key.now) result) }
@@ -114,7 +115,7 @@ fn put_chunk(image: &mut Image, shape: &ChunkShape<'_>, root: u64, key: &[u8], c
         (offsets_in (length shape.now.sizes) key.now) → ⊥ }
     requires bytes { 17 * chunk_node_length image.old.bytes shape.now ≤ image.old.room_bytes }
     requires calls { 17 ≤ image.old.room_blocks }
-    requires short { length image.old.bytes + 17 * chunk_node_length image.old.bytes shape.now ≤ 2 ^ 31 }
+    requires short { length image.old.bytes + 17 * chunk_node_length image.old.bytes shape.now ≤ most_bytes }
     ensures put { HasChunkPut image.old image.new shape.now root
         (offsets_in (length shape.now.sizes) key.now) chunk }
     ensures bushy { (low : ℕ) → IsBushy image.old.bytes shape.now root low

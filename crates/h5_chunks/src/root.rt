@@ -1,8 +1,9 @@
 //! A tree of chunks without a chunk: a root alone (File Format Specification 3.0, section III.A.1).
 
-ghost use Rattle.std.specs.Prelude.{◌≡◌, ◌+◌, ◌^◌, ◌<◌, ◌≤◌, ◌∷◌, [], length};
+ghost use Rattle.std.specs.Prelude.{◌≡◌, ◌+◌, ◌<◌, ◌≤◌, ◌∷◌, [], length};
 ghost use Rattle.std.specs.FinMap.{empty};
 ghost use Rattle.h5_bytes.specs.Blocks.{block};
+ghost use Rattle.h5_model.specs.Format.Limits.{most_bytes};
 ghost use Rattle.h5_model.specs.Format.Superblock.{chunk_k as k_of, k_values, superblock_length};
 ghost use Rattle.h5_space.specs.Moves.{Moves, Spends};
 ghost use Rattle.h5_space.specs.Whole.{IsApart};
@@ -42,7 +43,7 @@ pub fn make_root(image: &mut Image, shape: &ChunkShape<'_>) -> u64
     requires k_few { k_of image.old.bytes ≤ 32767 }
     requires bytes { length_of_node image.old.bytes shape.now ≤ image.old.room_bytes }
     requires calls { 1 ≤ image.old.room_blocks }
-    requires short { length image.old.bytes + length_of_node image.old.bytes shape.now ≤ 2 ^ 31 }
+    requires short { length image.old.bytes + length_of_node image.old.bytes shape.now ≤ most_bytes }
     ensures stand { AreChunksApart image.new shape.now result }
     ensures none { chunks_told image.new.bytes shape.now result ≡ empty }
     ensures moves { Moves image.old image.new [] (chunk_blocks_told image.new.bytes shape.now result) }

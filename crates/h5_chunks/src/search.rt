@@ -3,6 +3,7 @@
 ghost use Rattle.std.specs.Prelude.{◌≡◌, ◌+◌, ◌*◌, ◌≤◌, ℕ, None, List, [], ◌∷◌, length, IfNone, IfSome};
 ghost use Rattle.std.specs.FinMap.{get};
 ghost use Rattle.std.specs.List.{AllByRecursion, Contains};
+ghost use Rattle.h5_model.specs.Format.Limits.{most_dimensions};
 ghost use Rattle.h5_model.specs.Format.Nodes.{chunk_kind, node_at};
 ghost use Rattle.h5_model.specs.Format.Superblock.{chunk_k as k_of};
 ghost use Rattle.h5_model.specs.Format.Reached.{level_at, shape_kind};
@@ -36,7 +37,7 @@ pub fn chunk_at(image: &Image, shape: &ChunkShape<'_>, root: u64, offsets: &[u64
 pub(crate) fn chunk_here(node: &Node<'_>, i: usize, offsets: &[u64]) -> Option<u64>
     requires keys { AllByRecursion (λ (key : List ℕ).
         length key ≡ 8 + 8 * (length offsets.now + 1)) node.now.keys }
-    requires few { length offsets.now ≤ 32 }
+    requires few { length offsets.now ≤ most_dimensions }
     ensures there { IfSome result (λ at. IsChunkThere offsets.now node.now i at) }
     ensures none { IfNone result ((at : ℕ) → IsChunkThere offsets.now node.now i at → ⊥) }
 {
@@ -58,7 +59,7 @@ pub(crate) fn end_of_way(
     ensures ends { IfSome result (λ s. EndsForChunk image.now.bytes shape.now root offsets.now
         (node_at image.now.bytes (shape_kind image.now.bytes shape.now) s.node) s.place) }
     ensures bottom { IsCursor image.now.bytes shape.now root result }
-    ensures few { length offsets.now ≤ 32 }
+    ensures few { length offsets.now ≤ most_dimensions }
     ensures none { IfNone result (get (chunks_told image.now.bytes shape.now root) offsets.now ≡ None) }
 {
     let sought = SoughtChunk::new(image, shape, offsets);
@@ -142,7 +143,7 @@ impl<'a> SoughtChunk<'a> {
         requires rank { length offsets.now ≡ length shape.now.sizes }
         ensures k { result.k ≡ k_of image.now.bytes }
         ensures offsets { result.offsets ≡ offsets.now }
-        ensures few { length offsets.now ≤ 32 }
+        ensures few { length offsets.now ≤ most_dimensions }
     {
         // A shape has at most 32 sizes.
         let _sizes = shape.sizes;

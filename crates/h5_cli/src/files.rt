@@ -1,8 +1,9 @@
 //! Files of the system: read whole and opened, and written whole.
 
-ghost use Rattle.std.specs.Prelude.{◌≡◌, ◌⊎◌, ◌↔◌, ◌≤◌, ◌^◌, IfOk, MatchResult, length};
+ghost use Rattle.std.specs.Prelude.{◌≡◌, ◌⊎◌, ◌↔◌, ◌≤◌, IfOk, MatchResult, length};
 ghost use Rattle.std.specs.IoError.{error_kind};
 ghost use Rattle.std.specs.declared.io.ErrorKind.TheVariants.{OutOfMemory};
+ghost use Rattle.h5_model.specs.Format.Limits.{most_bytes};
 ghost use Rattle.h5_script.specs.Opened.Sound.{IsSound};
 ghost use Rattle.h5_cli.specs.Ends.{IsUnopened};
 ghost use Rattle.h5_cli.specs.declared.status.Status.TheVariants.{StreamFailed};
@@ -50,7 +51,7 @@ impl From<AllocError> for ReadFault {
 
 /// The bytes of the file of this name.
 pub(crate) fn read_whole<R: Files>(rt: &R, alloc: Global, file: &str) -> Result<Vec<u8>, ReadFault>
-    ensures { IfOk result (λ bytes. length bytes.items ≤ 2 ^ 31) }
+    ensures { IfOk result (λ bytes. length bytes.items ≤ most_bytes) }
 {
     let opened = fs::open(rt, file)?;
     let length = opened.metadata()?.len();

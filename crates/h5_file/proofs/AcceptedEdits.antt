@@ -7,6 +7,7 @@ use Rattle.std.specs.Option.{option_and_then, option_map_or}
 use Rattle.std.specs.Result.{result_ok}
 use Rattle.std.proofs.lemmas.Bool.{not-false}
 use Rattle.h5_model.specs.Edits.Refusal.{first_holding, is_chunked, refusal_of, rules_of}
+use Rattle.h5_model.specs.Format.Limits.{most_dimensions}
 use Rattle.h5_model.specs.Scripts.Reading.{dataset_rules}
 use Rattle.h5_model.specs.Tree.Objects.{Tree, Dataset, dataset_of}
 use Rattle.h5_model.specs.Tree.Paths.{dataset_at, object_at}
@@ -53,7 +54,7 @@ module _ (tree : Tree) (next : ℕ) (path : List ℕ) (hyper : Hyper) (values : 
       }
 
   -- its lists are a selection
-  pub write_slab : IsWriteAllowed → ((d : Dataset) → dataset_at tree path ≡ Some d → length d.sizes ≤ 32) → slab_of hyper ≡ Ok (axes_of hyper)
+  pub write_slab : IsWriteAllowed → ((d : Dataset) → dataset_at tree path ≡ Some d → length d.sizes ≤ most_dimensions) → slab_of hyper ≡ Ok (axes_of hyper)
   write_slab is few =
       let low = few is.array is.found in
       let own : (length hyper.start ≡ length is.array.sizes) = let parts = is.rank in grind (arith, nat_tests, parts) in
@@ -99,7 +100,7 @@ module _ (f : FileState) (low : AreBytes f.image) (sound : IsSound f) where
       absurd (let never : None ≡ Some (axes_of hyper) = sym none ∙ ap result_ok whole in cc)
 
   -- an accepted resize has few sizes
-  pub few_dims : (path dims : List ℕ) (d : Dataset) → dataset_at f.tree path ≡ Some d → refusal_of f.tree f.next (Resize path dims) ≡ None → length dims ≤ 32
+  pub few_dims : (path dims : List ℕ) (d : Dataset) → dataset_at f.tree path ≡ Some d → refusal_of f.tree f.next (Resize path dims) ≡ None → length dims ≤ most_dimensions
   few_dims path dims d found allowed =
       let rank = resize_rank f.tree f.next path dims allowed d found in
       let few = (sound_at path d found).ranked in

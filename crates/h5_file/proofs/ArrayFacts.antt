@@ -3,7 +3,7 @@ use Rattle.std.proofs.Common.{◌≡◌, ℕ, ◌<◌, ◌≤◌, true, false, l
 use Rattle.std.specs.FinMap.{get}
 use Rattle.std.specs.Option.{option_and_then}
 use Rattle.h5_model.specs.Edits.Refusal.{is_chunked}
-use Rattle.h5_model.specs.Format.Limits.{most_cells}
+use Rattle.h5_model.specs.Format.Limits.{most_cells, most_dimensions}
 use Rattle.h5_model.specs.Tree.Objects.{Content, Group, Array, Dataset, Object, Storage, Compact, Contiguous, Chunked, dataset_in, dataset_of}
 use Rattle.h5_model.specs.Tree.Places.{cells}
 use Rattle.h5_model.specs.Tree.Sound.{IsDataset}
@@ -19,7 +19,7 @@ use Rattle.h5_edit.specs.PlainTrees.{IsPlain, IsPlainContent}
 use Rattle.h5_file.specs.Touched.{HasBoxes}
 
 pub record IsArraySound (d : Dataset) : Type 0 where
-  pub ranked : length d.sizes ≤ 32
+  pub ranked : length d.sizes ≤ most_dimensions
   pub few : cells d.sizes ≤ most_cells
   pub dataset : IsDataset d
   pub boxes : HasBoxes d

@@ -1,6 +1,7 @@
 //! Selected cells of an array as kept bytes.
 
 ghost use Rattle.std.specs.Prelude.{◌≡◌, ◌+◌, ◌*◌, ◌^◌, ◌<◌, ◌≤◌, IfOk, length};
+ghost use Rattle.h5_model.specs.Format.Limits.{most_dimensions};
 ghost use Rattle.h5_model.specs.Tree.Sound.{IsDataset};
 ghost use Rattle.h5_model.specs.Views.Selection.{selected_cells};
 ghost use Rattle.h5_model.specs.Views.Shown.{selected_values};
@@ -160,7 +161,7 @@ fn patch_box(
 )
     requires sound { IsDataset array.now }
     requires rank { length axes.now ≡ length array.now.sizes }
-    requires few { length axes.now ≤ 32 }
+    requires few { length axes.now ≤ most_dimensions }
     requires apart { AreApart axes.now }
     requires ranks { length corner.now ≡ length axes.now }
     requires corner { IsCorner sizes.now corner.now }

@@ -1,7 +1,8 @@
 //! The open views of a session.
 
-ghost use Rattle.std.specs.Prelude.{◌≡◌, ◌↔◌, ◌^◌, ◌<◌, ◌≤◌, ℕ, IsTrue, OnOk, OnErr, Some, ◌∷◌, ◌++◌, [], length, map};
+ghost use Rattle.std.specs.Prelude.{◌≡◌, ◌↔◌, ◌<◌, ◌≤◌, ℕ, IsTrue, OnOk, OnErr, Some, ◌∷◌, ◌++◌, [], length, map};
 ghost use Rattle.std.specs.List.{AllByRecursion, remove};
+ghost use Rattle.h5_model.specs.Format.Limits.{most_cells};
 ghost use Rattle.h5_model.specs.Tree.Objects.{Dataset, dataset_of};
 ghost use Rattle.h5_model.specs.Tree.Places.{cells};
 ghost use Rattle.h5_model.specs.Tree.Sound.{IsDataset};
@@ -98,7 +99,7 @@ impl OpenViews {
         requires few { length self.old ≤ 1024 }
         requires touch { (d : Dataset) → dataset_of file.now.tree number.0 ≡ Some d
             → IsTouchOf d touched.now
-            × (cells d.sizes ≤ 2 ^ 40 → cells (sizes_before d touched.now) ≤ 2 ^ 40) }
+            × (cells d.sizes ≤ most_cells → cells (sizes_before d touched.now) ≤ most_cells) }
         ensures followed { (d : Dataset) → dataset_of file.now.tree number.0 ≡ Some d
             → AreViewsFollowed number.0 d touched.now self.old result self.new }
         ensures sound { (d : Dataset) → dataset_of file.now.tree number.0 ≡ Some d

@@ -1,8 +1,9 @@
 //! The views that are open on a file, each with the bytes of its selected cells.
 
-ghost use Rattle.std.specs.Prelude.{◌≡◌, ◌^◌, ◌≤◌, ℕ, IfOk, IfErr, IfSome, MatchOption, MatchResult, Ok, Err, Some, false, length, map, slice_index_or};
+ghost use Rattle.std.specs.Prelude.{◌≡◌, ◌≤◌, ℕ, IfOk, IfErr, IfSome, MatchOption, MatchResult, Ok, Err, Some, false, length, map, slice_index_or};
 ghost use Rattle.std.specs.FinMap.{contains_key};
 ghost use Rattle.std.specs.List.{AllByRecursion, list_any};
+ghost use Rattle.h5_model.specs.Format.Limits.{most_cells};
 ghost use Rattle.h5_model.specs.Scripts.Answers.{view_is_lent};
 ghost use Rattle.h5_model.specs.Edits.Refusal.{is_chunked};
 ghost use Rattle.h5_model.specs.Tree.Objects.{Chunked, Dataset, dataset_of};
@@ -124,7 +125,7 @@ impl KeptView {
         requires room { HasKeptLength array.now self.old.slab self.old.kept }
         ensures same { numbered_view self.new ≡ numbered_view self.old }
         ensures kept { IsKeptAfter array.now touched.now self.old.slab self.old.kept result self.new.kept }
-        ensures few { result ≤ 2 ^ 40 }
+        ensures few { result ≤ most_cells }
     {
         let Some(kept) = &mut self.kept else {
             return 0;
@@ -182,7 +183,7 @@ fn patch_met(
     requires apart { selects_none slab.now ≡ false → AreApart slab.now }
     requires room { HasKeptLength array.now slab.now (Some kept.old) }
     ensures met { IsMetPatched array.now touched.now slab.now kept.old result kept.new }
-    ensures few { result ≤ 2 ^ 40 }
+    ensures few { result ≤ most_cells }
 {
     if touched.misses(grid, slab) {
         return 0;
@@ -206,7 +207,7 @@ fn patch_each(
     requires apart { AreApart slab.now }
     requires room { HasKeptLength array.now slab.now (Some kept.old) }
     ensures met { IsMetPatched array.now touched.now slab.now kept.old result kept.new }
-    ensures few { result ≤ 2 ^ 40 }
+    ensures few { result ≤ most_cells }
 {
     let Some(boxes) = touched.boxes(grid, slab) else {
         return 0;
@@ -250,7 +251,7 @@ pub(crate) fn follow_all(
     requires few { length views.old ≤ 1024 }
     requires touch { (d : Dataset) → dataset_of file.now.tree number.0 ≡ Some d
         → IsTouchOf d touched.now
-        × (cells_of d.sizes ≤ 2 ^ 40 → cells_of (sizes_before d touched.now) ≤ 2 ^ 40) }
+        × (cells_of d.sizes ≤ most_cells → cells_of (sizes_before d touched.now) ≤ most_cells) }
     ensures followed { (d : Dataset) → dataset_of file.now.tree number.0 ≡ Some d
         → AreViewsFollowed number.0 d touched.now views.old result views.new }
     ensures same { map numbered_view views.new ≡ map numbered_view views.old }
@@ -331,7 +332,7 @@ fn follow_one(
     requires fit { (at : ℕ) (d : KeptView) → IsViewAt views.old number at
         → IsViewReady array.now (slice_index_or views.old at d) }
     ensures followed { IsOneFollowed array.now touched.now views.old number result views.new }
-    ensures few { result ≤ 2 ^ 40 }
+    ensures few { result ≤ most_cells }
 {
     let at = place_near(views, place, number).unwrap();
     views[at].follow(array, grid, touched)

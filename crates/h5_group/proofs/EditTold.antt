@@ -1,8 +1,9 @@
 -- A group as the image tells it, before an edit in place and after it.
-use Rattle.std.proofs.Common.{◌≡◌, ℕ, ◌^◌, ◌≤◌, List, [], ◌∷◌, length, refl, sym, subst, arith}
+use Rattle.std.proofs.Common.{◌≡◌, ℕ, ◌≤◌, List, [], ◌∷◌, length, refl, sym, subst, arith}
 use Rattle.h5_bytes.specs.declared.Block.{Block}
 use Rattle.h5_laws.proofs.Lists.{In, all_in, contains_in}
 use Rattle.h5_model.specs.Format.Addresses.{SymbolTable}
+use Rattle.h5_model.specs.Format.Limits.{most_bytes}
 use Rattle.h5_model.specs.Format.Superblock.{k_values}
 use Rattle.h5_model.specs.Format.Symbols.{Target}
 use Rattle.h5_space.specs.Space.{Space}
@@ -25,7 +26,7 @@ pub record IsToldMoved (s t : Space) (table : SymbolTable) (links : List (List �
 
 -- ---- before the edit, in whatever room
 
-group_roomy : (s : Space) (bytes blocks : ℕ) (table : SymbolTable) → IsGroupApart s table → length s.bytes ≤ 2 ^ 31
+group_roomy : (s : Space) (bytes blocks : ℕ) (table : SymbolTable) → IsGroupApart s table → length s.bytes ≤ most_bytes
     → IsGroupIn (roomy s bytes blocks) table (links_told s.bytes table) [] (blocks_told s.bytes table)
 group_roomy s bytes blocks table group short = record {
   linked = group.read.linked;
@@ -40,11 +41,11 @@ group_roomy s bytes blocks table group short = record {
   short = omega (arith, short);
 }
 
-pub group_told : (s : Space) (table : SymbolTable) → IsGroupApart s table → length s.bytes ≤ 2 ^ 31
+pub group_told : (s : Space) (table : SymbolTable) → IsGroupApart s table → length s.bytes ≤ most_bytes
     → IsGroupIn s table (links_told s.bytes table) [] (blocks_told s.bytes table)
 group_told s table group short = group_roomy s s.room_bytes s.room_blocks table group short
 
-pub some_told : (s : Space) (table : SymbolTable) → IsGroupApart s table → length s.bytes ≤ 2 ^ 31 → IsSomeGroup s table []
+pub some_told : (s : Space) (table : SymbolTable) → IsGroupApart s table → length s.bytes ≤ most_bytes → IsSomeGroup s table []
 some_told s table group short = (links_told s.bytes table, blocks_told s.bytes table, group_told s table group short)
 
 pub told_new : (image : List ℕ) (table : SymbolTable) (name : List ℕ) → HasNone image table name → IsNewName name (links_told image table)
@@ -64,7 +65,7 @@ told_again s table links spare blocks g = record {
 
 -- in room that was reserved before
 module _ (s t u : Space) (bytes blocks : ℕ) (is : t ≡ roomy s bytes blocks) (table : SymbolTable) where
-  pub group_then : IsGroupApart s table → length s.bytes ≤ 2 ^ 31 → IsGroupIn t table (links_told s.bytes table) [] (blocks_told s.bytes table)
+  pub group_then : IsGroupApart s table → length s.bytes ≤ most_bytes → IsGroupIn t table (links_told s.bytes table) [] (blocks_told s.bytes table)
   group_then group short = subst (λ (x : Space). IsGroupIn x table (links_told s.bytes table) [] (blocks_told s.bytes table)) (sym is) (group_roomy s bytes blocks table group short)
 
   pub moved_told : (links : List (List ℕ × Target)) → HasGroupMoved t u table (blocks_told s.bytes table) links [] → IsToldMoved s u table links

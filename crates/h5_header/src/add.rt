@@ -1,6 +1,7 @@
 //! A message more in an object header, wherever there is room for it.
 
 ghost use Rattle.std.specs.Prelude.{◌≡◌, ◌≢◌, ◌↔◌, ℕ, ◌<◌, ◌≤◌, ◌+◌, ◌^◌, ◌%◌, ◌==◌, ◌&&◌, nat_le, length, max, position, Some, Err, OnOk, OnErr, IsOk};
+ghost use Rattle.h5_model.specs.Format.Limits.{most_bytes};
 ghost use Rattle.h5_model.specs.Format.MessageTypes.{nil_kind, continuation_kind};
 ghost use Rattle.h5_model.specs.Format.Messages.{prefix_at, reference_count};
 ghost use Rattle.h5_space.specs.Moves.{Moves, Spends};
@@ -93,7 +94,7 @@ impl Messages {
         ensures header_full { (result ≡ Err AddFault.HeaderFull) ↔ (65535 < length self.old.list + 2) }
         ensures image_full { (result ≡ Err AddFault.ImageFull)
             ↔ ((length self.old.list + 2 ≤ 65535)
-            × (2 ^ 31 < length image.old.bytes + (32 + size))) }
+            × (most_bytes < length image.old.bytes + (32 + size))) }
         ensures kept { OnOk result (self.new ≡ record self.old { room = max self.old.room 1 }) }
         ensures made { OnOk result (image.new ≡ record image.old {
           room_bytes = max image.old.room_bytes (32 + size);
@@ -105,7 +106,7 @@ impl Messages {
           room_blocks = image.new.room_blocks;
         }) }
         ensures covered { length self.old.list + 2 ≤ 65535
-            → length image.old.bytes + (32 + size) ≤ 2 ^ 31
+            → length image.old.bytes + (32 + size) ≤ most_bytes
             → 1 ≤ self.old.room
             → 32 + size ≤ image.old.room_bytes
             → 1 ≤ image.old.room_blocks
@@ -144,7 +145,7 @@ impl Messages {
         ensures header_full { (result ≡ Err AddFault.HeaderFull) ↔ (65535 < length self.old.list + 2) }
         ensures image_full { (result ≡ Err AddFault.ImageFull)
             ↔ ((length self.old.list + 2 ≤ 65535)
-            × (2 ^ 31 < length image.old.bytes + (32 + length body.now))) }
+            × (most_bytes < length image.old.bytes + (32 + length body.now))) }
         ensures standing { OnOk result (IsStanding image.new.bytes self.new) }
         ensures added { OnOk result (AddsMessage (messages_in image.old.bytes self.old.list)
             (messages_in image.new.bytes self.new.list) kind body.now) }
@@ -164,7 +165,7 @@ impl Messages {
           room_blocks = image.new.room_blocks;
         }) }
         ensures covered { length self.old.list + 2 ≤ 65535
-            → length image.old.bytes + (32 + length body.now) ≤ 2 ^ 31
+            → length image.old.bytes + (32 + length body.now) ≤ most_bytes
             → 1 ≤ self.old.room
             → 32 + length body.now ≤ image.old.room_bytes
             → 1 ≤ image.old.room_blocks

@@ -1,8 +1,9 @@
 //! What will be kept of a header that is to be made (File Format Specification 3.0, section IV.A.1.a).
 
-ghost use Rattle.std.specs.Prelude.{◌≡◌, ℕ, ◌+◌, ◌^◌, ◌≤◌, [], ◌∷◌, IfOk, List, length};
+ghost use Rattle.std.specs.Prelude.{◌≡◌, ℕ, ◌+◌, ◌≤◌, [], ◌∷◌, IfOk, List, length};
 ghost use Rattle.h5_bytes.specs.Blocks.{block};
 ghost use Rattle.h5_bytes.specs.Bytes.{part};
+ghost use Rattle.h5_model.specs.Format.Limits.{most_bytes};
 ghost use Rattle.h5_model.specs.Format.Messages.{Message as Said};
 ghost use Rattle.h5_header.specs.Laid.{IsHeaderBytes};
 ghost use Rattle.h5_header.specs.Listed.{messages_in, IsWithin};
@@ -24,7 +25,7 @@ impl Messages {
     /// `AllocError` if memory is refused.
     pub fn laid(alloc: Global, header: u64, bytes: &[u8]) -> Result<Messages, AllocError>
         requires header { (ms : List Said) × IsHeaderBytes bytes.now header ms }
-        requires low { header + length bytes.now ≤ 2 ^ 31 }
+        requires low { header + length bytes.now ≤ most_bytes }
         ensures header { IfOk result (λ m. m.header ≡ header) }
         ensures block { IfOk result (λ m. m.blocks ≡ block header (length bytes.now) ∷ []) }
         ensures within { IfOk result (λ m. IsWithin (header + length bytes.now) m.list) }

@@ -5,6 +5,7 @@ ghost use Rattle.std.specs.List.{find};
 ghost use Rattle.h5_bytes.specs.Bytes.{part, with_part};
 ghost use Rattle.h5_bytes.specs.Texts.{pad8};
 ghost use Rattle.h5_model.specs.Format.Heap.{segment_of, segment_block, heap_blocks, segment_size, free_head, segment_place};
+ghost use Rattle.h5_model.specs.Format.Limits.{most_bytes};
 ghost use Rattle.h5_model.specs.Format.Plain.{padded_text};
 ghost use Rattle.h5_model.specs.Format.Sizes.{text_span as span_of_text};
 ghost use Rattle.h5_space.specs.Whole.{IsApart};
@@ -35,7 +36,8 @@ pub fn insert(image: &mut Image, heap: u64, text: &[u8], room: u64) -> Result<u6
     requires standing { IsStandingHeap image.old.bytes heap }
     requires apart { IsApart (heap_blocks image.old.bytes heap) image.old.free (length image.old.bytes) }
     ensures full { (result ≡ Err SpaceFault.ImageFull)
-        ↔ (2 ^ 31 < length image.old.bytes + needed_bytes image.old.bytes heap (span_of_text text.now) room) }
+        ↔ (most_bytes < length image.old.bytes
+        + needed_bytes image.old.bytes heap (span_of_text text.now) room) }
     ensures inserted { IfOk result (λ at.
         HasInserted image.old.bytes image.new.bytes heap text.now room at) }
     ensures moves { OnOk result (Moves image.old image.new (heap_blocks image.old.bytes heap)
@@ -43,7 +45,7 @@ pub fn insert(image: &mut Image, heap: u64, text: &[u8], room: u64) -> Result<u6
     ensures err { OnErr result (image.new ≡ image.old) }
     ensures covered { needed_bytes image.old.bytes heap (span_of_text text.now) room ≤ image.old.room_bytes
         → needed_calls image.old.bytes heap (span_of_text text.now) ≤ image.old.room_blocks
-        → length image.old.bytes + needed_bytes image.old.bytes heap (span_of_text text.now) room ≤ 2 ^ 31
+        → length image.old.bytes + needed_bytes image.old.bytes heap (span_of_text text.now) room ≤ most_bytes
         → IsOk result }
 {
     let Some(bytes) = text_room(image, heap, text, room) else {
@@ -60,8 +62,8 @@ pub fn insert(image: &mut Image, heap: u64, text: &[u8], room: u64) -> Result<u6
 pub fn text_room(image: &Image, heap: u64, text: &[u8], room: u64) -> Option<u64>
     requires standing { IsStandingHeap image.now.bytes heap }
     ensures { MatchOption result
-        (2 ^ 31 < needed_bytes image.now.bytes heap (span_of_text text.now) room)
-        (λ n. (n ≡ needed_bytes image.now.bytes heap (span_of_text text.now) room) × (n ≤ 2 ^ 31)) }
+        (most_bytes < needed_bytes image.now.bytes heap (span_of_text text.now) room)
+        (λ n. (n ≡ needed_bytes image.now.bytes heap (span_of_text text.now) room) × (n ≤ most_bytes)) }
 {
     let (segment, first) = segment_and_list(image, heap);
     let span = text_span(text) as u64;
@@ -74,8 +76,8 @@ pub fn text_room(image: &Image, heap: u64, text: &[u8], room: u64) -> Option<u64
 /// How long a segment of `size` bytes becomes for a text of `span` bytes, or `None` where it is more than
 /// 2147483648 bytes.
 fn longer(size: u64, span: u64, room: u64) -> Option<u64>
-    ensures { MatchOption result (2 ^ 31 < grown_length size span room)
-        (λ n. (n ≡ grown_length size span room) × (n ≤ 2 ^ 31)) }
+    ensures { MatchOption result (most_bytes < grown_length size span room)
+        (λ n. (n ≡ grown_length size span room) × (n ≤ most_bytes)) }
 {
     let len = size
         .checked_mul(2)?
@@ -96,7 +98,7 @@ fn longer(size: u64, span: u64, room: u64) -> Option<u64>
 pub fn insert_in_room(image: &mut Image, heap: u64, text: &[u8], room: u64) -> u64
     requires standing { IsStandingHeap image.old.bytes heap }
     requires apart { IsApart (heap_blocks image.old.bytes heap) image.old.free (length image.old.bytes) }
-    requires low { needed_bytes image.old.bytes heap (span_of_text text.now) room ≤ 2 ^ 31 }
+    requires low { needed_bytes image.old.bytes heap (span_of_text text.now) room ≤ most_bytes }
     requires bytes { needed_bytes image.old.bytes heap (span_of_text text.now) room ≤ image.old.room_bytes }
     requires blocks { needed_calls image.old.bytes heap (span_of_text text.now) ≤ image.old.room_blocks }
     ensures inserted { HasInserted image.old.bytes image.new.bytes heap text.now room result }
@@ -140,7 +142,7 @@ fn grow(image: &mut Image, heap: u64, text: &[u8], room: u64) -> u64
     requires none { find (is_enough (span_of_text text.now)) (free_blocks image.old.bytes heap)
         ≡ None }
     requires low { grown_length (segment_block image.old.bytes heap).len (span_of_text text.now) room
-        ≤ 2 ^ 31 }
+        ≤ most_bytes }
     requires bytes { grown_length (segment_block image.old.bytes heap).len (span_of_text text.now) room
         ≤ image.old.room_bytes }
     requires blocks { 2 ≤ image.old.room_blocks }

@@ -1,5 +1,5 @@
 -- A rule on all messages of a header that is broken excludes that the header is read.
-use Rattle.std.proofs.Common.{◌≡◌, ◌⊎◌, inl, inr, ℕ, ◌*◌, ◌^◌, ◌<◌, ◌≤◌, List, [], ◌∷◌, map, refl, sym, ap, ◌∙◌, subst, arith, None, Some, true, false, Bool, Option, ℤ}
+use Rattle.std.proofs.Common.{◌≡◌, ◌⊎◌, inl, inr, ℕ, ◌*◌, ◌<◌, ◌≤◌, List, [], ◌∷◌, map, refl, sym, ap, ◌∙◌, subst, arith, None, Some, true, false, Bool, Option, ℤ}
 use Rattle.std.proofs.lemmas.Bool.Decides.{nat_tests}
 use Rattle.std.specs.Prelude.{◌==◌, IsTrue, option_map, is_some}
 use Rattle.std.specs.Option.{option_and_then}
@@ -7,6 +7,7 @@ use Rattle.std.specs.Ordering.{nat_cmp, eq_by_cmp}
 use Rattle.std.specs.Cmp.Lexicographic.{slice_cmp}
 use Rattle.std.specs.List.{AllByRecursion, AllZip, filter, filter_map, list_any, find, IsDistinct}
 use Rattle.h5_bytes.specs.declared.Block.{Block}
+use Rattle.h5_model.specs.Format.Limits.{most_cells, most_chunk_bytes}
 use Rattle.h5_model.specs.Format.MessageTypes.{data_layout_kind, dataspace_kind, datatype_kind, symbol_table_kind, old_fill_value_kind, fill_value_kind, attribute_kind}
 use Rattle.h5_model.specs.Format.Addresses.{symbol_table_of}
 use Rattle.h5_model.specs.Format.Messages.{Message, count_of, first_body}
@@ -93,12 +94,12 @@ module _ (ms : List Message) (attributes : Attributes) (has : HasAttributes ms a
       let no_way : None ≡ Some a.0 = sym fails ∙ a.2 in
       absurd (cc)
 
-  pub attribute_size_excluded : SomeBody attribute_kind ms (λ body. (a : List ℕ × Attribute) × (attribute_of body ≡ Some a) × (2 ^ 40 < extent_cells (a.1).sizes)) → ⊥
+  pub attribute_size_excluded : SomeBody attribute_kind ms (λ body. (a : List ℕ × Attribute) × (attribute_of body ≡ Some a) × (most_cells < extent_cells (a.1).sizes)) → ⊥
   attribute_size_excluded (m, at, is, (a, says, large)) =
       let there = attribute_there m (in_contains m ms at) is in
       let both : Some a ≡ Some there.0 = sym says ∙ there.2 in
       let same : a ≡ there.0 = cc in
-      let small : extent_cells (there.0.1).sizes ≤ 2 ^ 40 = in_all (λ (b : List ℕ × Attribute). extent_cells (b.1).sizes ≤ 2 ^ 40) there.0 has.listed has.small there.1 in
+      let small : extent_cells (there.0.1).sizes ≤ most_cells = in_all (λ (b : List ℕ × Attribute). extent_cells (b.1).sizes ≤ most_cells) there.0 has.listed has.small there.1 in
       let cells_same : extent_cells (a.1).sizes ≡ extent_cells (there.0.1).sizes = ap (λ (b : List ℕ × Attribute). extent_cells (b.1).sizes) same in
       absurd (omega (arith, large, small, cells_same))
 
@@ -168,7 +169,7 @@ module _ (image : List ℕ) (ms : List Message) (found : List (List ℕ × Targe
   group_tables h = fails_not symbol_table_of symbol_table_kind ms has.symbol_table (omega (arith, has.once)) has.chosen h
 
   pub group_small : (attributes : Attributes) → HasAttributes ms attributes → IsLarge ms → ⊥
-  group_small attributes are (inl h) = no_body dataspace_kind (λ body. (e : Extent) × (extent_of body ≡ Some e) × (2 ^ 40 < extent_cells e.sizes)) refl h
+  group_small attributes are (inl h) = no_body dataspace_kind (λ body. (e : Extent) × (extent_of body ≡ Some e) × (most_cells < extent_cells e.sizes)) refl h
   group_small attributes are (inr (inl h)) = attribute_size_excluded ms attributes are h
   group_small attributes are (inr (inr (t, sizes, root, type, layout, large))) =
       let m = said_by fixed_of datatype_kind ms t type in no_message datatype_kind refl m.0 m.1 m.2
@@ -236,12 +237,12 @@ module _ (image : List ℕ) (ms : List Message) (d : Dataset) (blocks : List Blo
   pub dataset_tables : SomeBody symbol_table_kind ms (λ body. symbol_table_of body ≡ None) → ⊥
   dataset_tables (m, at, is, fails) = absurd (omega (arith, no_tables, counted symbol_table_kind ms m (in_contains m ms at) is))
 
-  chunk_small : (t : Fixed) (sizes : List ℕ) (root : Option ℕ) → type_among ms ≡ Some t → layout_among ms ≡ Some (InChunks sizes root) → cells sizes * t.size ≤ 2 ^ 30
+  chunk_small : (t : Fixed) (sizes : List ℕ) (root : Option ℕ) → type_among ms ≡ Some t → layout_among ms ≡ Some (InChunks sizes root) → cells sizes * t.size ≤ most_chunk_bytes
   chunk_small t sizes root type layout =
       let laid : InChunks sizes root ≡ has.layout = layout_is image ms d blocks has (InChunks sizes root) layout in
       let fixed : t ≡ d.fixed = type_is image ms d blocks has t type in
       let small : IsChunkSmall d.fixed (InChunks sizes root) = subst (IsChunkSmall d.fixed) (sym laid) has.array.chunk_small in
-      subst (λ (f : Fixed). cells sizes * f.size ≤ 2 ^ 30) (sym fixed) small
+      subst (λ (f : Fixed). cells sizes * f.size ≤ most_chunk_bytes) (sym fixed) small
 
   pub dataset_small : (attributes : Attributes) → HasAttributes ms attributes → IsLarge ms → ⊥
   dataset_small attributes are (inl (m, at, is, (e, says, large))) =

@@ -10,7 +10,7 @@ use Rattle.h5_shape.proofs.GridBoxes.{length-index_of}
 use Rattle.h5_shape.specs.InBox.{IsCorner}
 use Rattle.h5_layout.specs.ChunkCells.{AreBeside, Grid, IsGrid, left_in_row, place_in_chunk}
 use Rattle.h5_layout.specs.FoundChunks.{IsFirstCell, IsNumberBeside, corner_beside}
-use Rattle.h5_layout.specs.GridKept.{HasNext, IsRowOf}
+use Rattle.h5_layout.specs.GridKept.{HasNext, IsRowOf, next_cells}
 use Rattle.h5_layout.specs.declared.index.FoundRow.{FoundRow}
 use Rattle.h5_layout.proofs.BesideLaws.{last-is, last_of, last_rows, left_beside, row_on}
 use Rattle.h5_layout.proofs.FoundBeside.{beside_few, beside_next, corner_is}
@@ -114,7 +114,7 @@ module _ (g : Grid) (grid : IsGrid g) (row : FoundRow) (of : IsRowOf g row) (bel
   pub step_column : row.corner.column + size < 2 ^ 64
   step_column = omega (arith, has.more, last_small g.sizes has.rank some, grid.few)
 
-  pub step_left : (n : ℕ) → n ≡ min size (get_or g.sizes last 0 - (row.corner.column + size)) → n ≡ left_in_row g.sizes g.shape.sizes place
+  pub step_left : (n : ℕ) → n ≡ next_cells g.sizes g.shape.sizes row → n ≡ left_in_row g.sizes g.shape.sizes place
   step_left n is =
       is ∙ ap (λ (m : ℕ). min size (get_or g.sizes last 0 - (m + size))) (sym number)
       ∙ sym (next_left g.sizes g.shape.sizes row.start row.cells grid.rank has.rank wide low (of.all has.rank) more)

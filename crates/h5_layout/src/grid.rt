@@ -232,7 +232,7 @@ impl<'a, 'g> GridRef<'a, 'g> {
     /// Makes the row that was found last one that has this place, by what is sought in the tree.
     // Apart from `step_row`, which serves most pieces: what is sought in the tree is far longer.
     #[inline(never)]
-    fn find_row(&self, cursor: &mut RowCursor, row: &mut FoundRow, place: u64)
+    pub(crate) fn find_row(&self, cursor: &mut RowCursor, row: &mut FoundRow, place: u64)
         requires below { place < cells_of self.now.sizes }
         requires found { IsFoundIn self.now cursor.old row.old }
         ensures found { IsFoundIn self.now cursor.new row.new }
@@ -247,7 +247,7 @@ impl<'a, 'g> GridRef<'a, 'g> {
     /// were found beside one another. Returns whether it did; else the row is as it was.
     // Inlined, as `row_at` is.
     #[inline(always)]
-    fn step_row(&self, beside: &FoundChunks, row: &mut FoundRow, place: u64) -> bool
+    pub(crate) fn step_row(&self, beside: &FoundChunks, row: &mut FoundRow, place: u64) -> bool
         requires grid { IsGrid self.now }
         requires below { place < cells_of self.now.sizes }
         requires beside { AreChunksBeside (chunks_told self.now.image self.now.shape self.now.root)

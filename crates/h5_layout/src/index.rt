@@ -160,7 +160,6 @@ impl ChunkIndex {
     }
 
     /// Makes the row that was found last one that has this place.
-    // The grid is made where something is sought alone: it is written to memory, behind all cells that were written before.
     #[inline(always)]
     fn seek(&mut self, image: &Image, place: u64)
         requires kept { IsGridKept image.now.bytes self.old }
@@ -170,12 +169,43 @@ impl ChunkIndex {
         ensures since { self.new.row.start ≤ place }
         ensures until { place < self.new.row.start + self.new.row.cells }
     {
-        if self.row.has(place) {
+        if self.row.has(place) || self.step_row(image, place) {
             return;
         }
+        self.find_row(image, place);
+    }
+
+    /// Makes the row that was found last the one behind it, as `GridRef::step_row` does. Returns whether it did.
+    // Inlined, so that the grid is never in memory: read back from there, it would wait for all cells written before it.
+    #[inline(always)]
+    fn step_row(&mut self, image: &Image, place: u64) -> bool
+        requires kept { IsGridKept image.now.bytes self.old }
+        requires below { place < cells_of self.old.sizes }
+        ensures same { self.new ≡ record self.old { row = self.new.row } }
+        ensures kept { IsGridKept image.now.bytes self.new }
+        ensures since { IsTrue result → self.new.row.start ≤ place }
+        ensures until { IsTrue result → place < self.new.row.start + self.new.row.cells }
+    {
         let chunk = ChunkSizes::new(&self.chunk[..self.rank]);
         let sizes = &self.sizes[..self.rank];
         let grid = GridRef::new(image, sizes, &chunk, self.chunk_bytes, self.root);
-        grid.seek(&mut self.cursor, &mut self.row, place);
+        grid.step_row(&self.cursor.beside, &mut self.row, place)
+    }
+
+    /// Makes the row that was found last one that has this place, by what is sought in the tree.
+    // Apart from `step_row`, as in `GridRef`.
+    #[inline(never)]
+    fn find_row(&mut self, image: &Image, place: u64)
+        requires kept { IsGridKept image.now.bytes self.old }
+        requires below { place < cells_of self.old.sizes }
+        ensures same { self.new ≡ record self.old { cursor = self.new.cursor; row = self.new.row } }
+        ensures kept { IsGridKept image.now.bytes self.new }
+        ensures since { self.new.row.start ≤ place }
+        ensures until { place < self.new.row.start + self.new.row.cells }
+    {
+        let chunk = ChunkSizes::new(&self.chunk[..self.rank]);
+        let sizes = &self.sizes[..self.rank];
+        let grid = GridRef::new(image, sizes, &chunk, self.chunk_bytes, self.root);
+        grid.find_row(&mut self.cursor, &mut self.row, place);
     }
 }

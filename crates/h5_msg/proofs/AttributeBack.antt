@@ -10,6 +10,7 @@ use Rattle.byteorder.specs.Numbers.{little_number-reads_back}
 use Rattle.h5_bytes.specs.Bytes.{number_at, little_bytes}
 use Rattle.h5_bytes.specs.Texts.{pad8, until_zero}
 use Rattle.h5_model.specs.Format.Fixed.{Fixed, IsFixed, fits, value_at}
+use Rattle.h5_model.specs.Format.Limits.{most_dimensions}
 use Rattle.h5_model.specs.Tree.Places.{cells}
 use Rattle.h5_model.specs.Format.Extent.{Extent, extent_of}
 use Rattle.h5_model.specs.Format.Datatype.{fixed_of}
@@ -57,7 +58,7 @@ named (b ∷ bs) m rest some text =
 -- ---- the body that is written
 
 module _ (name sizes : List ℕ) (t : Fixed) (values : List ℤ) (rest : List ℕ) (some : 1 ≤ length name) (short : length name < 65535) (text : list_any (λ b. b == 0) name ≡ false)
-    (rank : length sizes ≤ 32) (small : Small sizes) (sound : IsFixed t) (all : list_all (fits t) values ≡ true) (count : length values ≡ cells sizes) where
+    (rank : length sizes ≤ most_dimensions) (small : Small sizes) (sound : IsFixed t) (all : list_all (fits t) values ≡ true) (count : length values ≡ cells sizes) where
   abbrev body : List ℕ
   body = attribute_head (length name) (length sizes) ++ (padded_text name ++ (with_zeros (datatype_bytes t) 16 ++ (dataspace_bytes sizes ++ (cells_bytes t values ++ rest))))
 
@@ -169,7 +170,7 @@ joined name sizes rest t =
     ∙ ap (λ xs. head ++ (padded_text name ++ xs)) (append_assoc type (dataspace_bytes sizes) rest)
 
 pub attribute_back : (name sizes : List ℕ) (t : Fixed) (values : List ℤ) (n : ℕ) (bytes : List ℕ) → 1 ≤ length name → length name < 65535 → list_any (λ b. b == 0) name ≡ false
-    → length sizes ≤ 32 → Small sizes → IsFixed t → list_all (fits t) values ≡ true → length values ≡ cells sizes
+    → length sizes ≤ most_dimensions → Small sizes → IsFixed t → list_all (fits t) values ≡ true → length values ≡ cells sizes
     → bytes ≡ attribute_bytes name t sizes values n → attribute_of bytes ≡ Some (name, record { fixed = t; sizes = sizes; values = values; body = None })
 attribute_back name sizes t values n bytes some short text rank small sound all count same =
     ap attribute_of (same ∙ joined name sizes (cells_bytes t values ++ replicate (n - attribute_size (length name) sizes t.size) 0) t) ∙ attribute_reads name sizes t values (replicate (n - attribute_size (length name) sizes t.size) 0) some short text rank small sound all count
@@ -181,7 +182,7 @@ all_fit t f each [] = refl
 all_fit t f each (x ∷ xs) = rw (each x, all_fit t f each xs) refl
 
 pub stored_attribute_back : (name sizes : List ℕ) (t : Fixed) (stored : List ℕ) (n : ℕ) (bytes : List ℕ) → 1 ≤ length name → length name < 65535
-    → list_any (λ b. b == 0) name ≡ false → length sizes ≤ 32 → Small sizes → IsFixed t → AreBytes stored → length stored ≡ cells sizes * t.size
+    → list_any (λ b. b == 0) name ≡ false → length sizes ≤ most_dimensions → Small sizes → IsFixed t → AreBytes stored → length stored ≡ cells sizes * t.size
     → bytes ≡ stored_attribute_bytes name t sizes stored n
     → attribute_of bytes ≡ Some (name, record { fixed = t; sizes = sizes; values = values_at t stored 0 (cells sizes); body = None })
 stored_attribute_back name sizes t stored n bytes some short text rank small sound low long same =

@@ -8,6 +8,7 @@ use Rattle.std.specs.List.{range_with_len, AllByRecursion}
 use Rattle.std.proofs.Math.Seq.{drop-append_seam}
 use Rattle.h5_bytes.specs.Bytes.{number_at, undefined_address}
 use Rattle.h5_model.specs.Edits.Refusal.{are_maxima, is_maximum}
+use Rattle.h5_model.specs.Format.Limits.{most_dimensions}
 use Rattle.h5_model.specs.Scripts.Tests.{each_below}
 use Rattle.h5_model.specs.Format.Extent.{extent_of, is_dataspace, size_in, maximum_in, maximum_from, maximum_fits}
 use Rattle.h5_model.specs.Format.Bodies.{dataspace_bytes, bounded_bytes, or_undefined, words}
@@ -34,7 +35,7 @@ sizes_of body sizes rest behind small = sym (fill_by_all (size_in body) sizes (l
 abbrev plain : List ℕ → ℕ → List ℕ
 plain sizes n = with_zeros (dataspace_bytes sizes) n
 
-plain_form : (sizes rest : List ℕ) → length sizes ≤ 32 → is_dataspace (1 ∷ length sizes ∷ 0 ∷ 0 ∷ 0 ∷ 0 ∷ 0 ∷ 0 ∷ (words sizes ++ rest)) ≡ true
+plain_form : (sizes rest : List ℕ) → length sizes ≤ most_dimensions → is_dataspace (1 ∷ length sizes ∷ 0 ∷ 0 ∷ 0 ∷ 0 ∷ 0 ∷ 0 ∷ (words sizes ++ rest)) ≡ true
 plain_form sizes rest rank =
     let numbers = words_long sizes in
     let once : length sizes * (1 + 0) ≡ length sizes = omega arith in
@@ -45,7 +46,7 @@ plain_form sizes rest rank =
     let eight : length (1 ∷ length sizes ∷ 0 ∷ 0 ∷ 0 ∷ 0 ∷ 0 ∷ 0 ∷ (words sizes ++ rest)) ≡ 8 + length (words sizes ++ rest) = omega arith in
     rw (eight, head, few, whole) refl
 
-pub plain_back : (sizes : List ℕ) (n : ℕ) (bytes : List ℕ) → length sizes ≤ 32 → Small sizes → bytes ≡ with_zeros (dataspace_bytes sizes) n
+pub plain_back : (sizes : List ℕ) (n : ℕ) (bytes : List ℕ) → length sizes ≤ most_dimensions → Small sizes → bytes ≡ with_zeros (dataspace_bytes sizes) n
     → extent_of bytes ≡ Some (record { sizes = sizes; maxima = map (λ (x : ℕ). Some x) sizes })
 unfolding extent_of
 plain_back sizes n bytes rank small same =
@@ -86,7 +87,7 @@ small_from [] all k = omega arith
 small_from (x ∷ xs) all zero = all.0
 small_from (x ∷ xs) all (suc k) = small_from xs all.1 k
 
-module _ (sizes : List ℕ) (maxima : List (Option ℕ)) (rest : List ℕ) (rank : length sizes ≤ 32) (small : Small sizes) (fit : are_maxima sizes maxima ≡ true) (numbers : Small (map or_undefined maxima)) where
+module _ (sizes : List ℕ) (maxima : List (Option ℕ)) (rest : List ℕ) (rank : length sizes ≤ most_dimensions) (small : Small sizes) (fit : are_maxima sizes maxima ≡ true) (numbers : Small (map or_undefined maxima)) where
   abbrev bounded : List ℕ
   bounded = 1 ∷ length sizes ∷ 1 ∷ 0 ∷ 0 ∷ 0 ∷ 0 ∷ 0 ∷ ((words sizes ++ words (map or_undefined maxima)) ++ rest)
 
@@ -140,7 +141,7 @@ module _ (sizes : List ℕ) (maxima : List (Option ℕ)) (rest : List ℕ) (rank
       sym (number_of maxima sizes k fit (omega arith)) ∙ ap maximum_from (sym (maximum_read k (omega arith))))) in
       rw (bounded_form, read, bounds) refl
 
-pub bounded_back : (sizes : List ℕ) (maxima : List (Option ℕ)) (n : ℕ) (bytes : List ℕ) → length sizes ≤ 32 → Small sizes → are_maxima sizes maxima ≡ true
+pub bounded_back : (sizes : List ℕ) (maxima : List (Option ℕ)) (n : ℕ) (bytes : List ℕ) → length sizes ≤ most_dimensions → Small sizes → are_maxima sizes maxima ≡ true
     → AllByRecursion (λ n. n < 2 ^ 64) (map or_undefined maxima) → bytes ≡ with_zeros (bounded_bytes sizes maxima) n
     → extent_of bytes ≡ Some (record { sizes = sizes; maxima = maxima })
 bounded_back sizes maxima n bytes rank small fit numbers same =

@@ -6,12 +6,13 @@ use Rattle.std.proofs.lemmas.Option.{slice_get-get_or}
 use Rattle.std.specs.Prelude.{◌==◌}
 use Rattle.std.specs.List.{range_with_len}
 use Rattle.h5_bytes.specs.Bytes.{number_at, byte_at, undefined_address}
+use Rattle.h5_model.specs.Format.Limits.{most_dimensions}
 use Rattle.h5_model.specs.Tree.Places.{cells}
 use Rattle.h5_model.specs.Format.Extent.{Extent, extent_in, is_dataspace, rank_in, size_in, maximum_in}
 
 -- the sizes are there, and the maxima where the flag is set
 pub record HasRoom (body : List ℕ) : Type 0 where
-  pub rank : rank_in body ≤ 32
+  pub rank : rank_in body ≤ most_dimensions
   pub flag : byte_at body 2 ≤ 1
   pub sizes : 8 + 8 * rank_in body ≤ length body
   pub maxima : byte_at body 2 ≡ 1 → 8 + 8 * rank_in body + 8 * rank_in body ≤ length body

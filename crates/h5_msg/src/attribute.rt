@@ -7,6 +7,7 @@ ghost use Rattle.h5_bytes.specs.Texts.{pad8 as padded_to_8};
 ghost use Rattle.h5_model.specs.Format.AttributeBody.{attribute_of, is_attribute, is_version as has_version, values_at};
 ghost use Rattle.h5_msg.specs.Parts.{ArePartsOf};
 ghost use Rattle.h5_model.specs.Format.Fixed.{IsFixed, fits};
+ghost use Rattle.h5_model.specs.Format.Limits.{most_cells, most_dimensions};
 ghost use Rattle.h5_model.specs.Tree.Places.{cells as cells_of};
 ghost use Rattle.h5_model.specs.Format.Plain.{with_zeros, cells_bytes, padded_text};
 ghost use Rattle.h5_model.specs.Format.Sizes.{attribute_size, dataspace_length as dataspace_size};
@@ -229,8 +230,8 @@ fn pad8(n: usize) -> usize
 /// `rank` dimensions, and `values` values of this type.
 pub fn attribute_length(name: usize, rank: usize, values: usize, fixed: &Fixed) -> usize
     requires name { name < 2 ^ 16 - 1 }
-    requires rank { rank ≤ 32 }
-    requires values { values ≤ 2 ^ 40 }
+    requires rank { rank ≤ most_dimensions }
+    requires values { values ≤ most_cells }
     ensures { (sizes : List ℕ) → length sizes ≡ rank → cells_of sizes ≡ values
         → result ≡ attribute_size name sizes fixed.now.size }
 {
@@ -245,7 +246,7 @@ pub fn write_attribute(name: &[u8], fixed: &Fixed, sizes: &[u64], values: &[i128
     requires name { 1 ≤ length name.now }
     requires short { length name.now < 2 ^ 16 - 1 }
     requires text { list_any (λ b. b == 0) name.now ≡ false }
-    requires rank { length sizes.now ≤ 32 }
+    requires rank { length sizes.now ≤ most_dimensions }
     requires values { length values.now ≡ cells_of sizes.now }
     requires of_type { list_all (fits fixed.now) values.now ≡ true }
     requires room { attribute_size (length name.now) sizes.now fixed.now.size ≤ length bytes.old }
@@ -271,7 +272,7 @@ pub fn write_stored_attribute(
     requires name { 1 ≤ length name.now }
     requires short { length name.now < 2 ^ 16 - 1 }
     requires text { list_any (λ b. b == 0) name.now ≡ false }
-    requires rank { length sizes.now ≤ 32 }
+    requires rank { length sizes.now ≤ most_dimensions }
     requires stored { length stored.now ≡ cells_of sizes.now * fixed.now.size }
     requires room { attribute_size (length name.now) sizes.now fixed.now.size ≤ length bytes.old }
     ensures written { bytes.new
@@ -296,7 +297,7 @@ pub fn write_stored_attribute(
 /// How many bytes stand before the values.
 fn front_length(name: usize, rank: usize) -> usize
     requires name { name < 2 ^ 16 - 1 }
-    requires rank { rank ≤ 32 }
+    requires rank { rank ≤ most_dimensions }
     ensures { result ≡ 8 + padded_to_8 (name + 1) + 16 + dataspace_size rank }
 {
     NAME + pad8(name + 1) + DATATYPE + dataspace_length(rank, false)
@@ -305,7 +306,7 @@ fn front_length(name: usize, rank: usize) -> usize
 /// Writes what stands before the values: the lengths of the parts, the name, the type and the sizes.
 fn write_front(name: &[u8], fixed: &Fixed, sizes: &[u64], bytes: &mut [u8])
     requires short { length name.now < 2 ^ 16 - 1 }
-    requires rank { length sizes.now ≤ 32 }
+    requires rank { length sizes.now ≤ most_dimensions }
     requires room { length bytes.old
         ≡ 8 + padded_to_8 (length name.now + 1) + 16 + dataspace_size (length sizes.now) }
     ensures written { bytes.new ≡ attribute_front name.now fixed.now sizes.now }
@@ -323,7 +324,7 @@ fn write_front(name: &[u8], fixed: &Fixed, sizes: &[u64], bytes: &mut [u8])
 /// Writes the version and the lengths of the parts.
 fn write_head(name: usize, rank: usize, bytes: &mut [u8])
     requires name { name < 2 ^ 16 - 1 }
-    requires rank { rank ≤ 32 }
+    requires rank { rank ≤ most_dimensions }
     requires room { length bytes.old ≡ 8 }
     ensures { bytes.new ≡ attribute_head name rank }
 {
@@ -353,7 +354,7 @@ fn write_type(fixed: &Fixed, bytes: &mut [u8])
 
 /// Writes a dataspace, which needs no padding.
 fn write_extent(sizes: &[u64], bytes: &mut [u8])
-    requires rank { length sizes.now ≤ 32 }
+    requires rank { length sizes.now ≤ most_dimensions }
     requires room { length bytes.old ≡ dataspace_size (length sizes.now) }
     ensures { bytes.new ≡ dataspace_bytes sizes.now }
 {

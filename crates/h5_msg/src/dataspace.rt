@@ -5,6 +5,7 @@ ghost use Rattle.std.specs.List.{range_with_len, AllByRecursion};
 ghost use Rattle.h5_model.specs.Format.Extent.{extent_of, has_maxima as says_maxima, is_dataspace as has_form, maximum_fits, size_in};
 ghost use Rattle.h5_model.specs.Edits.Refusal.{are_maxima as bound_sizes};
 ghost use Rattle.h5_model.specs.Format.Bodies.{bounded_bytes, dataspace_bytes, or_undefined, words};
+ghost use Rattle.h5_model.specs.Format.Limits.{most_dimensions};
 ghost use Rattle.h5_model.specs.Format.Plain.{with_zeros};
 ghost use Rattle.h5_model.specs.Tree.Places.{cells as cells_of};
 ghost use Rattle.h5_model.specs.Format.Sizes.{dataspace_length as dataspace_size};
@@ -21,7 +22,7 @@ const SIZES: usize = 8;
 
 /// How many bytes the body of a Dataspace message has as it is written.
 pub fn dataspace_length(rank: usize, has_maxima: bool) -> usize
-    requires { rank ≤ 32 }
+    requires { rank ≤ most_dimensions }
     ensures { result ≡ dataspace_size rank + (if has_maxima then 8 * rank else 0) }
 {
     let numbers = if has_maxima { 2 * rank } else { rank };
@@ -60,7 +61,7 @@ impl<'a> Dataspace<'a> {
     pub fn rank(&self) -> usize
         ensures rank { result ≡ length self.now.sizes }
         ensures maxima { result ≡ length self.now.maxima }
-        ensures most { result ≤ 32 }
+        ensures most { result ≤ most_dimensions }
     {
         usize::from(self.body[1])
     }
@@ -178,7 +179,7 @@ fn is_maximum(body: &[u8], rank: usize, k: usize) -> bool
 /// Writes a Dataspace message without maxima, and zeros behind it. The maxima are then the sizes.
 #[tactic(auto, using(crate::proofs::WordLaws::words_long))]
 pub fn write_dataspace(sizes: &[u64], bytes: &mut [u8])
-    requires rank { length sizes.now ≤ 32 }
+    requires rank { length sizes.now ≤ most_dimensions }
     requires room { dataspace_size (length sizes.now) ≤ length bytes.old }
     ensures written { bytes.new ≡ with_zeros (dataspace_bytes sizes.now) (length bytes.old) }
     ensures reads { extent_of bytes.new ≡ Some (record { sizes = sizes.now; maxima = map Some sizes.now }) }
@@ -194,7 +195,7 @@ pub fn write_dataspace(sizes: &[u64], bytes: &mut [u8])
 /// Writes a Dataspace message with maxima, of which `None` is unlimited, and zeros behind it.
 #[tactic(auto, using(crate::proofs::WordLaws::bounds_long, crate::proofs::WordLaws::as_many_maxima))]
 pub fn write_bounded_dataspace(sizes: &[u64], maxima: &[Option<u64>], bytes: &mut [u8])
-    requires rank { length sizes.now ≤ 32 }
+    requires rank { length sizes.now ≤ most_dimensions }
     requires bounds { bound_sizes sizes.now maxima.now ≡ true }
     requires room { dataspace_size (length sizes.now) + 8 * length sizes.now ≤ length bytes.old }
     ensures written { bytes.new ≡ with_zeros (bounded_bytes sizes.now maxima.now) (length bytes.old) }
@@ -210,7 +211,7 @@ pub fn write_bounded_dataspace(sizes: &[u64], maxima: &[Option<u64>], bytes: &mu
 
 /// Writes sizes and then the numbers of maxima.
 fn write_bounds(sizes: &[u64], maxima: &[Option<u64>], bytes: &mut [u8])
-    requires rank { length sizes.now ≤ 32 }
+    requires rank { length sizes.now ≤ most_dimensions }
     requires same { length maxima.now ≡ length sizes.now }
     requires room { length bytes.old ≡ 16 * length sizes.now }
     ensures written { bytes.new ≡ words sizes.now ++ words (map or_undefined maxima.now) }

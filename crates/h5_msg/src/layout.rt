@@ -7,6 +7,7 @@ ghost use Rattle.h5_bytes.specs.Bytes.{number_at};
 ghost use Rattle.h5_bytes.specs.Blocks.{block};
 ghost use Rattle.h5_model.specs.Format.Layout.{InBlock, InChunks, InMessage, chunked_layout, compact_layout, contiguous_layout, layout_of, short_numbers_at};
 ghost use Rattle.h5_model.specs.Format.Bodies.{chunked_bytes, compact_bytes, contiguous_bytes};
+ghost use Rattle.h5_model.specs.Format.Limits.{most_dimensions};
 ghost use Rattle.h5_model.specs.Format.Plain.{with_zeros};
 ghost use Rattle.h5_msg.specs.ChunkSizes.{AreSizesThere, sizes_at};
 ghost use Rattle.h5_msg.specs.Layouts.{layout_in};
@@ -38,7 +39,7 @@ pub fn compact_length(bytes: usize) -> usize
 
 /// How many bytes the body of a chunked array's Data Layout message has as it is written.
 pub fn chunked_length(rank: usize) -> usize
-    requires { rank ≤ 32 }
+    requires { rank ≤ most_dimensions }
     ensures { result ≡ 11 + 4 * (rank + 1) }
 {
     CHUNK_SIZES + 4 * (rank + 1)
@@ -74,7 +75,7 @@ impl<'a> Model for ChunkSizes<'a> {
 impl<'a> ChunkSizes<'a> {
     /// Chunk sizes that are handed over, none of which is 0.
     pub fn new(sizes: &'a [u32]) -> Self
-        requires few { length sizes.now ≤ 32 }
+        requires few { length sizes.now ≤ most_dimensions }
         requires some { list_any (λ n. n == 0) sizes.now ≡ false }
         ensures { result ≡ sizes.now }
     {
@@ -86,7 +87,7 @@ impl<'a> ChunkSizes<'a> {
     /// How many dimensions there are.
     pub fn rank(&self) -> usize
         ensures rank { result ≡ length self.now }
-        ensures most { result ≤ 32 }
+        ensures most { result ≤ most_dimensions }
     {
         match self.place {
             SizesIn::Body { rank, .. } => rank,
@@ -106,7 +107,7 @@ impl<'a> ChunkSizes<'a> {
     /// The chunk sizes, none of which is 0. It takes no memory.
     pub fn dims(&self) -> Dims
         ensures sizes { result ≡ self.now }
-        ensures few { length self.now ≤ 32 }
+        ensures few { length self.now ≤ most_dimensions }
         ensures some { list_any (λ n. n == 0) self.now ≡ false }
     {
         let mut sizes = [0; MAX_RANK];
@@ -119,7 +120,7 @@ impl<'a> ChunkSizes<'a> {
 /// Reads the chunk sizes that stand there.
 fn read_sizes(place: SizesIn<'_>, sizes: &mut [u64])
     requires there { AreSizesThere place }
-    requires few { length (sizes_at place) ≤ 32 }
+    requires few { length (sizes_at place) ≤ most_dimensions }
     requires room { length sizes.old ≡ length (sizes_at place) }
     ensures { sizes.new ≡ sizes_at place.entry }
 {
@@ -131,7 +132,7 @@ fn read_sizes(place: SizesIn<'_>, sizes: &mut [u64])
 /// The chunk size in a dimension.
 fn size_at(place: SizesIn<'_>, k: usize) -> u32
     requires there { AreSizesThere place }
-    requires few { length (sizes_at place) ≤ 32 }
+    requires few { length (sizes_at place) ≤ most_dimensions }
     requires within { k < length (sizes_at place) }
     ensures { result ≡ slice_index (sizes_at place.entry) k }
 {
@@ -225,7 +226,7 @@ fn read_contiguous(need: u128, body: &[u8]) -> Result<Layout<'_>, FormFault>
 
 /// Class 2: one more than the rank, the tree's address, the chunk sizes and last the size of an element.
 fn read_chunked(rank: usize, size: usize, body: &[u8]) -> Result<Layout<'_>, FormFault>
-    requires { rank ≤ 32 }
+    requires { rank ≤ most_dimensions }
     ensures { MatchResult result
         (λ layout. chunked_layout rank size body.now ≡ Some (layout_in layout))
         (λ fault. (fault ≡ FormFault.LayoutForm) × (chunked_layout rank size body.now ≡ None)) }
@@ -296,7 +297,7 @@ pub fn write_contiguous_layout(address: Option<u64>, len: u64, bytes: &mut [u8])
 #[tactic(auto, using(crate::proofs::LayoutLaws::short_words_long))]
 pub fn write_chunked_layout(chunk: &[u32], tree: Option<u64>, fixed: &Fixed, bytes: &mut [u8])
     requires dimensions { 1 ≤ length chunk.now }
-    requires rank { length chunk.now ≤ 32 }
+    requires rank { length chunk.now ≤ most_dimensions }
     requires sizes { list_any (λ n. n == 0) chunk.now ≡ false }
     requires address { ForSome tree (λ at. at < 2 ^ 64 - 1) }
     requires room { 11 + 4 * (length chunk.now + 1) ≤ length bytes.old }

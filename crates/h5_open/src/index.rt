@@ -1,9 +1,10 @@
 //! What is kept of an opened image: its objects, and the table of their numbers (File Format Specification 3.0, section IV.A).
 
-ghost use Rattle.std.specs.Prelude.{◌≡◌, ℕ, ◌^◌, ◌<◌, [], ◌∷◌, ◌++◌, IfErr, MatchOption, OnErr, OnOk, Some, None, length, slice_get, slice_set};
+ghost use Rattle.std.specs.Prelude.{◌≡◌, ℕ, ◌<◌, [], ◌∷◌, ◌++◌, IfErr, MatchOption, OnErr, OnOk, Some, None, length, slice_get, slice_set};
 ghost use Rattle.std.specs.BTreeMap.{Updates};
 ghost use Rattle.std.specs.List.{Contains, IsDistinct};
 ghost use Rattle.std.specs.Ordering.{eq_by_cmp, nat_cmp};
+ghost use Rattle.h5_model.specs.Format.Limits.{most_bytes};
 ghost use Rattle.h5_open.specs.declared.opened.object.OpenedObject.{OpenedObject};
 ghost use Rattle.h5_open.specs.LinkTaken.{AreSlotsCleared, IsOwnTable};
 ghost use Rattle.h5_open.specs.Opened.Kept.{IsIndex};
@@ -46,7 +47,7 @@ pub(crate) fn object_numbered(index: &Index, number: u32) -> &OpenedObject
 /// That the header is another than those before, and lies below 2 GiB, are the caller's conditions.
 pub(crate) fn push_object(index: &mut Index, object: OpenedObject) -> Result<(), OpenFault>
     requires index { IsNumbered index.old.objects.items index.old.numbers }
-    requires low { object.messages.header < 2 ^ 31 }
+    requires low { object.messages.header < most_bytes }
     requires new { Contains (headers (objects_of index.old.objects.items)) object.messages.header → ⊥ }
     ensures pushed { OnOk result
         (objects_of index.new.objects.items ≡ objects_of index.old.objects.items ++ object ∷ []) }

@@ -1,8 +1,9 @@
 //! The reading of one object: its header, and its group or the cells of its array (File Format Specification 3.0, sections III and
 //! IV.A).
 
-ghost use Rattle.std.specs.Prelude.{◌≡◌, ◌⊎◌, ℕ, ◌+◌, ◌*◌, ◌^◌, ◌≤◌, Some, length, IfOk, IfErr, OnOk};
+ghost use Rattle.std.specs.Prelude.{◌≡◌, ◌⊎◌, ℕ, ◌+◌, ◌*◌, ◌≤◌, Some, length, IfOk, IfErr, OnOk};
 ghost use Rattle.h5_bytes.specs.Blocks.{Separate};
+ghost use Rattle.h5_model.specs.Format.Limits.{most_chunk_bytes};
 ghost use Rattle.h5_model.specs.Format.Superblock.{IsSuperblock};
 ghost use Rattle.h5_model.specs.Tree.Places.{cells as cells_of};
 ghost use Rattle.h5_space.specs.Claimed.{HasClaimed};
@@ -199,7 +200,7 @@ fn claim_chunks(
 ) -> Result<(), OpenFault>
     requires superblock { IsSuperblock image.now.bytes }
     requires end { claims.old.end ≡ length image.now.bytes }
-    requires small { cells_of sizes.now * fixed.size ≤ 2 ^ 30 }
+    requires small { cells_of sizes.now * fixed.size ≤ most_chunk_bytes }
     ensures read { OnOk result (AreDataRead image.now.bytes fixed (InChunks sizes.now (Some root))) }
     ensures claimed { OnOk result (HasClaimed claims.old claims.new
         (data_blocks image.now.bytes fixed (InChunks sizes.now (Some root)))) }

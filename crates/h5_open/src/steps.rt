@@ -1,7 +1,8 @@
 //! The walk of opening: from the superblock to all objects, depth first (File Format Specification 3.0, sections II.A, III and IV.A).
 
-ghost use Rattle.std.specs.Prelude.{◌≡◌, ◌+◌, ◌^◌, ◌≤◌, [], List, ℕ, length, IfOk, IfErr, OnOk};
+ghost use Rattle.std.specs.Prelude.{◌≡◌, ◌+◌, ◌≤◌, [], List, ℕ, length, IfOk, IfErr, OnOk};
 ghost use Rattle.std.specs.List.{Contains};
+ghost use Rattle.h5_model.specs.Format.Limits.{most_bytes};
 ghost use Rattle.h5_model.specs.Format.Superblock.{IsSuperblock, end_of_file};
 ghost use Rattle.h5_model.specs.Format.Symbols.{Header};
 ghost use Rattle.h5_header.specs.Walk.Walked.{IsWalked};
@@ -76,7 +77,7 @@ fn read_tree(
     depth: u8,
 ) -> Result<(), OpenFault>
     requires superblock { IsSuperblock image.now.bytes }
-    requires small { length image.now.bytes ≤ 2 ^ 31 }
+    requires small { length image.now.bytes ≤ most_bytes }
     requires end { claims.old.end ≡ length image.now.bytes }
     requires index { IsNumbered tally.old.index.objects.items tally.old.index.numbers }
     requires length { length tally.old.counts.items ≡ length tally.old.index.objects.items }
@@ -114,7 +115,7 @@ fn follow(
     depth: u8,
 ) -> Result<(), OpenFault>
     requires superblock { IsSuperblock image.now.bytes }
-    requires small { length image.now.bytes ≤ 2 ^ 31 }
+    requires small { length image.now.bytes ≤ most_bytes }
     requires end { claims.old.end ≡ length image.now.bytes }
     requires index { IsNumbered tally.old.index.objects.items tally.old.index.numbers }
     requires length { length tally.old.counts.items ≡ length tally.old.index.objects.items }

@@ -8,6 +8,7 @@ use Rattle.std.specs.Option.{option_map_or}
 use Rattle.std.proofs.lemmas.Bool.{not-false}
 use Rattle.h5_model.proofs.RefusalLaws.{length-axes_of}
 use Rattle.h5_model.specs.Edits.Refusal.{first_holding}
+use Rattle.h5_model.specs.Format.Limits.{most_dimensions}
 use Rattle.h5_model.specs.Scripts.Reading.{dataset_rules, selection_rules}
 use Rattle.h5_model.specs.Tree.Objects.{Tree, Dataset}
 use Rattle.h5_model.specs.Tree.Paths.{dataset_at}
@@ -40,7 +41,7 @@ module _ (sizes : List ℕ) (hyper : Hyper) where
   pub rank_refused : length hyper.start ≢ length sizes → first_holding (hyper_rules sizes hyper) ≡ Some fault.RankMismatch
   rank_refused other = let test : (length hyper.start == length sizes) ≡ false = grind (arith, nat_tests) in rw test refl
 
-  module _ (same : length hyper.start ≡ length sizes) (few : length sizes ≤ 32) where
+  module _ (same : length hyper.start ≡ length sizes) (few : length sizes ≤ most_dimensions) where
     one_rank : not (has_rank (length sizes) hyper) ≡ not (is_of_one_rank hyper)
     one_rank =
         let low : nat_le (length hyper.start) 32 ≡ true = grind (arith, nat_tests) in

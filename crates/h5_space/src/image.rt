@@ -2,6 +2,7 @@ ghost use Rattle.std.specs.Prelude.{◌≡◌, ℕ, ◌+◌, ◌≤◌, ◌^◌,
 ghost use Rattle.std.specs.Borrow.{sem, LendsBoth, Array, u8};
 ghost use Rattle.h5_bytes.specs.Bytes.{part, with_part};
 ghost use Rattle.h5_bytes.specs.Blocks.{holds, cover};
+ghost use Rattle.h5_model.specs.Format.Limits.{most_bytes};
 ghost use Rattle.h5_space.specs.Space.{IsSpaced, growth, next_place};
 ghost use Rattle.h5_space.specs.Lending.{gap, StandApart, LendsPart, LendsPartIf, LendsAround, LendsTwoPartsIf};
 
@@ -209,14 +210,14 @@ impl Image {
     /// - `ImageFull`: the bytes of the image and those asked for are more than 2147483648 together.
     /// - `NoMemory`: memory is refused.
     pub fn reserve(&mut self, bytes: u64, blocks: u64) -> Result<(), SpaceFault>
-        ensures full { (result ≡ Err SpaceFault.ImageFull) ↔ (2 ^ 31 < length self.old.bytes + bytes) }
+        ensures full { (result ≡ Err SpaceFault.ImageFull) ↔ (most_bytes < length self.old.bytes + bytes) }
         ensures ok { OnOk result (self.new ≡ record self.old {
           room_bytes = max self.old.room_bytes bytes;
           room_blocks = max self.old.room_blocks blocks;
         }) }
         ensures err { OnErr result (self.new ≡ self.old) }
         ensures covered { bytes ≤ self.old.room_bytes → blocks ≤ self.old.room_blocks
-            → length self.old.bytes + bytes ≤ 2 ^ 31 → IsOk result }
+            → length self.old.bytes + bytes ≤ most_bytes → IsOk result }
     {
         let size = self.bytes.len() as u64;
         if size > MAXIMUM_IMAGE || bytes > MAXIMUM_IMAGE - size {

@@ -1,6 +1,7 @@
 //! The order of chunks between the keys of their tree (File Format Specification 3.0, section III.A.1).
 
 ghost use Rattle.std.specs.Prelude.{◌≡◌, ◌+◌, ◌*◌, ◌≤◌, ◌↔◌, ◌++◌, ◌∷◌, [], ℕ, IsTrue, List, length, ⊤};
+ghost use Rattle.h5_model.specs.Format.Limits.{most_dimensions};
 ghost use Rattle.h5_model.specs.Format.Links.{Before, NotAfter};
 ghost use Rattle.h5_model.specs.Format.Chunks.{offsets_in};
 ghost use Rattle.h5_laws.specs.ChunkLadders.{chunk_lists, chunk_sides};
@@ -49,7 +50,7 @@ impl Ordered for ChunkShape<'_> {
 
 /// Whether the chunk that a key names is at or above one key and below another.
 fn is_between(rank: usize, low: &[u8], high: &[u8], key: &[u8]) -> bool
-    requires few { rank ≤ 32 }
+    requires few { rank ≤ most_dimensions }
     requires low { length low.now ≡ 8 + 8 * (rank + 1) }
     requires high { length high.now ≡ 8 + 8 * (rank + 1) }
     requires key { length key.now ≡ 8 + 8 * (rank + 1) }

@@ -1,5 +1,5 @@
 -- A group without links: one node of a tree and a heap, one behind another (File Format Specification 3.0, sections III.A.1 and III.D).
-use Rattle.std.proofs.Common.{◌≡◌, ℕ, ◌+◌, ◌*◌, ◌^◌, ◌≤◌, List, [], ◌++◌, drop, length, map, sym, ap, ap₂, ◌∙◌, subst, arith, append-nil}
+use Rattle.std.proofs.Common.{◌≡◌, ℕ, ◌+◌, ◌*◌, ◌≤◌, List, [], ◌++◌, drop, length, map, sym, ap, ap₂, ◌∙◌, subst, arith, append-nil}
 use Rattle.std.proofs.lemmas.List.{length-drop, length-take}
 use Rattle.h5_bytes.specs.Bytes.{part}
 use Rattle.h5_bytes.specs.Blocks.{Inside, Run}
@@ -8,6 +8,7 @@ use Rattle.h5_bytes.specs.declared.Block.{Block}
 use Rattle.h5_bytes.proofs.BlockLaws.{all_so}
 use Rattle.h5_model.specs.Format.Addresses.{SymbolTable}
 use Rattle.h5_model.specs.Format.Heap.{heap_blocks}
+use Rattle.h5_model.specs.Format.Limits.{most_bytes}
 use Rattle.h5_model.specs.Format.Nodes.{HasTree, group_kind, tree_blocks}
 use Rattle.h5_model.specs.Format.PlainLength.{nodes_over}
 use Rattle.h5_model.specs.Format.Sizes.{group_node, symbol_node}
@@ -72,7 +73,7 @@ module _ (leaf internal : ℕ) (k : AreK leaf internal) where
 
 -- ---- where its bytes stand
 
-module _ (image : List ℕ) (at : ℕ) (k : AreK (leaf_k image) (internal_k image)) (low : at + (group_node (internal_k image) + 120) ≤ 2 ^ 31)
+module _ (image : List ℕ) (at : ℕ) (k : AreK (leaf_k image) (internal_k image)) (low : at + (group_node (internal_k image) + 120) ≤ most_bytes)
     (there : part at (group_node (internal_k image) + 120) image ≡ links_bytes (leaf_k image) (internal_k image) at []) where
   abbrev leaf : ℕ
   leaf = leaf_k image
@@ -92,8 +93,8 @@ module _ (image : List ℕ) (at : ℕ) (k : AreK (leaf_k image) (internal_k imag
   plain : ArePlainLinks leaf internal []
   plain = plain_none leaf internal k
 
-  short : at + links_length leaf internal [] ≤ 2 ^ 31
-  short = subst (λ (n : ℕ). at + n ≤ 2 ^ 31) long low
+  short : at + links_length leaf internal [] ≤ most_bytes
+  short = subst (λ (n : ℕ). at + n ≤ most_bytes) long low
 
   stands : part at (links_length leaf internal []) image ≡ links_bytes leaf internal at []
   stands = subst (λ (n : ℕ). part at n image ≡ links_bytes leaf internal at []) long there
@@ -156,9 +157,9 @@ module _ (image : List ℕ) (at : ℕ) (k : AreK (leaf_k image) (internal_k imag
 
 -- the same by numbers that are these K
 pub bare_group_read : (image : List ℕ) (leaf internal at : ℕ) → leaf_k image ≡ leaf → internal_k image ≡ internal → AreK leaf internal
-    → at + (group_node internal + 120) ≤ 2 ^ 31 → part at (group_node internal + 120) image ≡ links_bytes leaf internal at [] → IsBareGroup image internal at
+    → at + (group_node internal + 120) ≤ most_bytes → part at (group_node internal + 120) image ≡ links_bytes leaf internal at [] → IsBareGroup image internal at
 bare_group_read image l i at leaf_is internal_is =
-    subst (λ (n : ℕ). AreK l n → at + (group_node n + 120) ≤ 2 ^ 31 → part at (group_node n + 120) image ≡ links_bytes l n at [] → IsBareGroup image n at) internal_is
-    (subst (λ (n : ℕ). AreK n (internal_k image) → at + (group_node (internal_k image) + 120) ≤ 2 ^ 31
+    subst (λ (n : ℕ). AreK l n → at + (group_node n + 120) ≤ most_bytes → part at (group_node n + 120) image ≡ links_bytes l n at [] → IsBareGroup image n at) internal_is
+    (subst (λ (n : ℕ). AreK n (internal_k image) → at + (group_node (internal_k image) + 120) ≤ most_bytes
     → part at (group_node (internal_k image) + 120) image ≡ links_bytes n (internal_k image) at [] → IsBareGroup image (internal_k image) at) leaf_is
     (bare_read image at))

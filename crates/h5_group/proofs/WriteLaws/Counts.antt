@@ -4,6 +4,7 @@ use Rattle.std.specs.List.{sum_by}
 use Rattle.std.proofs.Math.Nat.{mul-le-mul}
 use Rattle.std.proofs.lemmas.List.{length-map}
 use Rattle.std.proofs.lemmas.List.Sums.{sum_by-cons}
+use Rattle.h5_model.specs.Format.Limits.{most_bytes}
 use Rattle.h5_model.specs.Format.Nodes.{Kind, group_kind, node_length}
 use Rattle.h5_model.specs.Format.PlainLength.{rows_of, nodes_over}
 use Rattle.h5_model.specs.Format.Sizes.{group_node, symbol_node}
@@ -30,7 +31,7 @@ spans_some [] = omega arith
 spans_some (l ∷ links) = omega (arith, sum_by-cons texts_span l links, span_some l, spans_some links)
 
 -- a link for each eight bytes at most
-pub links_few : (links : List (Link ObjectPlace)) → length (written_segment (map name_and_leads links)) ≤ 2 ^ 31 → length links < 2 ^ 32
+pub links_few : (links : List (Link ObjectPlace)) → length (written_segment (map name_and_leads links)) ≤ most_bytes → length links < 2 ^ 32
 links_few links low =
     let some = spans_some (map name_and_leads links) in
     let used = used-le (map name_and_leads links) in

@@ -10,6 +10,7 @@ use Rattle.h5_bytes.specs.Blocks.{holds, cover, Run, Inside}
 use Rattle.h5_bytes.specs.declared.Block.{Block}
 use Rattle.h5_bytes.proofs.BlockLaws.{all_append, all_left, all_right, all_so, cover-append, cover-run, run_rises}
 use Rattle.h5_model.specs.Format.Heap.{HasNames, heap_header, heap_blocks}
+use Rattle.h5_model.specs.Format.Limits.{most_bytes}
 use Rattle.h5_model.specs.Format.Links.{Symbols, AreLinks, key_offsets}
 use Rattle.h5_model.specs.Format.Nodes.{group_kind, reading_of, tree_blocks}
 use Rattle.h5_model.specs.Tree.Paths.{is_name}
@@ -98,20 +99,20 @@ record AreBounds (at tree segment nodes : ℕ) : Type 0 where
   segment_low : segment < 2 ^ 32
   nodes_end : at + tree + (32 + segment) + nodes < 2 ^ 64
 
-bounds : (at tree segment nodes : ℕ) → at + (tree + 32 + segment + nodes) ≤ 2 ^ 31 → AreBounds at tree segment nodes
+bounds : (at tree segment nodes : ℕ) → at + (tree + 32 + segment + nodes) ≤ most_bytes → AreBounds at tree segment nodes
 bounds at tree segment nodes low = record { tree_end = omega arith; heap_end = omega arith; segment_low = omega arith; nodes_end = omega arith }
 
 heap_shift : (a s : ℕ) → a + (32 + s) ≡ a + 32 + s
 heap_shift a s = omega arith
 
-far : (n : ℕ) → n ≤ 2 ^ 31 → n < 2 ^ 64
+far : (n : ℕ) → n ≤ most_bytes → n < 2 ^ 64
 far n low = omega arith
 
 whole_shift : (at t s n : ℕ) → at + t + 32 + s + n ≡ at + (t + 32 + s + n)
 whole_shift at t s n = omega arith
 
 module _ (image : List ℕ) (leaf internal at : ℕ) (links : List (List ℕ × Leads)) (plain : ArePlainLinks leaf internal links)
-    (low : at + links_length leaf internal links ≤ 2 ^ 31) where
+    (low : at + links_length leaf internal links ≤ most_bytes) where
   abbrev runs : List (List Placed)
   runs = the_runs leaf internal at links
 

@@ -2,6 +2,7 @@
 use Rattle.std.proofs.Common.{◌≡◌, ℕ, ◌+◌, ◌*◌, ◌^◌, ◌<◌, ◌≤◌, List, ◌++◌, length, map, sym, ap, ◌∙◌, subst, arith}
 use Rattle.std.specs.List.{flat_map, sum_by}
 use Rattle.h5_bytes.specs.Numbers.{word}
+use Rattle.h5_model.specs.Format.Limits.{most_bytes}
 use Rattle.h5_model.specs.Format.Nodes.{group_kind}
 use Rattle.h5_model.specs.Format.Superblock.{AreK}
 use Rattle.h5_model.specs.Format.Sizes.{symbol_node}
@@ -52,7 +53,7 @@ module _ (leaf internal : ℕ) (links : List (Link ObjectPlace)) (k : AreK leaf 
     tree_is : length (tree_bytes (group_kind internal) word 0 at children) ≡ p.tree
     tree_is = ap (λ cs. length (tree_bytes (group_kind internal) word 0 at cs)) children_are ∙ tree_long leaf internal at those k are.low ∙ sym are.tree
 
-    pub tree_low : at + p.length ≤ 2 ^ 31 → at + length (tree_bytes (group_kind internal) word 0 at children) < 2 ^ 63
+    pub tree_low : at + p.length ≤ most_bytes → at + length (tree_bytes (group_kind internal) word 0 at children) < 2 ^ 63
     tree_low low = omega (arith, tree_is, parts_within)
 
     -- the parts are the whole

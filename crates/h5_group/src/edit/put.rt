@@ -5,6 +5,7 @@ ghost use Rattle.std.specs.List.{Contains};
 ghost use Rattle.h5_bytes.specs.declared.Block.{Block};
 ghost use Rattle.h5_model.specs.Edits.Refusal.{has_zero};
 ghost use Rattle.h5_model.specs.Format.Heap.{segment_block, segment_of};
+ghost use Rattle.h5_model.specs.Format.Limits.{most_bytes};
 ghost use Rattle.h5_model.specs.Format.Nodes.{node_length};
 ghost use Rattle.h5_model.specs.Format.Sizes.{symbol_node as symbol_length, text_span as span_of_text};
 ghost use Rattle.h5_model.specs.Format.Superblock.{k_values, leaf_k};
@@ -64,7 +65,7 @@ pub fn put_link(
     link: &Link<'_, ObjectPlace>,
 ) -> Result<(), InsertFault>
     requires group { IsGroupApart image.old table }
-    requires short { length image.old.bytes ≤ 2 ^ 31 }
+    requires short { length image.old.bytes ≤ most_bytes }
     requires new_name { HasNone image.old.bytes table link.now.name.now }
     requires named { IsTrue (is_name link.now.name.now) }
     requires plain { IsPlainLead (leads_of link.now.to) }
@@ -82,13 +83,13 @@ pub fn put_link(
         ↔ IsFullFor image.old.bytes table link.now.name.now }
     ensures full { (result ≡ Err (InsertFault.Space SpaceFault.ImageFull))
         ↔ ((IsFullFor image.old.bytes table link.now.name.now → ⊥)
-        × (2 ^ 31 < length image.old.bytes
+        × (most_bytes < length image.old.bytes
         + room_of image.old.bytes table (span (name_and_leads link.now)))) }
     ensures err { OnErr result (image.new ≡ image.old) }
     ensures covered { (IsFullFor image.old.bytes table link.now.name.now → ⊥)
         → room_of image.old.bytes table (span (name_and_leads link.now)) ≤ image.old.room_bytes
         → 20 ≤ image.old.room_blocks
-        → length image.old.bytes + room_of image.old.bytes table (span (name_and_leads link.now)) ≤ 2 ^ 31
+        → length image.old.bytes + room_of image.old.bytes table (span (name_and_leads link.now)) ≤ most_bytes
         → IsOk result }
 {
     reserve_link(image, table, link, 0, 0)?;
@@ -111,7 +112,7 @@ pub fn reserve_link(
     calls: u64,
 ) -> Result<(), InsertFault>
     requires group { IsGroupApart image.old table }
-    requires short { length image.old.bytes ≤ 2 ^ 31 }
+    requires short { length image.old.bytes ≤ most_bytes }
     requires few { calls ≤ 2 ^ 31 }
     ensures room { OnOk result (image.new ≡ record image.old {
       room_bytes = max image.old.room_bytes
@@ -122,14 +123,14 @@ pub fn reserve_link(
         ↔ IsFullFor image.old.bytes table link.now.name.now }
     ensures full { (result ≡ Err (InsertFault.Space SpaceFault.ImageFull))
         ↔ ((IsFullFor image.old.bytes table link.now.name.now → ⊥)
-        × (2 ^ 31 < length image.old.bytes
+        × (most_bytes < length image.old.bytes
         + (room_of image.old.bytes table (span (name_and_leads link.now)) + bytes))) }
     ensures err { OnErr result (image.new ≡ image.old) }
     ensures covered { (IsFullFor image.old.bytes table link.now.name.now → ⊥)
         → room_of image.old.bytes table (span (name_and_leads link.now)) + bytes ≤ image.old.room_bytes
         → 20 + calls ≤ image.old.room_blocks
         → length image.old.bytes + (room_of image.old.bytes table (span (name_and_leads link.now)) + bytes)
-        ≤ 2 ^ 31
+        ≤ most_bytes
         → IsOk result }
 {
     if is_too_deep(image, table, link.name) {
@@ -155,7 +156,7 @@ pub fn put_reserved(image: &mut Image, table: SymbolTable, link: &Link<'_, Objec
     requires bytes { room_of image.old.bytes table (span (name_and_leads link.now)) ≤ image.old.room_bytes }
     requires calls { 20 ≤ image.old.room_blocks }
     requires short { length image.old.bytes + room_of image.old.bytes table (span (name_and_leads link.now))
-        ≤ 2 ^ 31 }
+        ≤ most_bytes }
     ensures put { IsLinkPut (target_link (name_and_leads link.now))
         (links_told image.old.bytes table) (links_told image.new.bytes table) }
     ensures group { IsGroupApart image.new table }
@@ -175,7 +176,7 @@ pub fn put_reserved(image: &mut Image, table: SymbolTable, link: &Link<'_, Objec
 /// That the group was read, as `put_link` asks it, and that the image has at most 2147483648 bytes, are the caller's conditions.
 pub fn is_too_deep(image: &Image, table: SymbolTable, name: &[u8]) -> bool
     requires group { IsGroupApart image.now table }
-    requires short { length image.now.bytes ≤ 2 ^ 31 }
+    requires short { length image.now.bytes ≤ most_bytes }
     ensures { IsTrue result ↔ IsFullFor image.now.bytes table name.now }
 {
     let Some(way) = way_to(image, table, name) else {
@@ -202,7 +203,7 @@ fn is_full(image: &Image, table: SymbolTable, way: &Way) -> bool
 /// the link's texts. Where that is past the largest number it is the largest.
 fn link_room(image: &Image, table: SymbolTable, link: &Link<'_, ObjectPlace>) -> u64
     requires group { IsSomeGroup image.now table [] }
-    requires short { length image.now.bytes ≤ 2 ^ 31 }
+    requires short { length image.now.bytes ≤ most_bytes }
     ensures { result ≡ min (room_of image.now.bytes table (span (name_and_leads link.now))) (2 ^ 64 - 1) }
 {
     let node = group_kind(image).node_length() as u64;
@@ -232,7 +233,7 @@ fn put_in_room(image: &mut Image, table: SymbolTable, link: &Link<'_, ObjectPlac
     requires bytes { room_of image.old.bytes table (span (name_and_leads link.now)) ≤ image.old.room_bytes }
     requires blocks { 20 ≤ image.old.room_blocks }
     requires small { length image.old.bytes + room_of image.old.bytes table (span (name_and_leads link.now))
-        ≤ 2 ^ 31 }
+        ≤ most_bytes }
     ensures put { (links : List (List ℕ × Target)) (blocks : List Block)
         → IsGroupIn image.old table links [] blocks → IsNewName link.now.name.now links
         → (links' : List (List ℕ × Target))
@@ -262,7 +263,7 @@ fn add_texts(image: &mut Image, table: SymbolTable, link: &Link<'_, ObjectPlace>
     requires blocks { 2 ≤ image.old.room_blocks }
     requires small { length image.old.bytes
         + (2 * (segment_block image.old.bytes table.heap).len + span (name_and_leads link.now) + 16)
-        ≤ 2 ^ 31 }
+        ≤ most_bytes }
     ensures added { (links : List (List ℕ × Target)) (spare : List ℕ) (blocks : List Block)
         → IsGroupIn image.old table links spare blocks
         → HasGroupMoved image.old image.new table blocks links (offsets_of (entry_from result) ++ spare) }
@@ -311,7 +312,7 @@ fn add_soft_texts(image: &mut Image, table: SymbolTable, name: &[u8], text: &[u8
     requires blocks { 2 ≤ image.old.room_blocks }
     requires small { length image.old.bytes
         + (2 * (segment_block image.old.bytes table.heap).len + (span_of_text name.now
-        + span_of_text text.now) + 16) ≤ 2 ^ 31 }
+        + span_of_text text.now) + 16) ≤ most_bytes }
     ensures added { (links : List (List ℕ × Target)) (spare : List ℕ) (blocks : List Block)
         → IsGroupIn image.old table links spare blocks
         → HasGroupMoved image.old image.new table blocks links (offsets_of (entry_from result) ++ spare) }
@@ -351,7 +352,7 @@ fn put_below(image: &mut Image, table: SymbolTable, way: &Way, name: &[u8], symb
     requires blocks { length way.now + 2 ≤ image.old.room_blocks }
     requires small { length image.old.bytes
         + (symbol_length (leaf_k image.old.bytes) + (length way.now
-        + 1) * node_length (kind_in image.old.bytes)) ≤ 2 ^ 31 }
+        + 1) * node_length (kind_in image.old.bytes)) ≤ most_bytes }
     ensures put { HasEntryPut image.old image.new table (entry_from symbol) }
     ensures exact { HasExactKeys image.old.bytes table → HasExactKeys image.new.bytes table }
     ensures spends { Spends image.old image.new

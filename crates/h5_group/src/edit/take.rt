@@ -1,8 +1,9 @@
 //! A link taken out of a group (File Format Specification 3.0, sections III.A.1, III.B and III.D).
 
-ghost use Rattle.std.specs.Prelude.{◌≡◌, ℕ, ◌^◌, ◌≤◌, ◌++◌, Err, IfNone, IfSome, IsOk, IsTrue, List, [], ◌∷◌, OnErr, OnOk, Some, length, slice_get};
+ghost use Rattle.std.specs.Prelude.{◌≡◌, ℕ, ◌≤◌, ◌++◌, Err, IfNone, IfSome, IsOk, IsTrue, List, [], ◌∷◌, OnErr, OnOk, Some, length, slice_get};
 ghost use Rattle.std.specs.List.{Contains};
 ghost use Rattle.h5_bytes.specs.declared.Block.{Block};
+ghost use Rattle.h5_model.specs.Format.Limits.{most_bytes};
 ghost use Rattle.h5_model.specs.Format.Superblock.{k_values};
 ghost use Rattle.h5_model.specs.Format.Heap.{segment_of, span_of};
 ghost use Rattle.h5_model.specs.Format.Symbols.{Entry, Target, link_of};
@@ -52,7 +53,7 @@ pub fn remove_link(
     exact: bool,
 ) -> Result<(), SpaceFault>
     requires group { IsGroupApart image.old table }
-    requires short { length image.old.bytes ≤ 2 ^ 31 }
+    requires short { length image.old.bytes ≤ most_bytes }
     requires there { (t : Target) × Contains (links_told image.old.bytes table) (name.now, t) }
     requires exact { IsTrue exact → HasExactKeys image.old.bytes table }
     ensures taken { OnOk result ((t : Target) → Contains (links_told image.old.bytes table) (name.now, t)

@@ -5,6 +5,7 @@ ghost use Rattle.std.specs.List.{Contains};
 ghost use Rattle.h5_bytes.specs.declared.Block.{Block};
 ghost use Rattle.h5_model.specs.Edits.Refusal.{has_zero};
 ghost use Rattle.h5_model.specs.Format.Heap.{segment_of, segment_block, span_of};
+ghost use Rattle.h5_model.specs.Format.Limits.{most_bytes};
 ghost use Rattle.h5_model.specs.Format.Sizes.{text_span as span_of_text};
 ghost use Rattle.h5_model.specs.Format.Superblock.{leaf_k};
 ghost use Rattle.h5_model.specs.Format.Symbols.{Target, symbols_at};
@@ -30,7 +31,7 @@ use h5_space::Image;
 pub(crate) fn add_text(image: &mut Image, table: SymbolTable, text: &[u8], room: u64) -> u64
     requires group { (spare : List ℕ) × IsSomeGroup image.old table spare }
     requires plain { has_zero text.now ≡ false }
-    requires low { needed_bytes image.old.bytes table.heap (span_of_text text.now) room ≤ 2 ^ 31 }
+    requires low { needed_bytes image.old.bytes table.heap (span_of_text text.now) room ≤ most_bytes }
     requires bytes { needed_bytes image.old.bytes table.heap (span_of_text text.now) room
         ≤ image.old.room_bytes }
     requires blocks { needed_calls image.old.bytes table.heap (span_of_text text.now)

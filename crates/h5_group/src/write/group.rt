@@ -1,5 +1,6 @@
 //! A group's links, one part behind another.
-ghost use Rattle.std.specs.Prelude.{◌≡◌, ◌+◌, ◌^◌, ◌≤◌, ◌++◌, OnOk, map};
+ghost use Rattle.std.specs.Prelude.{◌≡◌, ◌+◌, ◌≤◌, ◌++◌, OnOk, map};
+ghost use Rattle.h5_model.specs.Format.Limits.{most_bytes};
 ghost use Rattle.h5_model.specs.Format.Superblock.{AreK};
 ghost use Rattle.h5_heap.specs.Writing.Links.{name_and_leads};
 ghost use Rattle.h5_group.specs.Writing.Written.{links_bytes};
@@ -30,7 +31,7 @@ pub fn push_links(
 ) -> Result<(), AllocError>
     requires k { AreK k.now.leaf k.now.internal }
     requires places { ArePlaces k.now.leaf k.now.internal (map name_and_leads links.now) places.now }
-    requires low { at + places.now.length ≤ 2 ^ 31 }
+    requires low { at + places.now.length ≤ most_bytes }
     ensures { OnOk result
         (out.new.items ≡ out.old.items
         ++ links_bytes k.now.leaf k.now.internal at (map name_and_leads links.now)) }

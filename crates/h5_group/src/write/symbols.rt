@@ -2,6 +2,7 @@
 ghost use Rattle.std.specs.Prelude.{◌≡◌, ◌+◌, ◌*◌, ◌^◌, ◌<◌, ◌≤◌, ◌++◌, OnOk, IfOk, length, map, sum_by};
 ghost use Rattle.std.specs.List.{flat_map};
 ghost use Rattle.h5_bytes.specs.Numbers.{zeros};
+ghost use Rattle.h5_model.specs.Format.Limits.{most_bytes};
 ghost use Rattle.h5_model.specs.Format.Sizes.{symbol_node};
 ghost use Rattle.h5_heap.specs.Writing.Links.{name_and_leads};
 ghost use Rattle.h5_heap.specs.Writing.Written.{links_with_offsets, placed_links, texts_span as span};
@@ -159,7 +160,7 @@ pub(crate) fn symbol_children(
     requires low { 1 ≤ leaf }
     requires high { leaf ≤ 32767 }
     requires names { 8 + sum_by span (map name_and_leads links.now) < 2 ^ 32 }
-    requires nodes { at + symbol_nodes leaf (map name_and_leads links.now) * symbol_node leaf ≤ 2 ^ 31 }
+    requires nodes { at + symbol_nodes leaf (map name_and_leads links.now) * symbol_node leaf ≤ most_bytes }
     ensures { IfOk result (λ v.
         v.items ≡ children_of leaf at (runs_of leaf (placed_links (map name_and_leads links.now)))) }
 {

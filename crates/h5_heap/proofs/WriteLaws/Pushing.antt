@@ -1,8 +1,9 @@
 -- How a heap is appended: the texts of one link behind those of another, and the segment.
-use Rattle.std.proofs.Common.{◌≡◌, ℕ, ◌+◌, ◌<◌, ◌≤◌, ◌^◌, Option, Some, None, List, ◌++◌, length, rules, ap, ◌∙◌, sym, arith, append_assoc}
+use Rattle.std.proofs.Common.{◌≡◌, ℕ, ◌+◌, ◌<◌, ◌≤◌, Option, Some, None, List, ◌++◌, length, rules, ap, ◌∙◌, sym, arith, append_assoc}
 use Rattle.std.specs.Option.{MatchOption, IsSome}
 use Rattle.std.specs.Prelude.{nat_le, if◌then◌else◌}
 use Rattle.h5_bytes.specs.Numbers.{zeros}
+use Rattle.h5_model.specs.Format.Limits.{most_bytes}
 use Rattle.h5_model.specs.Format.Plain.{heap_header_bytes, free_head_of}
 use Rattle.h5_heap.specs.Writing.Parts.{free_rest}
 use Rattle.h5_heap.specs.Writing.Links.{Leads, heap_texts}
@@ -22,7 +23,7 @@ heap_is at size used links sized counted =
     ∙ ap (λ bytes. heap_header_bytes size (if nat_le used 72 then used else 1) (at + 32) ++ bytes) segment
 
 -- what is used is counted where the segment is short enough
-pub used_known : (links : List (List ℕ × Leads)) (used : Option ℕ) → length (written_segment links) ≤ 2 ^ 31
-    → MatchOption used (2 ^ 31 < 8 + links_span links) (λ n. (n ≡ 8 + links_span links) × (n ≤ 2 ^ 31)) → IsSome used
+pub used_known : (links : List (List ℕ × Leads)) (used : Option ℕ) → length (written_segment links) ≤ most_bytes
+    → MatchOption used (most_bytes < 8 + links_span links) (λ n. (n ≡ 8 + links_span links) × (n ≤ most_bytes)) → IsSome used
 used_known links (Some n) short counted = search rules
 used_known links None short counted = absurd (omega (arith, used-le links))

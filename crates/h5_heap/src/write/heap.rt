@@ -1,6 +1,7 @@
 //! A heap with the texts of a group's links (File Format Specification 3.0, section III.D).
 ghost use Rattle.std.specs.Prelude.{◌≡◌, ◌+◌, ◌^◌, ◌<◌, ◌≤◌, ◌++◌, [], ◌∷◌, OnOk, MatchOption, length, map, sum_by, nat_le, if◌then◌else◌};
 ghost use Rattle.std.specs.List.{flat_map};
+ghost use Rattle.h5_model.specs.Format.Limits.{most_bytes};
 ghost use Rattle.h5_model.specs.Format.Plain.{padded_text};
 ghost use Rattle.h5_model.specs.Format.Sizes.{text_span as text_size};
 ghost use Rattle.h5_heap.specs.Writing.Links.{name_and_leads, heap_texts};
@@ -29,9 +30,9 @@ pub fn link_span(link: &Link<'_, ObjectPlace>) -> usize
 
 /// How many bytes are used with a text behind so many, or `None` where they are more than 2147483648.
 fn behind_text(used: u64, text: &[u8]) -> Option<u64>
-    requires { used ≤ 2 ^ 31 }
-    ensures { MatchOption result (2 ^ 31 < used + text_size text.now) (λ n.
-        (n ≡ used + text_size text.now) × (n ≤ 2 ^ 31)) }
+    requires { used ≤ most_bytes }
+    ensures { MatchOption result (most_bytes < used + text_size text.now) (λ n.
+        (n ≡ used + text_size text.now) × (n ≤ most_bytes)) }
 {
     let end = used + text_span(text) as u64;
     if end > MAXIMUM_IMAGE { None } else { Some(end) }
@@ -39,9 +40,9 @@ fn behind_text(used: u64, text: &[u8]) -> Option<u64>
 
 /// How many bytes are used with a link's texts behind so many, or `None` where they are more than 2147483648.
 fn behind_link(used: u64, link: &Link<'_, ObjectPlace>) -> Option<u64>
-    requires { used ≤ 2 ^ 31 }
-    ensures { MatchOption result (2 ^ 31 < used + span (name_and_leads link.now)) (λ n.
-        (n ≡ used + span (name_and_leads link.now)) × (n ≤ 2 ^ 31)) }
+    requires { used ≤ most_bytes }
+    ensures { MatchOption result (most_bytes < used + span (name_and_leads link.now)) (λ n.
+        (n ≡ used + span (name_and_leads link.now)) × (n ≤ most_bytes)) }
 {
     let end = behind_text(used, link.name)?;
     match link.to {
@@ -52,8 +53,8 @@ fn behind_link(used: u64, link: &Link<'_, ObjectPlace>) -> Option<u64>
 
 /// How many bytes of the segment the empty name and the texts of these links occupy, or `None` where it is more than 2147483648.
 fn used_length(links: &[Link<'_, ObjectPlace>]) -> Option<u64>
-    ensures { MatchOption result (2 ^ 31 < 8 + sum_by span (map name_and_leads links.now))
-        (λ n. (n ≡ 8 + sum_by span (map name_and_leads links.now)) × (n ≤ 2 ^ 31)) }
+    ensures { MatchOption result (most_bytes < 8 + sum_by span (map name_and_leads links.now))
+        (λ n. (n ≡ 8 + sum_by span (map name_and_leads links.now)) × (n ≤ most_bytes)) }
 {
     let mut used = 8;
     for link in links {
@@ -64,8 +65,8 @@ fn used_length(links: &[Link<'_, ObjectPlace>]) -> Option<u64>
 
 /// How many bytes the segment of these links has, or `None` where it has more than 2147483648.
 pub fn segment_length(links: &[Link<'_, ObjectPlace>]) -> Option<u64>
-    ensures { MatchOption result (2 ^ 31 < length (written_segment (map name_and_leads links.now)))
-        (λ n. (n ≡ length (written_segment (map name_and_leads links.now))) × (n ≤ 2 ^ 31)) }
+    ensures { MatchOption result (most_bytes < length (written_segment (map name_and_leads links.now)))
+        (λ n. (n ≡ length (written_segment (map name_and_leads links.now))) × (n ≤ most_bytes)) }
 {
     let used = used_length(links)?;
     Some(if used <= 72 { 88 } else { used })
@@ -114,7 +115,7 @@ pub fn push_heap(
     links: &[Link<'_, ObjectPlace>],
 ) -> Result<(), AllocError>
     requires size { size ≡ length (written_segment (map name_and_leads links.now)) }
-    requires low { at + 32 + size ≤ 2 ^ 31 }
+    requires low { at + 32 + size ≤ most_bytes }
     ensures { OnOk result (out.new.items ≡ out.old.items ++ heap_bytes at (map name_and_leads links.now)) }
 {
     // a free block is there or not, whatever the segment's size: 88 bytes may all be used

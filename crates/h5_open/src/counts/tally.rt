@@ -1,8 +1,9 @@
 //! The objects that a walk has found, and how many of the links that it followed lead to each (File Format Specification 3.0,
 //! section IV.A.1.a).
 
-ghost use Rattle.std.specs.Prelude.{◌≡◌, ◌+◌, ◌^◌, ◌<◌, [], ◌∷◌, ◌++◌, IfErr, OnOk, MatchBool, Some, length, slice_get, slice_index, slice_set};
+ghost use Rattle.std.specs.Prelude.{◌≡◌, ◌+◌, ◌<◌, [], ◌∷◌, ◌++◌, IfErr, OnOk, MatchBool, Some, length, slice_get, slice_index, slice_set};
 ghost use Rattle.std.specs.List.{Contains};
+ghost use Rattle.h5_model.specs.Format.Limits.{most_bytes};
 ghost use Rattle.h5_open.specs.declared.opened.object.OpenedObject.{OpenedObject};
 ghost use Rattle.h5_open.specs.Counted.Counts.{MayBeLinked, IsRefusedAgain};
 ghost use Rattle.h5_open.specs.Opened.Objects.{headers, objects_of};
@@ -29,7 +30,7 @@ pub(crate) struct Tally {
 /// That the header is another than those before, and lies below 2 GiB, are the caller's conditions.
 pub(crate) fn push_counted(tally: &mut Tally, object: OpenedObject) -> Result<(), OpenFault>
     requires index { IsNumbered tally.old.index.objects.items tally.old.index.numbers }
-    requires low { object.messages.header < 2 ^ 31 }
+    requires low { object.messages.header < most_bytes }
     requires new { Contains (headers (objects_of tally.old.index.objects.items)) object.messages.header → ⊥ }
     ensures pushed { OnOk result (objects_of tally.new.index.objects.items
         ≡ objects_of tally.old.index.objects.items ++ object ∷ []) }

@@ -1,11 +1,12 @@
 //! Objects added to an opened image where it stands (File Format Specification 3.0, sections III.A.1, III.C, III.D and IV.A).
 
-ghost use Rattle.std.specs.Prelude.{◌≡◌, ◌↔◌, ◌+◌, ◌^◌, ◌<◌, ◌≤◌, ◌∷◌, ◌++◌, [], Err, IsSome, IsTrue, List, MatchOption, None, OnErr, OnOk, Some, length};
+ghost use Rattle.std.specs.Prelude.{◌≡◌, ◌↔◌, ◌+◌, ◌<◌, ◌≤◌, ◌∷◌, ◌++◌, [], Err, IsSome, IsTrue, List, MatchOption, None, OnErr, OnOk, Some, length};
 ghost use Rattle.std.specs.BTreeMap.{Updates};
 ghost use Rattle.std.specs.Ordering.{nat_cmp};
 ghost use Rattle.h5_bytes.specs.Blocks.{block};
 ghost use Rattle.h5_bytes.specs.Bytes.{part};
 ghost use Rattle.h5_model.specs.Format.Addresses.{SymbolTable};
+ghost use Rattle.h5_model.specs.Format.Limits.{most_bytes};
 ghost use Rattle.h5_model.specs.Format.Messages.{Message};
 ghost use Rattle.h5_model.specs.Format.Sizes.{text_span};
 ghost use Rattle.h5_model.specs.Tree.Objects.{Object, link_in, links_of};
@@ -67,8 +68,8 @@ impl Opened {
     /// That it has some is the caller's condition.
     pub fn place_for(&self, len: u64) -> Option<u64>
         requires some { 0 < len }
-        ensures place { MatchOption result (2 ^ 31 < length self.now.image + len)
-            (λ at. (at ≡ place_in self.now len) × (at + len ≤ 2 ^ 31)) }
+        ensures place { MatchOption result (most_bytes < length self.now.image + len)
+            (λ at. (at ≡ place_in self.now len) × (at + len ≤ most_bytes)) }
         ensures sound { IsSound self.now }
     {
         let at = self.image.place_for(len);
@@ -128,7 +129,7 @@ impl Opened {
         ensures full { (table : SymbolTable) → IsGroupOf self.old parent table
             → (result ≡ Err (InsertFault.Space SpaceFault.ImageFull))
             ↔ ((IsFullFor self.old.image table name.now → ⊥)
-            × (2 ^ 31 < length self.old.image
+            × (most_bytes < length self.old.image
             + (link_room self.old.image table (text_span name.now) + length (object_bytes object.now)))) }
         ensures refused { OnErr result (self.new ≡ self.old) }
     {
@@ -150,7 +151,7 @@ impl Opened {
 
 /// How many bytes stand behind the header.
 fn content_length(content: &ContentBytes<'_>) -> u64
-    requires low { length (stored_content content.now) ≤ 2 ^ 31 }
+    requires low { length (stored_content content.now) ≤ most_bytes }
     ensures { result ≡ length (stored_content content.now) }
 {
     match content {
@@ -186,7 +187,7 @@ fn keep_laid(
 ) -> Result<(), AllocError>
     requires few { length index.old.objects.items < 4294967295 }
     requires header { (ms : List Message) × IsHeaderBytes object.now.header.now at ms }
-    requires low { at + length object.now.header.now ≤ 2 ^ 31 }
+    requires low { at + length object.now.header.now ≤ most_bytes }
     ensures kept { OnOk result ((o : Kept) × IsKeptFor at object.now o
         × (index.new.objects.items ≡ index.old.objects.items ++ Some o ∷ [])) }
     ensures numbers { OnOk result (Updates nat_cmp index.old.numbers index.new.numbers at
@@ -230,7 +231,7 @@ fn put_object(
         ≤ image.old.room_bytes }
     requires calls { 21 ≤ image.old.room_blocks }
     requires short { length image.old.bytes
-        + (link_room image.old.bytes table (text_span link.now.name.now) + len) ≤ 2 ^ 31 }
+        + (link_room image.old.bytes table (text_span link.now.name.now) + len) ≤ most_bytes }
     ensures stored { (taken : Space) × (linked : Space) × IsObjectStored image.old taken linked image.new
         table link.now.name.now (next_place len image.old) object.now }
     ensures grown { length image.new.bytes ≤ length image.old.bytes
@@ -247,7 +248,7 @@ fn write_object(image: &mut Image, len: u64, object: &ObjectBytes<'_>)
     requires of_type { IsOfType object.now.content }
     requires bytes { len ≤ image.old.room_bytes }
     requires calls { 1 ≤ image.old.room_blocks }
-    requires short { length image.old.bytes + len ≤ 2 ^ 31 }
+    requires short { length image.old.bytes + len ≤ most_bytes }
     ensures took { Moves image.old image.new [] (block (next_place len image.old) len ∷ []) }
     ensures there { part (next_place len image.old) len image.new.bytes ≡ object_bytes object.now }
     ensures inside { next_place len image.old + len ≤ length image.new.bytes }

@@ -4,6 +4,7 @@ ghost use Rattle.std.specs.Prelude.{◌≡◌, ◌↔◌, ℕ, ◌+◌, ◌<◌,
 ghost use Rattle.std.specs.FinMap.{get, insert, remove as without};
 ghost use Rattle.h5_model.specs.Edits.Applied.{with_attributes};
 ghost use Rattle.h5_model.specs.Format.AttributeBody.{attribute_of};
+ghost use Rattle.h5_model.specs.Format.Limits.{most_bytes, most_cells};
 ghost use Rattle.h5_model.specs.Tree.Objects.{Attribute, with_object};
 ghost use Rattle.h5_model.specs.Tree.Places.{extent_cells};
 ghost use Rattle.h5_open.specs.Attributed.{IsAttributeThere, has_full_header};
@@ -33,13 +34,13 @@ impl Opened {
         requires there { IsSome (get self.old.table number) }
         requires attribute { (name : List ℕ) × (a : Attribute)
             × (attribute_of body.now ≡ Some (name, a))
-            × (extent_cells a.sizes ≤ 2 ^ 40) }
+            × (extent_cells a.sizes ≤ most_cells) }
         requires padded { length body.now % 8 ≡ 0 }
         requires low { length body.now < 2 ^ 16 }
         ensures header_full { (result ≡ Err AddFault.HeaderFull) ↔ IsTrue (has_full_header self.old number) }
         ensures image_full { (result ≡ Err AddFault.ImageFull)
             ↔ (IsFalse (has_full_header self.old number)
-            × (2 ^ 31 < length self.old.image + (32 + length body.now))) }
+            × (most_bytes < length self.old.image + (32 + length body.now))) }
         ensures refused { OnErr result (self.new ≡ self.old) }
         ensures sound { IsSound self.new }
         ensures changed { OnOk result ((name : List ℕ) → (a : Attribute)

@@ -1,6 +1,7 @@
 //! Where an image ends, as its superblock says it (File Format Specification 3.0, section II.A).
 
-ghost use Rattle.std.specs.Prelude.{◌≡◌, ◌≤◌, ◌^◌, ◌∷◌, [], length};
+ghost use Rattle.std.specs.Prelude.{◌≡◌, ◌≤◌, ◌∷◌, [], length};
+ghost use Rattle.h5_model.specs.Format.Limits.{most_bytes};
 ghost use Rattle.h5_model.specs.Format.Superblock.{end_field as field_in, end_of_file as end_in, k_values, superblock_length};
 ghost use Rattle.h5_space.specs.Moves.{Moves};
 
@@ -12,7 +13,7 @@ use h5_space::{Image, end_field, end_of_file};
 /// That the superblock is there, and that the image has at most 2147483648 bytes, are the caller's conditions.
 pub(super) fn write_end(image: &mut Image)
     requires superblock { superblock_length image.old.bytes ≤ length image.old.bytes }
-    requires small { length image.old.bytes ≤ 2 ^ 31 }
+    requires small { length image.old.bytes ≤ most_bytes }
     ensures end { end_in image.new.bytes ≡ length image.new.bytes }
     ensures length { length image.new.bytes ≡ length image.old.bytes }
     ensures k { k_values image.new.bytes ≡ k_values image.old.bytes }

@@ -1,7 +1,8 @@
 //! Links put into a group where it stands (File Format Specification 3.0, sections III.A.1, III.B, III.D and IV.A.1.a).
 
-ghost use Rattle.std.specs.Prelude.{◌≡◌, ◌↔◌, ◌+◌, ◌^◌, ◌<◌, ◌≤◌, Err, IsSome, None, OnErr, OnOk, length};
+ghost use Rattle.std.specs.Prelude.{◌≡◌, ◌↔◌, ◌+◌, ◌<◌, ◌≤◌, Err, IsSome, None, OnErr, OnOk, length};
 ghost use Rattle.h5_model.specs.Format.Addresses.{SymbolTable};
+ghost use Rattle.h5_model.specs.Format.Limits.{most_bytes};
 ghost use Rattle.h5_model.specs.Format.Messages.{prefix_at, reference_count};
 ghost use Rattle.h5_model.specs.Format.PlainLength.{link_span};
 ghost use Rattle.h5_model.specs.Tree.Links.{tree_link, tree_target};
@@ -53,7 +54,7 @@ impl Opened {
         ensures full { (table : SymbolTable) → IsGroupOf self.old parent table
             → (result ≡ Err (InsertFault.Space SpaceFault.ImageFull))
             ↔ ((IsFullFor self.old.image table link.now.name.now → ⊥)
-            × (2 ^ 31 < length self.old.image
+            × (most_bytes < length self.old.image
             + link_room self.old.image table (link_span (tree_link link.now)))) }
         ensures refused { OnErr result (self.new ≡ self.old) }
     {

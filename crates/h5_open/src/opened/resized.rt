@@ -1,9 +1,10 @@
 //! An array given other sizes where it stands (File Format Specification 3.0, sections III.A.1, IV.A.1.a and IV.A.2.b).
 
-ghost use Rattle.std.specs.Prelude.{◌≡◌, ◌↔◌, ◌+◌, ◌^◌, ◌<◌, ◌≤◌, ◌∷◌, [], ◌&&◌, Bool, Err, IfOk, IsFalse, IsTrue, OnErr, OnOk, false, length, true};
+ghost use Rattle.std.specs.Prelude.{◌≡◌, ◌↔◌, ◌+◌, ◌<◌, ◌≤◌, ◌∷◌, [], ◌&&◌, Bool, Err, IfOk, IsFalse, IsTrue, OnErr, OnOk, false, length, true};
 ghost use Rattle.std.specs.FinMap.{get};
 ghost use Rattle.std.specs.Option.{option_copied};
 ghost use Rattle.h5_model.specs.Edits.Applied.{with_sizes, with_dataset};
+ghost use Rattle.h5_model.specs.Format.Limits.{most_bytes, most_dimensions};
 ghost use Rattle.h5_model.specs.Tree.Objects.{with_object};
 ghost use Rattle.h5_model.specs.Format.Described.{Described};
 ghost use Rattle.h5_header.specs.Listed.{messages_in};
@@ -66,7 +67,7 @@ impl Opened {
         ensures image_full { (lacks : Bool) → LacksMaxima self.old.image (get self.old.table number) lacks
             → (result ≡ Err AddFault.ImageFull)
             ↔ (IsFalse (lacks && has_full_header self.old number)
-            × (2 ^ 31 < length self.old.image + extent_bytes lacks sizes.now)) }
+            × (most_bytes < length self.old.image + extent_bytes lacks sizes.now)) }
         ensures refused { OnErr result (self.new ≡ self.old) }
     {
         let object = self.index.objects[number as usize].as_mut().unwrap();
@@ -92,7 +93,7 @@ fn resize_object(
     requires trimmed { object.old.tidy ≡ true → IsTrimmed image.old.bytes
         (described_in image.old.bytes object.old.messages)
         (described_in image.old.bytes object.old.messages).sizes }
-    requires short { length image.old.bytes ≤ 2 ^ 31 }
+    requires short { length image.old.bytes ≤ most_bytes }
     ensures resized { OnOk result (IsObjectResized image.old image.new object.old object.new sizes.now) }
     ensures spends { OnOk result (length image.new.bytes ≤ length image.old.bytes
         + extent_room (messages_in image.old.bytes object.old.messages.list) sizes.now) }
@@ -100,7 +101,7 @@ fn resize_object(
         ↔ IsTrue (has_no_place image.old.bytes object.old.messages) }
     ensures image_full { (result ≡ Err AddFault.ImageFull)
         ↔ (IsFalse (has_no_place image.old.bytes object.old.messages)
-        × (2 ^ 31 < length image.old.bytes
+        × (most_bytes < length image.old.bytes
         + extent_room (messages_in image.old.bytes object.old.messages.list) sizes.now)) }
     ensures same { OnErr result (object.new ≡ object.old) }
     ensures as_it_was { OnErr result (image.new ≡ record image.old {
@@ -127,17 +128,17 @@ fn resize_object(
 /// `HeaderFull` and `ImageFull`, as `Opened::resize`.
 fn bytes_for(image: &Image, messages: &Messages, sizes: &[u64]) -> Result<u64, AddFault>
     requires array { IsArrayApart image.now messages.now }
-    requires short { length image.now.bytes ≤ 2 ^ 31 }
-    requires few { length sizes.now ≤ 32 }
+    requires short { length image.now.bytes ≤ most_bytes }
+    requires few { length sizes.now ≤ most_dimensions }
     ensures bytes { IfOk result (λ n. n
         ≡ extent_room (messages_in image.now.bytes messages.now.list) sizes.now) }
-    ensures fits { IfOk result (λ n. length image.now.bytes + n ≤ 2 ^ 31) }
+    ensures fits { IfOk result (λ n. length image.now.bytes + n ≤ most_bytes) }
     ensures place { OnOk result (has_no_place image.now.bytes messages.now ≡ false) }
     ensures header_full { (result ≡ Err AddFault.HeaderFull)
         ↔ IsTrue (has_no_place image.now.bytes messages.now) }
     ensures image_full { (result ≡ Err AddFault.ImageFull)
         ↔ (IsFalse (has_no_place image.now.bytes messages.now)
-        × (2 ^ 31 < length image.now.bytes
+        × (most_bytes < length image.now.bytes
         + extent_room (messages_in image.now.bytes messages.now.list) sizes.now)) }
 {
     if !lacks_maxima(&HeaderRef::new(image, messages)) {
@@ -201,7 +202,7 @@ fn make_room(
     bytes: u64,
     outside: Option<&Outside>,
 ) -> Result<(), AllocError>
-    requires fits { length image.old.bytes + bytes ≤ 2 ^ 31 }
+    requires fits { length image.old.bytes + bytes ≤ most_bytes }
     ensures messages { OnOk result (messages.new ≡ record messages.old { room = messages.new.room }) }
     ensures place { OnOk result (0 < bytes → 1 ≤ messages.new.room) }
     ensures same { OnErr result (messages.new ≡ messages.old) }

@@ -1,8 +1,9 @@
 //! Storage made for the cells of an array where it stands (File Format Specification 3.0, sections III.A.1 and IV.A.2.i).
 
-ghost use Rattle.std.specs.Prelude.{◌≡◌, ◌↔◌, ℕ, ◌+◌, ◌^◌, ◌<◌, ◌≤◌, Err, IfOk, OnErr, OnOk, Some, ◌∷◌, [], length};
+ghost use Rattle.std.specs.Prelude.{◌≡◌, ◌↔◌, ℕ, ◌+◌, ◌<◌, ◌≤◌, Err, IfOk, OnErr, OnOk, Some, ◌∷◌, [], length};
 ghost use Rattle.std.specs.List.{Contains};
 ghost use Rattle.h5_model.specs.Edits.Applied.{with_dataset};
+ghost use Rattle.h5_model.specs.Format.Limits.{most_bytes};
 ghost use Rattle.h5_model.specs.Tree.Objects.{with_object};
 ghost use Rattle.h5_model.specs.Views.Selection.{Slab, selection_of};
 ghost use Rattle.h5_model.specs.Format.Described.{Described};
@@ -67,7 +68,7 @@ impl Opened {
         ensures full { (a : Described) → IsArrayThere self.old number a
             → (result ≡ Err (InsertFault.Space SpaceFault.ImageFull))
             ↔ ((IsDeepFor self.old.image a missing.now 0 → ⊥)
-            × (2 ^ 31 < length self.old.image + storage_bytes self.old.image a missing.now)) }
+            × (most_bytes < length self.old.image + storage_bytes self.old.image a missing.now)) }
         ensures refused { OnErr result (self.new ≡ self.old) }
     {
         let object = self.index.objects[number as usize].as_ref().unwrap();
@@ -95,7 +96,7 @@ fn make_all_or_none(
     requires array { IsArrayApart image.old messages.now }
     requires missing { (slab : Slab)
         × IsMissing image.old.bytes (described_in image.old.bytes messages.now) slab missing.now }
-    requires short { length image.old.bytes ≤ 2 ^ 31 }
+    requires short { length image.old.bytes ≤ most_bytes }
     ensures made { OnOk result ((slab : Slab)
         → IsMissing image.old.bytes (described_in image.old.bytes messages.now) slab missing.now
         → IsStorageMade image.old image.new messages.now slab missing.now) }
@@ -110,7 +111,7 @@ fn make_all_or_none(
         → result ≡ Err InsertFault.TreeTooDeep }
     ensures full { (result ≡ Err (InsertFault.Space SpaceFault.ImageFull))
         ↔ ((IsDeepFor image.old.bytes (described_in image.old.bytes messages.now) missing.now 0 → ⊥)
-        × (2 ^ 31 < length image.old.bytes
+        × (most_bytes < length image.old.bytes
         + storage_bytes image.old.bytes (described_in image.old.bytes messages.now) missing.now)) }
     ensures refused { OnErr result (image.new ≡ image.old) }
 {

@@ -3,6 +3,7 @@
 
 ghost use Rattle.std.specs.Prelude.{◌≡◌, ◌^◌, ◌<◌, ◌≤◌, IsTrue, OnErr, OnOk, Some, length, slice_get};
 ghost use Rattle.std.specs.List.{Contains};
+ghost use Rattle.h5_model.specs.Format.Limits.{most_bytes};
 ghost use Rattle.h5_model.specs.Format.Symbols.{Target};
 ghost use Rattle.h5_space.specs.Whole.{IsApart};
 ghost use Rattle.h5_group.specs.Exact.{HasExactKeys};
@@ -83,7 +84,7 @@ fn take_link(
 ) -> Result<(), AllocError>
     requires group { IsGroupApart image.old table }
     requires exact { IsTrue exact → HasExactKeys image.old.bytes table }
-    requires short { length image.old.bytes ≤ 2 ^ 31 }
+    requires short { length image.old.bytes ≤ most_bytes }
     requires there { (t : Target) × Contains (links_told image.old.bytes table) (name.now, t) }
     requires few { calls < 2 ^ 63 }
     ensures taken { OnOk result (IsLinkTaken image.old image.new table name.now) }

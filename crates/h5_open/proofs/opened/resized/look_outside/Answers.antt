@@ -2,6 +2,7 @@ use Rattle.std.proofs.Common.{◌≡◌, ◌≤◌, ℕ, List, length, sym, ap, 
 use Rattle.std.proofs.lemmas.List.{length-take-le}
 use Rattle.h5_header.specs.Listed.{Listed, messages_in}
 use Rattle.h5_model.specs.Format.Described.{Described, HasArray}
+use Rattle.h5_model.specs.Format.Limits.{most_dimensions}
 use Rattle.h5_layout.proofs.KeptLaws.{length-smaller}
 use Rattle.h5_layout.specs.ArrayEdits.{described_in}
 use Rattle.h5_layout.specs.Kept.{smaller_sizes}
@@ -10,7 +11,7 @@ use Rattle.h5_layout.proofs.ExtentBounds.{few_sizes}
 use Rattle.h5_open.proofs.opened.resized.look_outside.Goals as goal
 
 -- there are as many sizes as a message has
-few : (image : List ℕ) (m : Listed) (ms : HasArray (messages_in image m.list) (described_in image m)) (old : List ℕ) → old ≡ (described_in image m).sizes → length old ≤ 32
+few : (image : List ℕ) (m : Listed) (ms : HasArray (messages_in image m.list) (described_in image m)) (old : List ℕ) → old ≡ (described_in image m).sizes → length old ≤ most_dimensions
 few image m has old same = omega (arith, few_sizes (messages_in image m.list) (described_in image m) has, ap length same)
 
 pub returns-then-lacks_tree : goal.returns-then-lacks_tree

@@ -1,7 +1,7 @@
 use Rattle.std.proofs.Common.{◌≡◌, ℕ, ◌<◌, ◌≤◌, List, false, length, get_or, ap, subst, sym}
 use Rattle.h5_layout.specs.GridKept.{GridKept}
 use Rattle.h5_layout.proofs.GridLaws.{none_zero}
-use Rattle.h5_layout.proofs.index.ChunkIndex.seek.Goals as goal
+use Rattle.h5_layout.proofs.index.ChunkIndex.find_row.Goals as goal
 
 pub new-chunk-requires-clause-some : goal.new-chunk-requires-clause-some
 new-chunk-requires-clause-some c =
