@@ -1,6 +1,7 @@
 -- Stored chunks that stand beside one another, along the last dimension, and were found (File Format Specification 3.0, section III.A.1).
 use Rattle.std.specs.Prelude.{◌≡◌, ℕ, ◌+◌, ◌-◌, ◌*◌, ◌<◌, ◌==◌, if◌then◌else◌, IfSome, Option, None, Some, List, length, get_or, replicate, set}
 use Rattle.std.specs.FinMap.{get}
+use Rattle.std.specs.Option.{option_and_then}
 use Rattle.h5_model.specs.Format.Chunks.{Chunks}
 use Rattle.h5_model.specs.Tree.Places.{cells, index_of}
 use Rattle.h5_shape.specs.InBox.{IsCorner}
@@ -30,6 +31,10 @@ IsNumberBeside chunk first corner number = IfSome number (λ k. corner ≡ corne
 pub record AreChunksBeside (chunks : Chunks) (sizes chunk : List ℕ) (found : FoundChunks) : Type 0 where
   pub first : IsFirstCell sizes chunk found.first
   pub at : (k : ℕ) → IfSome (address_kept (get_or found.at k 0)) (λ at. get chunks (corner_beside chunk (index_of sizes found.first.place) k) ≡ Some at)
+
+-- the address of the chunk with this number, where it was found
+abbrev pub address_found : FoundChunks → Option ℕ → Option ℕ
+address_found found number = option_and_then (λ k. address_kept (get_or found.at k 0)) number
 
 -- one chunk alone
 abbrev pub only_chunk : ChunkCorner → ℕ → FoundChunks

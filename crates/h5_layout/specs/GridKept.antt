@@ -1,12 +1,13 @@
 -- An array in chunks, and what was found of it last (File Format Specification 3.0, section III.A.1).
-use Rattle.std.specs.Prelude.{◌≡◌, ℕ, ◌+◌, ◌-◌, ◌<◌, ◌≤◌, None, IfSome, List, length, get_or, min, replicate}
+use Rattle.std.specs.Prelude.{◌≡◌, ℕ, ◌+◌, ◌-◌, ◌<◌, ◌≤◌, None, IfSome, IsSome, List, length, get_or, min, option_map, replicate}
 use Rattle.h5_chunks.specs.Cursor.{IsCursor}
 use Rattle.h5_chunks.specs.Told.{chunks_told}
 use Rattle.h5_model.specs.Format.Reached.{Shape}
 use Rattle.h5_model.specs.Tree.Grid.{corner_of}
 use Rattle.h5_model.specs.Tree.Places.{cells, index_of}
 use Rattle.h5_layout.specs.ChunkCells.{AreBeside, Grid, IsGrid, chunk_of, left_in_row, place_in_chunk}
-use Rattle.h5_layout.specs.FoundChunks.{AreChunksBeside, IsFirstCell, IsNumberBeside}
+use Rattle.h5_layout.specs.FoundChunks.{AreChunksBeside, IsFirstCell, IsNumberBeside, address_found}
+use Rattle.h5_layout.specs.declared.beside.FoundChunks.{FoundChunks}
 use Rattle.h5_layout.specs.declared.beside.RowCursor.{RowCursor}
 use Rattle.h5_layout.specs.declared.grid.ChunkRow.{ChunkRow}
 use Rattle.h5_layout.specs.declared.index.FoundRow.{FoundRow}
@@ -47,6 +48,17 @@ abbrev pub next_cells : List ℕ → List ℕ → FoundRow → ℕ
 next_cells sizes chunk row =
     let width = get_or chunk (length sizes - 1) 0 in
     min width (get_or sizes (length sizes - 1) 0 - (row.corner.column + width))
+
+-- the row goes on in the next chunk, which has the cell at this place in it
+pub record GoesOn (sizes chunk : List ℕ) (row : FoundRow) (place : ℕ) : Type 0 where
+  pub next : HasNext sizes chunk row
+  pub since : row.start + row.cells ≤ place
+  pub until : place < row.start + row.cells + next_cells sizes chunk row
+
+-- and the next chunk is one of those that were found
+abbrev pub GoesOnFound : List ℕ → List ℕ → FoundChunks → FoundRow → ℕ → Type 0
+GoesOnFound sizes chunk found row place =
+    GoesOn sizes chunk row place × IsSome (address_found found (option_map (λ k. k + 1) row.number))
 
 -- the chunks of an array stand in its image, and what was found of them last is so, if anything was
 pub record IsFoundIn (g : Grid) (found : RowCursor) (last : FoundRow) : Type 0 where

@@ -1,10 +1,10 @@
 //! Chunks that stand beside one another, as they were found (File Format Specification 3.0, section III.A.1).
 
-ghost use Rattle.std.specs.Prelude.{◌≡◌, ℕ, IfSome, List, Some};
+ghost use Rattle.std.specs.Prelude.{◌≡◌, ◌⊎◌, ◌^◌, ◌≤◌, ℕ, IfSome, List, MatchOption, Some};
 ghost use Rattle.std.specs.FinMap.{get};
 ghost use Rattle.h5_model.specs.Format.Chunks.{Chunks};
 ghost use Rattle.h5_model.specs.Tree.Places.{index_of};
-ghost use Rattle.h5_layout.specs.FoundChunks.{AreChunksBeside, IsFirstCell, IsNumberBeside, address_kept, only_chunk};
+ghost use Rattle.h5_layout.specs.FoundChunks.{AreChunksBeside, IsFirstCell, IsNumberBeside, address_found, address_kept, only_chunk};
 ghost use Rattle.h5_layout.specs.GridKept.{no_chunk_found};
 
 use h5_chunks::ChunkCursor;
@@ -60,7 +60,8 @@ impl FoundChunks {
     /// The address of the chunk with this number, where it was found.
     #[inline(always)]
     pub(crate) fn address_of(&self, number: Option<u64>) -> Option<u64>
-        ensures { (chunks : Chunks) (sizes chunk corner : List ℕ)
+        ensures exact { result ≡ address_found self.now number }
+        ensures stored { (chunks : Chunks) (sizes chunk corner : List ℕ)
             → AreChunksBeside chunks sizes chunk self.now
             → IsNumberBeside chunk (index_of sizes self.now.first.place) corner number
             → IfSome result (λ at. get chunks corner ≡ Some at) }
@@ -120,7 +121,7 @@ impl FoundChunks {
 /// An address as it is kept, if it can be.
 #[inline(always)]
 fn kept_address(at: u64) -> Option<u32>
-    ensures { IfSome result (λ kept. address_kept kept ≡ Some at) }
+    ensures { MatchOption result (at ≡ 0 ⊎ 2 ^ 32 ≤ at) (λ kept. address_kept kept ≡ Some at) }
 {
     match u32::try_from(at) {
         Ok(kept) if kept != 0 => Some(kept),

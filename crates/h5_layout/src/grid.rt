@@ -1,6 +1,6 @@
 //! The cells of an array in chunks (File Format Specification 3.0, section III.A.1).
 
-ghost use Rattle.std.specs.Prelude.{◌≡◌, ℕ, List, ◌+◌, ◌-◌, ◌*◌, ◌^◌, ◌<◌, ◌≤◌, IfSome, IsTrue, length, get_or, option_map};
+ghost use Rattle.std.specs.Prelude.{◌≡◌, ◌↔◌, ℕ, List, ◌+◌, ◌-◌, ◌*◌, ◌^◌, ◌<◌, ◌≤◌, IfSome, IsFalse, IsTrue, length, get_or, option_map};
 ghost use Rattle.std.specs.FinMap.{get};
 ghost use Rattle.std.specs.List.{AllByRecursion};
 ghost use Rattle.h5_model.specs.Format.Limits.{most_cells, most_chunk_bytes};
@@ -11,7 +11,7 @@ ghost use Rattle.h5_chunks.specs.Shapes.{AreChunkSizes};
 ghost use Rattle.h5_chunks.specs.Told.{chunks_told};
 ghost use Rattle.h5_layout.specs.ChunkCells.{AreBeside, AreChunkBytes, IsGrid, chunk_of, place_in_chunk};
 ghost use Rattle.h5_layout.specs.FoundChunks.{AreChunksBeside, IsFirstCell, IsNumberBeside};
-ghost use Rattle.h5_layout.specs.GridKept.{HasNext, IsFoundIn, IsRowOf, next_cells};
+ghost use Rattle.h5_layout.specs.GridKept.{GoesOn, GoesOnFound, HasNext, IsFoundIn, IsRowOf, next_cells};
 
 use crate::beside::{ChunkCorner, FoundChunks, RowCursor};
 use crate::index::FoundRow;
@@ -255,6 +255,9 @@ impl<'a, 'g> GridRef<'a, 'g> {
         requires row { 0 < row.old.cells → IsRowOf self.now row.old }
         requires number { IsNumberBeside self.now.shape.sizes (index_of self.now.sizes beside.now.first.place)
             (index_of self.now.sizes row.old.corner.place) row.old.number }
+        ensures exact { IsTrue result
+            ↔ GoesOnFound self.now.sizes self.now.shape.sizes beside.now row.old place }
+        ensures same { IsFalse result → row.new ≡ row.old }
         ensures row { 0 < row.new.cells → IsRowOf self.now row.new }
         ensures number { IsNumberBeside self.now.shape.sizes (index_of self.now.sizes beside.now.first.place)
             (index_of self.now.sizes row.new.corner.place) row.new.number }
@@ -336,10 +339,7 @@ impl<'a, 'g> GridRef<'a, 'g> {
     /// Whether the row goes on in the next chunk, which has the cell at this place in it.
     #[inline(always)]
     fn goes_on(&self, row: &FoundRow, place: u64) -> bool
-        ensures next { IsTrue result → HasNext self.now.sizes self.now.shape.sizes row.now }
-        ensures since { IsTrue result → row.now.start + row.now.cells ≤ place }
-        ensures until { IsTrue result → place < row.now.start + row.now.cells
-            + next_cells self.now.sizes self.now.shape.sizes row.now }
+        ensures { IsTrue result ↔ GoesOn self.now.sizes self.now.shape.sizes row.now place }
     {
         if self.sizes.is_empty() || row.cells == 0 || place < row.start {
             return false;

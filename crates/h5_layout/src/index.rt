@@ -1,11 +1,11 @@
 //! The chunks of an array by its sizes, those of a chunk, and their tree (File Format Specification 3.0, section III.A.1).
 
-ghost use Rattle.std.specs.Prelude.{◌≡◌, ◌+◌, ◌*◌, ◌<◌, ◌≤◌, IfSome, IsTrue, length};
+ghost use Rattle.std.specs.Prelude.{◌≡◌, ◌↔◌, ◌+◌, ◌*◌, ◌<◌, ◌≤◌, IfSome, IsFalse, IsTrue, length};
 ghost use Rattle.h5_model.specs.Format.Limits.{most_chunk_bytes};
 ghost use Rattle.h5_model.specs.Tree.Places.{cells as cells_of};
 ghost use Rattle.h5_chunks.specs.Shapes.{AreChunkSizes};
 ghost use Rattle.h5_layout.specs.ChunkCells.{AreBeside, Grid, IsGrid, chunk_of, place_in_chunk};
-ghost use Rattle.h5_layout.specs.GridKept.{IsChunkRow, IsGridKept, IsRowOf, grid_in, no_row, no_chunk_found};
+ghost use Rattle.h5_layout.specs.GridKept.{GoesOnFound, IsChunkRow, IsGridKept, IsRowOf, grid_in, no_row, no_chunk_found};
 
 use crate::beside::{ChunkCorner, RowCursor};
 use crate::grid::{ChunkRow, GridRef, chunk_bytes, copy_short_sizes};
@@ -181,6 +181,9 @@ impl ChunkIndex {
     fn step_row(&mut self, image: &Image, place: u64) -> bool
         requires kept { IsGridKept image.now.bytes self.old }
         requires below { place < cells_of self.old.sizes }
+        ensures exact { IsTrue result
+            ↔ GoesOnFound self.old.sizes self.old.shape.sizes self.old.cursor.beside self.old.row place }
+        ensures unchanged { IsFalse result → self.new ≡ self.old }
         ensures same { self.new ≡ record self.old { row = self.new.row } }
         ensures kept { IsGridKept image.now.bytes self.new }
         ensures since { IsTrue result → self.new.row.start ≤ place }
