@@ -6,14 +6,15 @@ use Rattle.std.proofs.lemmas.List.{get_or-set_same, length-set, set-get_or, set-
 use Rattle.std.proofs.lemmas.Nat.{div-mul-add, le-div}
 use Rattle.h5_model.specs.Format.Chunks.{Chunks}
 use Rattle.h5_model.specs.Tree.Grid.{corner_of}
-use Rattle.h5_model.specs.Tree.Places.{cells, index_of}
+use Rattle.h5_model.specs.Tree.Places.{cells, index_of, place_of}
+use Rattle.h5_model.proofs.PlaceLaws.{place-index}
 use Rattle.h5_shape.proofs.GridBoxes.{length-index_of}
 use Rattle.h5_shape.specs.InBox.{IsCorner}
 use Rattle.h5_layout.specs.FoundChunks.{AreChunksBeside, IsFirstCell, corner_beside, address_kept, only_chunk}
 use Rattle.h5_layout.specs.declared.beside.ChunkCorner.{ChunkCorner}
 use Rattle.h5_layout.specs.declared.beside.FoundChunks.{FoundChunks}
 use Rattle.h5_layout.proofs.BesideLaws.{last_of, some_last}
-use Rattle.h5_layout.proofs.IndexRows.{index_last, index_on, index_zero}
+use Rattle.h5_layout.proofs.IndexRows.{index_last, index_on, index_zero, row_inside}
 
 -- ---- the first index of a chunk
 
@@ -98,6 +99,37 @@ number_beside sizes chunk first corner rank some more from to up columns_up same
     ∙ index_on sizes p d some low row
     ∙ ap (set is last) step
     ∙ ap (λ (n : ℕ). set is n (get_or is n 0 + d / c * get_or chunk n 0)) (sym here)
+
+-- a chunk that stands behind another begins as many places on as columns
+pub beside_apart : (sizes chunk : List ℕ) (first corner : ChunkCorner) (k : ℕ) → 0 < length sizes → 0 < cells sizes → IsFirstCell sizes chunk first
+    → IsFirstCell sizes chunk corner → index_of sizes corner.place ≡ corner_beside chunk (index_of sizes first.place) k
+    → (d : ℕ) × (corner.place ≡ first.place + d) × (corner.column ≡ first.column + d)
+beside_apart sizes chunk first corner k some more from to beside =
+    let last : ℕ = length sizes - 1 in
+    let p : ℕ = first.place in
+    let d : ℕ = k * get_or chunk last 0 in
+    let is : List ℕ = index_of sizes p in
+    let low : p < cells sizes = from.inside more in
+    let there : corner.place < cells sizes = to.inside more in
+    let long : length is ≡ length sizes = length-index_of sizes p in
+    let here : length is - 1 ≡ last = ap (λ n. n - 1) long in
+    let on : index_of sizes corner.place ≡ set is last (get_or is last 0 + d)
+    = beside ∙ ap (λ (n : ℕ). set is n (get_or is n 0 + k * get_or chunk n 0)) here in
+    let column : corner.column ≡ first.column + d
+    = to.column
+    ∙ ap (λ (index : List ℕ). get_or index last 0) on
+    ∙ get_or-set_same is last (get_or is last 0 + d) 0 (omega (arith, long, some))
+    ∙ ap (λ n. n + d) (sym from.column) in
+    let wide : 0 < last_of sizes = some_last sizes p some low in
+    let before : first.column ≡ p % last_of sizes = from.column ∙ index_last sizes p some low in
+    let after : corner.column ≡ corner.place % last_of sizes = to.column ∙ index_last sizes corner.place some there in
+    let inside : corner.place % last_of sizes < last_of sizes = omega (arith, wide) in
+    let row : p % last_of sizes + d < last_of sizes = omega (arith, column, before, after, inside) in
+    let same : index_of sizes corner.place ≡ index_of sizes (p + d) = on ∙ sym (index_on sizes p d some low row) in (
+      d,
+      sym (place-index sizes corner.place there) ∙ ap (place_of sizes) same ∙ place-index sizes (p + d) (row_inside sizes p d some low row),
+      column,
+    )
 
 -- none behind itself
 pub beside_itself : (chunk corner : List ℕ) → corner_beside chunk corner 0 ≡ corner

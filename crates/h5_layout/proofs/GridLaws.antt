@@ -18,6 +18,7 @@ use Rattle.h5_model.specs.Tree.Grid.{inner_of}
 use Rattle.h5_model.specs.Tree.Places.{cells, index_of}
 use Rattle.h5_model.proofs.PlaceLaws.{place_below}
 use Rattle.h5_layout.specs.ChunkCells.{AreBeside, Grid, IsGrid, place_in_chunk}
+use Rattle.h5_layout.specs.GridKept.{GridKept}
 use Rattle.h5_layout.proofs.LocateLaws.{inner_inside, some_cells}
 use Rattle.h5_laws.proofs.Lists.{In, in_all, in_map}
 use Rattle.h5_laws.proofs.Maps.{found_entry}
@@ -65,6 +66,11 @@ none_zero (c ∷ cs) some =
     let here : 1 ≤ c = some 0 (omega arith) in
     let rest : list_any (λ n. n == 0) cs ≡ false = none_zero cs (λ d low. some (suc d) (omega (arith, low))) in
     grind (arith, nat_tests, here, rest)
+
+-- nor of the chunks of an array
+pub none_zero_kept : (g kept : GridKept) → g ≡ kept → AreChunkSizes kept.shape.sizes → list_any (λ n. n == 0) g.shape.sizes ≡ false
+none_zero_kept g kept is sizes =
+    none_zero g.shape.sizes (subst (λ (k : GridKept). (d : ℕ) → d < length k.shape.sizes → 1 ≤ get_or k.shape.sizes d 0) (sym is) sizes.some)
 
 -- ---- slices
 

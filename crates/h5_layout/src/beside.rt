@@ -1,6 +1,6 @@
 //! Chunks that stand beside one another, as they were found (File Format Specification 3.0, section III.A.1).
 
-ghost use Rattle.std.specs.Prelude.{◌≡◌, ◌⊎◌, ◌^◌, ◌≤◌, ℕ, IfSome, List, MatchOption, Some};
+ghost use Rattle.std.specs.Prelude.{◌≡◌, ◌⊎◌, ◌^◌, ◌≤◌, ℕ, List, MatchOption, Some};
 ghost use Rattle.std.specs.FinMap.{get};
 ghost use Rattle.h5_model.specs.Format.Chunks.{Chunks};
 ghost use Rattle.h5_model.specs.Tree.Places.{index_of};
@@ -60,11 +60,7 @@ impl FoundChunks {
     /// The address of the chunk with this number, where it was found.
     #[inline(always)]
     pub(crate) fn address_of(&self, number: Option<u64>) -> Option<u64>
-        ensures exact { result ≡ address_found self.now number }
-        ensures stored { (chunks : Chunks) (sizes chunk corner : List ℕ)
-            → AreChunksBeside chunks sizes chunk self.now
-            → IsNumberBeside chunk (index_of sizes self.now.first.place) corner number
-            → IfSome result (λ at. get chunks corner ≡ Some at) }
+        ensures { result ≡ address_found self.now number }
     {
         let number = number?;
         if number >= MOST as u64 {

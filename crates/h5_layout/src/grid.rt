@@ -1,6 +1,6 @@
 //! The cells of an array in chunks (File Format Specification 3.0, section III.A.1).
 
-ghost use Rattle.std.specs.Prelude.{◌≡◌, ◌↔◌, ℕ, List, ◌+◌, ◌-◌, ◌*◌, ◌^◌, ◌<◌, ◌≤◌, IfSome, IsFalse, IsTrue, length, get_or, option_map};
+ghost use Rattle.std.specs.Prelude.{◌≡◌, ◌≢◌, ◌↔◌, ℕ, List, ◌+◌, ◌-◌, ◌*◌, ◌^◌, ◌<◌, ◌≤◌, IfNone, IfSome, IsFalse, IsTrue, length, get_or, option_map};
 ghost use Rattle.std.specs.FinMap.{get};
 ghost use Rattle.std.specs.List.{AllByRecursion};
 ghost use Rattle.h5_model.specs.Format.Limits.{most_cells, most_chunk_bytes};
@@ -10,7 +10,7 @@ ghost use Rattle.h5_chunks.specs.Read.{AreChunksRead};
 ghost use Rattle.h5_chunks.specs.Shapes.{AreChunkSizes};
 ghost use Rattle.h5_chunks.specs.Told.{chunks_told};
 ghost use Rattle.h5_layout.specs.ChunkCells.{AreBeside, AreChunkBytes, IsGrid, chunk_of, place_in_chunk};
-ghost use Rattle.h5_layout.specs.FoundChunks.{AreChunksBeside, IsFirstCell, IsNumberBeside};
+ghost use Rattle.h5_layout.specs.FoundChunks.{AreChunksBeside, IsFirstCell, IsNumberBeside, corner_beside};
 ghost use Rattle.h5_layout.specs.GridKept.{GoesOn, GoesOnFound, HasNext, IsFoundIn, IsRowOf, next_cells};
 
 use crate::beside::{ChunkCorner, FoundChunks, RowCursor};
@@ -216,7 +216,7 @@ impl<'a, 'g> GridRef<'a, 'g> {
 
     /// Makes the row that was found last one that has this place.
     #[inline(always)]
-    pub(crate) fn seek(&self, cursor: &mut RowCursor, row: &mut FoundRow, place: u64)
+    fn seek(&self, cursor: &mut RowCursor, row: &mut FoundRow, place: u64)
         requires below { place < cells_of self.now.sizes }
         requires found { IsFoundIn self.now cursor.old row.old }
         ensures found { IsFoundIn self.now cursor.new row.new }
@@ -394,10 +394,16 @@ impl<'a, 'g> GridRef<'a, 'g> {
         requires some { 0 < cells_of self.now.sizes }
         requires first { IsFirstCell self.now.sizes self.now.shape.sizes first }
         requires corner { IsFirstCell self.now.sizes self.now.shape.sizes corner }
-        ensures { IsNumberBeside self.now.shape.sizes (index_of self.now.sizes first.place)
+        ensures number { IsNumberBeside self.now.shape.sizes (index_of self.now.sizes first.place)
             (index_of self.now.sizes corner.place) result }
+        ensures none { IfNone result ((k : ℕ) → index_of self.now.sizes corner.place
+            ≢ corner_beside self.now.shape.sizes (index_of self.now.sizes first.place) k) }
     {
-        if self.sizes.is_empty() || corner.place < first.place || corner.column < first.column {
+        // Without dimensions there is one chunk.
+        if self.sizes.is_empty() {
+            return Some(0);
+        }
+        if corner.place < first.place || corner.column < first.column {
             return None;
         }
         let columns = corner.column - first.column;

@@ -52,8 +52,8 @@ impl FoundRow {
     /// Whether it has the cell at this place.
     #[inline(always)]
     pub(crate) fn has(&self, place: u64) -> bool
-        ensures since { IsTrue result → self.now.start ≤ place }
-        ensures until { IsTrue result → place < self.now.start + self.now.cells }
+        ensures { IsTrue result
+            ↔ ((self.now.start ≤ place) × (place < self.now.start + self.now.cells)) }
     {
         place >= self.start && place - self.start < self.cells
     }

@@ -3,6 +3,10 @@ use Rattle.std.specs.Prelude.{◌≡◌, ℕ, Option, List, ◌++◌, Result, Ok
 use Rattle.std.specs.Io.KnownBytes.{Appends}
 use Rattle.h5_text.specs.declared.streams.PrintFault.{PrintFault}
 
+-- the most bytes that a buffer holds back between two writes
+abbrev pub most_held : ℕ
+most_held = 65536
+
 -- a beginning of the text was written
 pub record WritesSome (old new : Option (List ℕ)) (text : List ℕ) : Type 0 where
   pub told : List ℕ

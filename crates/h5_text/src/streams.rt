@@ -1,8 +1,8 @@
 //! Texts that are written to a stream. No write is tried again.
 
-ghost use Rattle.std.specs.Prelude.{◌≡◌, ◌≤◌, [], MatchResult, OnOk, length};
+ghost use Rattle.std.specs.Prelude.{◌≡◌, ◌≤◌, [], IsOk, MatchResult, OnOk, length};
 ghost use Rattle.std.specs.Io.KnownBytes.{Appends, Keeps};
-ghost use Rattle.h5_text.specs.Printed.{Prints, WritesSome};
+ghost use Rattle.h5_text.specs.Printed.{Prints, WritesSome, most_held};
 ghost use Rattle.h5_text.specs.declared.streams.PrintFault.TheVariants.{WriteFailed};
 
 use std::alloc::AllocError;
@@ -73,7 +73,9 @@ pub fn flush<W: Write>(output: &mut W) -> Result<(), PrintFault>
 pub fn write_full<W: Write>(output: &mut W, held: &mut Vec<u8>) -> Result<(), PrintFault>
     ensures printed { Prints result (W.contents output.old) (W.contents output.new) held.old.items
         held.new.items [] }
-    ensures few { OnOk result (length held.new.items ≤ 65536) }
+    ensures few { OnOk result (length held.new.items ≤ most_held) }
+    ensures small { length held.old.items ≤ most_held
+        → IsOk result × (output.new ≡ output.old) × (held.new ≡ held.old) }
 {
     if held.len() > KEPT {
         write_text(output, held)?;

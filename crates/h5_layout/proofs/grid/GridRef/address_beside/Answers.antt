@@ -12,6 +12,6 @@ returns-clause-beside c =
     let corner = index_of now.sizes c.args.corner.place in
     let known : IsNumberBeside now.shape.sizes first corner c.match-number.behind = elim c.match-number.branch [
       | in-Some w ↦ subst (IsNumberBeside now.shape.sizes first corner) (sym w.behind-is) (subst (IsNumberBeside now.shape.sizes first corner) w.in-Some.is c.requires.number)
-      | in-None w ↦ subst (IsNumberBeside now.shape.sizes first corner) (sym w.behind-is) w.number_of-behind.ensures
+      | in-None w ↦ subst (IsNumberBeside now.shape.sizes first corner) (sym w.behind-is) w.number_of-behind.ensures.number
     ] in
     c.put.ensures.beside (chunks_told now.image now.shape now.root) now.sizes now.shape.sizes c.requires.corner c.requires.beside known (sym c.in_ok-at.ensures.exact)

@@ -1,6 +1,5 @@
 use Rattle.std.proofs.Common.{ap, subst, sym}
 use Rattle.h5_layout.specs.GridKept.{GridKept, IsChunkRow, IsRowOf, grid_in}
-use Rattle.h5_layout.specs.declared.index.FoundRow.{FoundRow}
 use Rattle.h5_layout.proofs.FoundRows.{row_found}
 use Rattle.h5_layout.proofs.index.ChunkIndex.row_at.Goals as goal
 use Rattle.h5_layout.proofs.index.ChunkIndex.row_at.Goals.{After-cells_from}
