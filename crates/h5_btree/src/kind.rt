@@ -2,6 +2,7 @@
 
 ghost use Rattle.std.specs.Prelude.{◌≡◌, ◌*◌, ◌≤◌};
 ghost use Rattle.h5_model.specs.Format.Limits.{most_dimensions};
+ghost use Rattle.h5_model.specs.Format.Superblock.{highest_k};
 ghost use Rattle.h5_model.specs.Format.Nodes.{chunk_kind, group_kind, node_length as length_of};
 
 use std::marker::Model;
@@ -17,12 +18,13 @@ pub struct NodeKind {
 impl Model for NodeKind {
     ghost use Rattle.std.specs.Prelude.{◌≤◌};
     ghost use Rattle.h5_model.specs.Format.Nodes.{Kind};
+    ghost use Rattle.h5_model.specs.Format.Superblock.{highest_k};
 
     ghost Value = { Kind };
 
     ghost view = { λ a. record { type_byte = a.type_byte; key_length = a.key_length; k = a.k } };
 
-    ghost invariant = { λ a. (8 ≤ a.key_length) × (a.key_length ≤ 272) × (a.k ≤ 32767) };
+    ghost invariant = { λ a. (8 ≤ a.key_length) × (a.key_length ≤ 272) × (a.k ≤ highest_k) };
 
     ghost inverse = { λ d. record { type_byte = d.type_byte; key_length = d.key_length; k = d.k } };
 }
@@ -31,7 +33,7 @@ impl NodeKind {
     /// The tree of a group. A key is the offset of a name in the group's heap. That K is at most 32767 is the caller's
     /// condition.
     pub fn group(k: u16) -> Self
-        requires { k ≤ 32767 }
+        requires { k ≤ highest_k }
         ensures { result ≡ group_kind k }
     {
         NodeKind {
@@ -44,7 +46,7 @@ impl NodeKind {
     /// The tree of a dataset's chunks. A key has a size, a filter mask, and an offset for each dimension and for the
     /// element. That K is at most 32767, and that there are at most 32 dimensions, is the caller's condition.
     pub fn chunks(k: u16, rank: usize) -> Self
-        requires k { k ≤ 32767 }
+        requires k { k ≤ highest_k }
         requires rank { rank ≤ most_dimensions }
         ensures { result ≡ chunk_kind k rank }
     {
@@ -82,7 +84,7 @@ impl NodeKind {
     /// How many bytes a node has.
     pub fn node_length(&self) -> usize
         ensures length { result ≡ length_of self.now }
-        ensures few { self.now.k ≤ 32767 }
+        ensures few { self.now.k ≤ highest_k }
     {
         24 + self.key_length() + self.capacity() * (self.key_length() + 8)
     }

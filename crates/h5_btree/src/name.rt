@@ -5,6 +5,7 @@ ghost use Rattle.std.specs.Prelude.{◌≤◌};
 ghost use Rattle.std.specs.Ordering.{is_lt, nat_cmp};
 ghost use Rattle.std.specs.Cmp.Lexicographic.{slice_cmp};
 ghost use Rattle.h5_bytes.specs.Texts.{text_at};
+ghost use Rattle.h5_model.specs.Format.Superblock.{highest_k};
 ghost use Rattle.h5_model.specs.Format.Links.{offset_in};
 ghost use Rattle.h5_model.specs.Format.Nodes.{group_kind};
 
@@ -21,7 +22,7 @@ pub struct SoughtName<'a> {
     pub k: u16,
     pub segment: &'a [u8],
     pub name: &'a [u8],
-    ghost few: { k ≤ 32767 },
+    ghost few: { k ≤ highest_k },
 }
 
 impl Sought for SoughtName<'_> {

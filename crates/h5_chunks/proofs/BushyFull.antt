@@ -107,7 +107,7 @@ module _ (s : Space) (shape : Shape) (root : ℕ) (chunks : AreChunksApart s sha
 
   -- a full root at level 15 has as many chunks below it as an image has bytes
   chunks_many : (low : ℕ) → 1073741824 ≤ k ^ (16 - low) → length (V root).children ≡ 2 * k → IsBushyBelow V k low 15 root
-      → 2147483648 ≤ length (leaves V 15 (root ∷ []))
+      → most_bytes ≤ length (leaves V 15 (root ∷ []))
   chunks_many low power full bushy =
       let row = (V root).children in
       let all = least_leaves V k low 14 in

@@ -14,7 +14,7 @@ use Rattle.h5_model.specs.Format.Chunks.{Chunks}
 use Rattle.h5_model.specs.Format.Links.{Before}
 use Rattle.h5_model.specs.Format.Nodes.{HasTree}
 use Rattle.h5_model.specs.Format.Reached.{Shape, shape_kind}
-use Rattle.h5_model.specs.Format.Superblock.{chunk_k}
+use Rattle.h5_model.specs.Format.Superblock.{chunk_k, highest_k}
 use Rattle.h5_model.proofs.TextOrder.{is_less}
 use Rattle.h5_laws.specs.KeyEdits.{IsPut}
 use Rattle.h5_btree.specs.Walk.Forms.{OfChunks}
@@ -101,4 +101,4 @@ module _ (old new : List ℕ) (shape : Shape) (root : ℕ) (k : chunk_k new ≡ 
   read_with inside =
       let order : AreChunksOrdered new shape root owned = record { ascending = ascending; ordered = ordered_nodes new shape root level owned list has ordered } in
       chunks_read new shape root owned list (ordered_tree new shape root level owned list has ordered) order
-      (subst (λ n. 1 ≤ n) (sym k) read.k_some) (subst (λ n. n ≤ 32767) (sym k) read.k_few) inside
+      (subst (λ n. 1 ≤ n) (sym k) read.k_some) (subst (λ n. n ≤ highest_k) (sym k) read.k_few) inside

@@ -15,7 +15,7 @@ use Rattle.h5_model.specs.Format.Chunks.{chunks_in}
 use Rattle.h5_model.specs.Format.Nodes.{HasTree, IsNode, Kind, entries_in, node_at, node_bytes, node_length, reading_of}
 use Rattle.h5_model.specs.Format.Reached.{Shape, shape_kind}
 use Rattle.h5_model.specs.Format.Rows.{Node, Reading}
-use Rattle.h5_model.specs.Format.Superblock.{chunk_k, k_values, superblock_length}
+use Rattle.h5_model.specs.Format.Superblock.{chunk_k, k_values, superblock_length, highest_k}
 use Rattle.h5_model.proofs.KLaws.{same_chunk, same_length}
 use Rattle.h5_model.proofs.MapSteps.{empty_by_name}
 use Rattle.h5_model.proofs.RowLaws.{all_listed}
@@ -143,7 +143,7 @@ module _ (t : Space) (shape : Shape) (at : ℕ) (inside : at + node_length (shap
   pub one_block : block at (node_length kind) ∷ [] ≡ chunk_blocks_told t.bytes shape at
   one_block = blocks_are t.bytes shape at (at ∷ []) [] stands
 
-  module _ (some : 1 ≤ chunk_k t.bytes) (few : chunk_k t.bytes ≤ 32767) (apart : IsApart (superblock_of t ∷ block at (node_length kind) ∷ []) t.free (length t.bytes))
+  module _ (some : 1 ≤ chunk_k t.bytes) (few : chunk_k t.bytes ≤ highest_k) (apart : IsApart (superblock_of t ∷ block at (node_length kind) ∷ []) t.free (length t.bytes))
       (long : superblock_length t.bytes ≤ length t.bytes) where
     pub root_stands : AreChunksApart t shape at
     root_stands = record {
@@ -157,7 +157,7 @@ module _ (t : Space) (shape : Shape) (at : ℕ) (inside : at + node_length (shap
 module _ (s u : Space) (shape : Shape) (at len : ℕ) (len_is : len ≡ node_length (shape_kind s.bytes shape)) (bytes : u.bytes ≡ s.bytes ++ replicate (growth len s.free) 0)
     (taken : (p : ℕ) → cover p u.free + holds p at len ≡ cover p s.free + holds p (length s.bytes) (growth len s.free)) (inside : at + len ≤ length u.bytes)
     (apart : IsApart (superblock_of s ∷ []) s.free (length s.bytes)) (long : superblock_length s.bytes ≤ length s.bytes)
-    (some : 1 ≤ chunk_k s.bytes) (few : chunk_k s.bytes ≤ 32767) where
+    (some : 1 ≤ chunk_k s.bytes) (few : chunk_k s.bytes ≤ highest_k) where
   abbrev t : Space
   t = with_bytes_at u at empty_head
 
@@ -197,7 +197,7 @@ module _ (s u : Space) (shape : Shape) (at len : ℕ) (len_is : len ≡ node_len
   pub made_stands : AreChunksApart t shape at
   made_stands =
       let k = same_chunk t.bytes s.bytes made_k in
-      root_stands t shape at within head_there (subst (λ n. 1 ≤ n) (sym k) some) (subst (λ n. n ≤ 32767) (sym k) few) beside
+      root_stands t shape at within head_there (subst (λ n. 1 ≤ n) (sym k) some) (subst (λ n. n ≤ highest_k) (sym k) few) beside
       (let more = made.grown in let same = same_length t.bytes s.bytes made_k in omega (arith, long, more, same))
 
   pub made_none : chunks_told t.bytes shape at ≡ empty

@@ -10,7 +10,7 @@ use Rattle.h5_model.specs.Format.Rows.{Reading, leaves, nodes, row_below}
 use Rattle.h5_model.specs.Format.Nodes.{HasTree, node_at, reading_of, tree_blocks}
 use Rattle.h5_model.specs.Format.Chunks.{AreChunks, HasChunkKeys, IsChunkKey, IsChunkOrdered, chunks_at, chunks_in}
 use Rattle.h5_model.specs.Format.Reached.{Shape, level_at, shape_kind}
-use Rattle.h5_model.specs.Format.Superblock.{chunk_k}
+use Rattle.h5_model.specs.Format.Superblock.{chunk_k, highest_k}
 use Rattle.h5_model.proofs.OneTree.{children_are, level_is, owned_is}
 use Rattle.h5_model.proofs.RowLaws.{row_below-same}
 use Rattle.h5_laws.specs.ChunkLadders.{chunk_lists, chunk_sides}
@@ -107,7 +107,7 @@ module _ (image : List ℕ) (shape : Shape) (root : ℕ) (owned addresses : List
       ordered = own_ordered_nodes;
     }
 
-    pub chunks_read : 1 ≤ chunk_k image → chunk_k image ≤ 32767 → Inside (length image) (nodes_blocks image (OfChunks shape) owned addresses) → AreChunksRead image shape root
+    pub chunks_read : 1 ≤ chunk_k image → chunk_k image ≤ highest_k → Inside (length image) (nodes_blocks image (OfChunks shape) owned addresses) → AreChunksRead image shape root
     chunks_read some few inside = record {
       k_some = some;
       k_few = few;

@@ -13,7 +13,7 @@ use Rattle.h5_model.specs.Format.Chunks.{chunks_at, offsets_in}
 use Rattle.h5_model.specs.Format.Nodes.{HasTree, Kind, node_at, tree_blocks}
 use Rattle.h5_model.specs.Format.Reached.{Shape, shape_kind}
 use Rattle.h5_model.specs.Format.Rows.{Reading, row_below}
-use Rattle.h5_model.specs.Format.Superblock.{chunk_k, k_values}
+use Rattle.h5_model.specs.Format.Superblock.{chunk_k, k_values, highest_k}
 use Rattle.h5_model.proofs.KLaws.{same_chunk, same_length}
 use Rattle.h5_laws.specs.ChunkLadders.{rising_chunk_sides}
 use Rattle.h5_laws.specs.KeyEdits.{IsTaken}
@@ -266,7 +266,7 @@ module _ (s u : Space) (shape : Shape) (root : ℕ) (chunks : AreChunksApart s s
 
     read_now : AreChunksRead t.bytes shape root
     read_now = chunks_read t.bytes shape root own rest stands ordered (subst (λ n. 1 ≤ n) (sym same_k) (chunks.read).k_some)
-        (subst (λ n. n ≤ 32767) (sym same_k) (chunks.read).k_few) (subst (λ (k : Kind). Inside (length t.bytes) (tree_blocks k own ++ stored')) (sym kind_now) inside_now)
+        (subst (λ n. n ≤ highest_k) (sym same_k) (chunks.read).k_few) (subst (λ (k : Kind). Inside (length t.bytes) (tree_blocks k own ++ stored')) (sym kind_now) inside_now)
 
     abbrev IsApartNow : List Block → Type 0
     IsApartNow blocks = IsApart (superblock ∷ blocks) t.free (length t.bytes)

@@ -7,7 +7,7 @@ use Rattle.std.specs.Cmp.Lexicographic.{slice_cmp}
 use Rattle.std.specs.FinMap.{entries, entries-from_sorted, entries_sorted, is_sorted, same_entries_map, values}
 use Rattle.h5_bytes.specs.Blocks.{Inside, Keeps, block}
 use Rattle.h5_bytes.specs.declared.Block.{Block}
-use Rattle.h5_model.specs.Format.Superblock.{chunk_k}
+use Rattle.h5_model.specs.Format.Superblock.{chunk_k, highest_k}
 use Rattle.h5_model.specs.Format.Nodes.{reading_of, tree_blocks}
 use Rattle.h5_model.specs.Format.Chunks.{Chunks, HasChunks, chunks_at}
 use Rattle.h5_model.specs.Format.Reached.{Shape, shape_kind}
@@ -61,7 +61,7 @@ module _ (old new : List ℕ) (shape : Shape) (root : ℕ) (read : AreChunksRead
   pub chunks_read-same : Inside (length new) (chunk_blocks_told old shape root) → AreChunksRead new shape root
   chunks_read-same inside = record {
     k_some = subst (λ n. 1 ≤ n) (sym k) read.k_some;
-    k_few = subst (λ n. n ≤ 32767) (sym k) read.k_few;
+    k_few = subst (λ n. n ≤ highest_k) (sym k) read.k_few;
     stored = subst (HasChunks new (chunk_k new) shape.sizes shape.bytes root (chunks_told new shape root)) (sym chunk_blocks_told-same)
         (subst (λ (c : Chunks). HasChunks new (chunk_k new) shape.sizes shape.bytes root c (chunk_blocks_told old shape root)) (sym chunks_told-same) stays);
     inside = subst (Inside (length new)) (sym chunk_blocks_told-same) inside;

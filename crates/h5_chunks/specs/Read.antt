@@ -2,7 +2,7 @@
 use Rattle.std.specs.Prelude.{ℕ, ◌+◌, ◌≤◌, List, length}
 use Rattle.h5_bytes.specs.Blocks.{cover, Inside}
 use Rattle.h5_bytes.specs.declared.Block.{Block}
-use Rattle.h5_model.specs.Format.Superblock.{chunk_k}
+use Rattle.h5_model.specs.Format.Superblock.{chunk_k, highest_k}
 use Rattle.h5_model.specs.Format.Chunks.{Chunks, HasChunks}
 use Rattle.h5_model.specs.Format.Reached.{Shape}
 use Rattle.h5_chunks.specs.Told.{chunk_blocks_told, chunks_told}
@@ -11,7 +11,7 @@ use Rattle.h5_chunks.specs.Told.{chunk_blocks_told, chunks_told}
 -- nodes is one that an image may have.
 pub record AreChunksRead (image : List ℕ) (shape : Shape) (root : ℕ) : Type 0 where
   pub k_some : 1 ≤ chunk_k image
-  pub k_few : chunk_k image ≤ 32767
+  pub k_few : chunk_k image ≤ highest_k
   pub stored : HasChunks image (chunk_k image) shape.sizes shape.bytes root (chunks_told image shape root)
       (chunk_blocks_told image shape root)
   pub inside : Inside (length image) (chunk_blocks_told image shape root)

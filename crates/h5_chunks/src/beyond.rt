@@ -3,7 +3,7 @@
 ghost use Rattle.std.specs.Prelude.{◌≡◌, ◌≤◌, ◌∷◌, [], false, ℕ, List, IfOk, OnOk, length, not};
 ghost use Rattle.std.specs.List.{filter};
 ghost use Rattle.h5_model.specs.Format.Chunks.{chunks_in, offsets_in};
-ghost use Rattle.h5_model.specs.Format.Superblock.{chunk_k as k_of};
+ghost use Rattle.h5_model.specs.Format.Superblock.{chunk_k as k_of, highest_k};
 ghost use Rattle.h5_model.specs.Tree.Places.{is_inside};
 ghost use Rattle.h5_btree.specs.Walk.Below.{reading_in};
 ghost use Rattle.h5_btree.specs.Walk.Forms.{OfChunks};
@@ -86,7 +86,7 @@ fn push_beyond(
     sizes: &[u64],
 ) -> Result<(), AllocError>
     requires long { 26 ≤ length image.now.bytes }
-    requires few { k_of image.now.bytes ≤ 32767 }
+    requires few { k_of image.now.bytes ≤ highest_k }
     requires tree { IsChunkTree image.now.bytes shape.now level at }
     requires rank { length sizes.now ≡ length shape.now.sizes }
     requires outside { IsListOf shape.now beyond.old.outside }
@@ -142,7 +142,7 @@ fn push_chunks(
     sizes: &[u64],
 ) -> Result<(), AllocError>
     requires long { 26 ≤ length image.now.bytes }
-    requires few { k_of image.now.bytes ≤ 32767 }
+    requires few { k_of image.now.bytes ≤ highest_k }
     requires node { IsBottomNode image.now.bytes shape.now at }
     requires rank { length sizes.now ≡ length shape.now.sizes }
     requires outside { IsListOf shape.now beyond.old.outside }

@@ -3,7 +3,7 @@
 ghost use Rattle.std.specs.Prelude.{◌≡◌, ℕ, ◌+◌, ◌*◌, ◌≤◌, List, None, IfSome, length};
 ghost use Rattle.std.specs.FinMap.{get};
 ghost use Rattle.std.specs.List.{AllByRecursion};
-ghost use Rattle.h5_model.specs.Format.Superblock.{chunk_k as k_of};
+ghost use Rattle.h5_model.specs.Format.Superblock.{chunk_k as k_of, highest_k};
 ghost use Rattle.h5_chunks.specs.Cursor.{IsCursor, IsCursorAt};
 ghost use Rattle.h5_chunks.specs.Read.{AreChunksRead};
 ghost use Rattle.h5_chunks.specs.Told.{chunks_told};
@@ -85,7 +85,7 @@ fn chunk_near(
     offsets: &[u64],
 ) -> Option<u64>
     requires long { 26 ≤ length image.now.bytes }
-    requires few { k_of image.now.bytes ≤ 32767 }
+    requires few { k_of image.now.bytes ≤ highest_k }
     requires rank { length offsets.now ≡ length shape.now.sizes }
     requires keys { AllByRecursion (λ (key : List ℕ).
         length key ≡ 8 + 8 * (length offsets.now + 1)) node.now.keys }

@@ -5,7 +5,7 @@ ghost use Rattle.std.specs.FinMap.{entries, retain_keys};
 ghost use Rattle.std.specs.List.{AllByRecursion, filter};
 ghost use Rattle.h5_model.specs.Format.Chunks.{offsets_in};
 ghost use Rattle.h5_model.specs.Format.Limits.{most_dimensions};
-ghost use Rattle.h5_model.specs.Format.Superblock.{chunk_k as k_of};
+ghost use Rattle.h5_model.specs.Format.Superblock.{chunk_k as k_of, highest_k};
 ghost use Rattle.h5_model.specs.Tree.Places.{is_inside};
 ghost use Rattle.h5_btree.specs.Walk.Below.{reading_in};
 ghost use Rattle.h5_btree.specs.Walk.Forms.{OfChunks};
@@ -69,7 +69,7 @@ fn push_places<'a>(
     sizes: &[u64],
 ) -> Result<(), AllocError>
     requires long { 26 ≤ length image.now.bytes }
-    requires few { k_of image.now.bytes ≤ 32767 }
+    requires few { k_of image.now.bytes ≤ highest_k }
     requires node { IsBottomNode image.now.bytes shape.now at }
     requires rank { length sizes.now ≡ length shape.now.sizes }
     ensures held { OnOk result (map (place_entry (length shape.now.sizes)) places.new.items

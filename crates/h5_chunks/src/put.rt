@@ -9,7 +9,7 @@ ghost use Rattle.h5_model.specs.Format.Chunks.{IsChunkKey, IsOffset, offsets_in}
 ghost use Rattle.h5_model.specs.Format.Limits.{most_bytes};
 ghost use Rattle.h5_model.specs.Format.Nodes.{node_at, node_length as length_of_node};
 ghost use Rattle.h5_model.specs.Format.Reached.{shape_kind};
-ghost use Rattle.h5_model.specs.Format.Superblock.{chunk_k as k_of};
+ghost use Rattle.h5_model.specs.Format.Superblock.{chunk_k as k_of, highest_k};
 ghost use Rattle.h5_space.specs.Moves.{Spends};
 ghost use Rattle.h5_btree.specs.Insertion.{IsFullWay};
 ghost use Rattle.h5_btree.specs.Removal.{EndsSomewhere};
@@ -157,7 +157,7 @@ fn write_key_behind(key: &[u8], sizes: &[u64], out: &mut [u8])
 /// Whether the chunk at these offsets stands behind the key before the child at the end of a way.
 fn is_behind_end(image: &Image, shape: &ChunkShape<'_>, offsets: &[u64], way: &Way) -> bool
     requires ends { EndsSomewhere image.now (shape_kind image.now.bytes shape.now) way.now }
-    requires few { k_of image.now.bytes ≤ 32767 }
+    requires few { k_of image.now.bytes ≤ highest_k }
     requires rank { length offsets.now ≡ length shape.now.sizes }
     ensures { (step : Step) (above : List Step) → way.now ≡ step ∷ above
         → result ≡ chunk_behind offsets.now (slice_index_or (node_at image.now.bytes
@@ -180,7 +180,7 @@ fn let_in(
     high: &[u8],
 )
     requires ends { EndsSomewhere image.old (shape_kind image.old.bytes shape.now) way.now }
-    requires few { k_of image.old.bytes ≤ 32767 }
+    requires few { k_of image.old.bytes ≤ highest_k }
     requires rank { length offsets.now ≡ length shape.now.sizes }
     requires low { length low.now ≡ length_of_key (length shape.now.sizes) }
     requires high { length high.now ≡ length_of_key (length shape.now.sizes) }

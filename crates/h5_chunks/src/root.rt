@@ -4,7 +4,7 @@ ghost use Rattle.std.specs.Prelude.{◌≡◌, ◌+◌, ◌<◌, ◌≤◌, ◌�
 ghost use Rattle.std.specs.FinMap.{empty};
 ghost use Rattle.h5_bytes.specs.Blocks.{block};
 ghost use Rattle.h5_model.specs.Format.Limits.{most_bytes};
-ghost use Rattle.h5_model.specs.Format.Superblock.{chunk_k as k_of, k_values, superblock_length};
+ghost use Rattle.h5_model.specs.Format.Superblock.{chunk_k as k_of, k_values, superblock_length, highest_k};
 ghost use Rattle.h5_space.specs.Moves.{Moves, Spends};
 ghost use Rattle.h5_space.specs.Whole.{IsApart};
 ghost use Rattle.h5_chunks.specs.Edited.{AreChunksApart, chunk_node_length as length_of_node};
@@ -25,7 +25,7 @@ static EMPTY_HEAD: [u8; 24] =
 /// That the image has its K of the nodes of chunk trees, of at most 32767, is the caller's condition.
 pub fn chunk_node_length(image: &Image, shape: &ChunkShape<'_>) -> u64
     requires long { 26 ≤ length image.now.bytes }
-    requires few { k_of image.now.bytes ≤ 32767 }
+    requires few { k_of image.now.bytes ≤ highest_k }
     ensures { result ≡ length_of_node image.now.bytes shape.now }
 {
     shape.kind(image).node_length() as u64
@@ -40,7 +40,7 @@ pub fn make_root(image: &mut Image, shape: &ChunkShape<'_>) -> u64
         (length image.old.bytes) }
     requires long { superblock_length image.old.bytes ≤ length image.old.bytes }
     requires k_some { 1 ≤ k_of image.old.bytes }
-    requires k_few { k_of image.old.bytes ≤ 32767 }
+    requires k_few { k_of image.old.bytes ≤ highest_k }
     requires bytes { length_of_node image.old.bytes shape.now ≤ image.old.room_bytes }
     requires calls { 1 ≤ image.old.room_blocks }
     requires short { length image.old.bytes + length_of_node image.old.bytes shape.now ≤ most_bytes }

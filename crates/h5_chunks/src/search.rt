@@ -5,7 +5,7 @@ ghost use Rattle.std.specs.FinMap.{get};
 ghost use Rattle.std.specs.List.{AllByRecursion, Contains};
 ghost use Rattle.h5_model.specs.Format.Limits.{most_dimensions};
 ghost use Rattle.h5_model.specs.Format.Nodes.{chunk_kind, node_at};
-ghost use Rattle.h5_model.specs.Format.Superblock.{chunk_k as k_of};
+ghost use Rattle.h5_model.specs.Format.Superblock.{chunk_k as k_of, highest_k};
 ghost use Rattle.h5_model.specs.Format.Reached.{level_at, shape_kind};
 ghost use Rattle.h5_model.specs.Format.Rows.{row_below};
 ghost use Rattle.h5_btree.specs.Descent.{EndsAt, IsWayTo};
@@ -79,7 +79,7 @@ fn end_below(
     sought: &SoughtChunk<'_>,
 ) -> Step
     requires row { IsInSomeRow image.now.bytes (shape_kind image.now.bytes shape.now) level at }
-    requires few { k_of image.now.bytes ≤ 32767 }
+    requires few { k_of image.now.bytes ≤ highest_k }
     requires rank { length sought.now.offsets ≡ length shape.now.sizes }
     ensures ends { EndsAt (node_at image.now.bytes (shape_kind image.now.bytes shape.now))
         (chunk_behind sought.now.offsets) level at
@@ -126,20 +126,21 @@ pub(crate) struct SoughtChunk<'a> {
 
 impl<'a> Model for SoughtChunk<'a> {
     ghost use Rattle.std.specs.Prelude.{◌≤◌, length};
+    ghost use Rattle.h5_model.specs.Format.Superblock.{highest_k};
     ghost use Rattle.h5_chunks.specs.Way.{SoughtOffsets};
 
     ghost Value = { SoughtOffsets };
 
     ghost view = { λ a. record { k = a.k; offsets = a.offsets.now } };
 
-    ghost invariant = { λ a. (a.k ≤ 32767) × (length a.offsets.now ≤ 32) };
+    ghost invariant = { λ a. (a.k ≤ highest_k) × (length a.offsets.now ≤ 32) };
 }
 
 impl<'a> SoughtChunk<'a> {
     /// The chunk of this shape at these offsets, in this image.
     pub(crate) fn new(image: &Image, shape: &ChunkShape<'_>, offsets: &'a [u64]) -> Self
         requires long { 26 ≤ length image.now.bytes }
-        requires k { k_of image.now.bytes ≤ 32767 }
+        requires k { k_of image.now.bytes ≤ highest_k }
         requires rank { length offsets.now ≡ length shape.now.sizes }
         ensures k { result.k ≡ k_of image.now.bytes }
         ensures offsets { result.offsets ≡ offsets.now }

@@ -14,7 +14,7 @@ use Rattle.h5_model.specs.Edits.Refusal.{has_no_attribute, refusal_of, rules_of}
 use Rattle.h5_model.proofs.RefusalLaws.{none_holds}
 use Rattle.h5_model.specs.Edits.Touched.{touched_by}
 use Rattle.h5_model.specs.Format.Limits.{most_bytes}
-use Rattle.h5_model.specs.Format.Messages.{prefix_at, total_in}
+use Rattle.h5_model.specs.Format.Messages.{prefix_at, total_in, most_messages}
 use Rattle.h5_model.specs.Format.Sizes.{attribute_size}
 use Rattle.h5_model.specs.Format.Superblock.{leaf_k, internal_k, chunk_k}
 use Rattle.h5_model.specs.Tree.Objects.{Tree, Object, with_object}
@@ -60,8 +60,8 @@ module _ (f : FileState) (path : List ℕ) where
     said header = total_in (prefix_at f.image header)
 
     pub full_at : has_full_header f number ≡ is_total_full f path
-    full_at = by_found (get f.table number) ∙ sym (ap (λ (found : Option ℕ). nat_lt 65535 (option_map_or said (option_and_then (get f.table) found) 0 + 2)) at) where
-      by_found : (found : Option ℕ) → option_map_or (λ header. nat_lt 65535 (total_in (prefix_at f.image header) + 2)) found false ≡ nat_lt 65535 (option_map_or said found 0 + 2)
+    full_at = by_found (get f.table number) ∙ sym (ap (λ (found : Option ℕ). nat_lt most_messages (option_map_or said (option_and_then (get f.table) found) 0 + 2)) at) where
+      by_found : (found : Option ℕ) → option_map_or (λ header. nat_lt most_messages (total_in (prefix_at f.image header) + 2)) found false ≡ nat_lt most_messages (option_map_or said found 0 + 2)
       by_found None = refl
       by_found (Some header) = refl
 

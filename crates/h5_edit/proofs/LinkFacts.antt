@@ -18,6 +18,7 @@ use Rattle.h5_model.specs.Format.Heap.{segment_block}
 use Rattle.h5_model.specs.Format.Limits.{most_bytes}
 use Rattle.h5_model.specs.Format.Sizes.{group_node, symbol_node, text_span}
 use Rattle.h5_model.specs.Format.Superblock.{leaf_k, internal_k, chunk_k}
+use Rattle.h5_model.specs.Format.Messages.{most_messages}
 use Rattle.h5_model.specs.Tree.Objects.{Tree, Object, Content, Group, Array, Links, ToObject, Soft, dataset_in, dataset_of, link_in, links_in, links_of}
 use Rattle.h5_model.specs.Tree.Paths.{last_of, names_of, parent_at, parent_from}
 use Rattle.h5_model.specs.declared.dataset.Spec.{Spec}
@@ -218,7 +219,7 @@ module _ (f : FileState) (path : List ℕ) (parent : ℕ) (name : List ℕ) (edi
   bound_is full = is.bound (facts_of full).room refl refl refl
 
   no_header : (full : Bool) → is_header_full (facts_of full) edit ≡ false
-  no_header full = ap (λ (b : Bool). b && nat_lt 65535 2) (is.light (facts_of full).room)
+  no_header full = ap (λ (b : Bool). b && nat_lt most_messages 2) (is.light (facts_of full).room)
 
   -- by the answer of the call that puts the link
   module _ (accepted : refusal_of f.tree f.next edit ≡ None) (r : Result (Unit {0}) InsertFault) (deep : (r ≡ Err insertion.TreeTooDeep) ↔ IsFullFor f.image table name)

@@ -6,7 +6,7 @@ use Rattle.h5_bytes.specs.declared.Block.{Block}
 use Rattle.h5_bytes.proofs.BlockLaws.{all_append, cover-append}
 use Rattle.h5_model.specs.Tree.Paths.{is_name}
 use Rattle.h5_model.specs.Format.Addresses.{SymbolTable}
-use Rattle.h5_model.specs.Format.Superblock.{leaf_k, internal_k}
+use Rattle.h5_model.specs.Format.Superblock.{leaf_k, internal_k, highest_k}
 use Rattle.h5_model.specs.Format.Heap.{heap_header, segment_of, heap_blocks, IsHeap, HasNames}
 use Rattle.h5_model.specs.Format.Rows.{Node, blank, leaves, nodes}
 use Rattle.h5_model.specs.Format.Nodes.{node_at, reading_of}
@@ -113,7 +113,7 @@ module _ (image : List ℕ) (table : SymbolTable) (owned symbol_nodes : List ℕ
     told = subst (HasLinks image (leaf_k image) (internal_k image) table.tree table.heap (links_told image table)) blocks_are
         (subst (λ (ls : List (List ℕ × Target)). HasLinks image (leaf_k image) (internal_k image) table.tree table.heap ls blocks) (links_are_told image table links blocks linked) linked)
 
-    pub group_read : Inside (length image) (group_nodes_blocks image owned symbol_nodes) → Inside (length image) (heap_blocks image table.heap) → internal_k image ≤ 32767
+    pub group_read : Inside (length image) (group_nodes_blocks image owned symbol_nodes) → Inside (length image) (heap_blocks image table.heap) → internal_k image ≤ highest_k
         → IsGroupRead image table
     group_read trees inside few = record {
       linked = told;

@@ -3,6 +3,7 @@ use Rattle.std.proofs.Common.{◌≡◌, ℕ, ◌+◌, ◌*◌, ◌<◌, ◌≤�
 use Rattle.std.specs.List.{Contains}
 use Rattle.std.proofs.lemmas.Bool.{cases_lt}
 use Rattle.h5_bytes.specs.declared.Block.{Block}
+use Rattle.h5_model.specs.Format.Limits.{most_bytes}
 use Rattle.h5_model.specs.Format.Addresses.{SymbolTable}
 use Rattle.h5_model.specs.Format.Superblock.{leaf_k, internal_k, k_values}
 use Rattle.h5_model.specs.Format.Heap.{segment_block, segment_of}
@@ -100,8 +101,8 @@ module _ (s t : Space) (table : SymbolTable) (occupied : ℕ) (spent : Spends s 
   pub room_left : link_room s.bytes table occupied ≤ s.room_bytes → symbol_node (leaf_k t.bytes) + (steps + 1) * node_length (kind_in t.bytes) ≤ t.room_bytes
   room_left room = let left = spent.bytes_left in omega (arith, room, left, rows, internal, leaf)
 
-  pub still_small : length s.bytes + link_room s.bytes table occupied ≤ 2147483648
-      → length t.bytes + (symbol_node (leaf_k t.bytes) + (steps + 1) * node_length (kind_in t.bytes)) ≤ 2147483648
+  pub still_small : length s.bytes + link_room s.bytes table occupied ≤ most_bytes
+      → length t.bytes + (symbol_node (leaf_k t.bytes) + (steps + 1) * node_length (kind_in t.bytes)) ≤ most_bytes
   still_small room = let grown = spent.grown in omega (arith, room, grown, rows, internal, leaf)
 
   pub spent_then : (u : Space) → Spends t u (symbol_node (leaf_k t.bytes) + (steps + 1) * node_length (kind_in t.bytes)) (steps + 2) → Spends s u (link_room s.bytes table occupied) 20

@@ -5,7 +5,7 @@ use Rattle.h5_bytes.specs.Blocks.{block}
 use Rattle.h5_bytes.specs.Texts.{text_at}
 use Rattle.h5_bytes.specs.declared.Block.{Block}
 use Rattle.h5_model.specs.Format.Addresses.{SymbolTable}
-use Rattle.h5_model.specs.Format.Superblock.{leaf_k, internal_k, k_values, superblock_length}
+use Rattle.h5_model.specs.Format.Superblock.{leaf_k, internal_k, k_values, superblock_length, highest_k}
 use Rattle.h5_model.specs.Format.Heap.{segment_of}
 use Rattle.h5_model.specs.Format.Nodes.{node_at}
 use Rattle.h5_model.specs.Format.Symbols.{Entry, IsEntry, Target, link_of, symbols_at}
@@ -31,9 +31,9 @@ pub record IsGroupIn (s : Space) (table : SymbolTable) (links : List (List ℕ �
   pub apart : IsApart (superblock_block s.bytes ∷ blocks) s.free (length s.bytes)
   pub long : superblock_length s.bytes ≤ length s.bytes
   pub leaf_some : 1 ≤ leaf_k s.bytes
-  pub leaf_few : leaf_k s.bytes ≤ 32767
+  pub leaf_few : leaf_k s.bytes ≤ highest_k
   pub some : 1 ≤ internal_k s.bytes
-  pub few : internal_k s.bytes ≤ 32767
+  pub few : internal_k s.bytes ≤ highest_k
   pub short : length s.bytes < 2 ^ 63
 
 -- A step of an edit: the group has these links and keeps these texts then, its blocks were moved, and the image has the same version of the

@@ -4,7 +4,7 @@ use Rattle.std.specs.List.{Contains}
 use Rattle.h5_bytes.specs.Blocks.{cover, Inside}
 use Rattle.h5_bytes.specs.declared.Block.{Block}
 use Rattle.h5_model.specs.Format.Addresses.{SymbolTable}
-use Rattle.h5_model.specs.Format.Superblock.{leaf_k, internal_k}
+use Rattle.h5_model.specs.Format.Superblock.{leaf_k, internal_k, highest_k}
 use Rattle.h5_model.specs.Format.Symbols.{Target, Header, Text}
 use Rattle.h5_model.specs.Format.Links.{HasLinks}
 use Rattle.h5_group.specs.Told.{links_told, blocks_told}
@@ -21,7 +21,7 @@ pub record IsGroupRead (image : List ℕ) (table : SymbolTable) : Type 0 where
   pub linked : HasLinks image (leaf_k image) (internal_k image) table.tree table.heap (links_told image table) (blocks_told image table)
   pub inside : Inside (length image) (blocks_told image table)
   -- K is one that a tree of groups may have
-  pub few : internal_k image ≤ 32767
+  pub few : internal_k image ≤ highest_k
 
 -- A group stands at this tree and heap, in blocks that lie in the image and share no byte with each other or with what was claimed.
 pub record IsGroupReadable (image : List ℕ) (table : SymbolTable) (held : List Block) : Type 0 where

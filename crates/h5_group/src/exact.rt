@@ -1,7 +1,7 @@
 //! Whether a group has exact keys (File Format Specification 3.0, sections III.A.1 and III.B).
 
 ghost use Rattle.std.specs.Prelude.{◌↔◌, ◌≤◌, IsTrue, length};
-ghost use Rattle.h5_model.specs.Format.Superblock.{leaf_k as leaf_of, internal_k as internal_of};
+ghost use Rattle.h5_model.specs.Format.Superblock.{leaf_k as leaf_of, internal_k as internal_of, highest_k};
 ghost use Rattle.h5_btree.specs.Retired.{StandsUnder};
 ghost use Rattle.h5_group.specs.Exact.{AreFilledUnder, HasExactKeys};
 ghost use Rattle.h5_group.specs.Links.{IsGroupRead};
@@ -35,7 +35,7 @@ pub fn has_exact_keys(image: &Image, table: SymbolTable) -> bool
 /// Whether each symbol node so many levels below an address has an entry.
 fn are_filled(image: &Image, height: u16, at: u64) -> bool
     requires long { 26 ≤ length image.now.bytes }
-    requires few { internal_of image.now.bytes ≤ 32767 }
+    requires few { internal_of image.now.bytes ≤ highest_k }
     requires under { StandsUnder (StandsAt (leaf_of image.now.bytes) image.now.bytes) image.now.bytes
         (kind_in image.now.bytes) height at }
     ensures { IsTrue result ↔ AreFilledUnder image.now.bytes height at }

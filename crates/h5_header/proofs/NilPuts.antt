@@ -10,7 +10,7 @@ use Rattle.h5_space.specs.Space.{Space}
 use Rattle.h5_space.specs.Moves.{Moves}
 use Rattle.h5_space.proofs.MovesLaws.{moves_then}
 use Rattle.h5_model.specs.Format.MessageTypes.{nil_kind, continuation_kind}
-use Rattle.h5_model.specs.Format.Messages.{Message, prefix_at, reference_count}
+use Rattle.h5_model.specs.Format.Messages.{Message, prefix_at, reference_count, most_messages}
 use Rattle.h5_model.specs.Format.Plain.{messages_bytes}
 use Rattle.h5_model.proofs.PlainMessages.{IsPlain, messages_from}
 use Rattle.h5_header.specs.Listed.{Listed, message_in, messages_in}
@@ -105,7 +105,7 @@ module _ (x : Placed) (bytes : List ℕ) (head : 8 ≤ x.at) (long : length byte
 
 module _ (old : List ℕ) (m : Listed) (is : IsStanding old m) (k : ℕ) (low : k < length m.list) (nil : (kept_at m.list k).kind ≡ nil_kind)
     (size_low : (kept_at m.list k).size < 65536) (kind : ℕ) (kind_low : kind < 65536) (own : kind ≢ continuation_kind) (body : List ℕ) (body_padded : length body % 8 ≡ 0)
-    (fits : length body ≤ (kept_at m.list k).size) (total_low : length m.list < 65535) where
+    (fits : length body ≤ (kept_at m.list k).size) (total_low : length m.list < most_messages) where
   abbrev x : Placed
   x = kept_at m.list k
 

@@ -3,7 +3,7 @@
 ghost use Rattle.std.specs.Prelude.{◌≡◌, ◌≢◌, ◌↔◌, ℕ, ◌<◌, ◌≤◌, ◌+◌, ◌^◌, ◌%◌, ◌==◌, ◌&&◌, nat_le, length, max, position, Some, Err, OnOk, OnErr, IsOk};
 ghost use Rattle.h5_model.specs.Format.Limits.{most_bytes};
 ghost use Rattle.h5_model.specs.Format.MessageTypes.{nil_kind, continuation_kind};
-ghost use Rattle.h5_model.specs.Format.Messages.{prefix_at, reference_count};
+ghost use Rattle.h5_model.specs.Format.Messages.{prefix_at, reference_count, most_messages};
 ghost use Rattle.h5_space.specs.Moves.{Moves, Spends};
 ghost use Rattle.h5_space.specs.Whole.{IsApart};
 ghost use Rattle.h5_header.specs.Listed.{messages_in};
@@ -91,9 +91,9 @@ impl Messages {
     /// a new block, which has 32 bytes more than the body. Else `NoMemory`, but never where there is room already. A
     /// refusal changes nothing but what room there is.
     pub fn make_room(&mut self, image: &mut Image, size: u16) -> Result<(), AddFault>
-        ensures header_full { (result ≡ Err AddFault.HeaderFull) ↔ (65535 < length self.old.list + 2) }
+        ensures header_full { (result ≡ Err AddFault.HeaderFull) ↔ (most_messages < length self.old.list + 2) }
         ensures image_full { (result ≡ Err AddFault.ImageFull)
-            ↔ ((length self.old.list + 2 ≤ 65535)
+            ↔ ((length self.old.list + 2 ≤ most_messages)
             × (most_bytes < length image.old.bytes + (32 + size))) }
         ensures kept { OnOk result (self.new ≡ record self.old { room = max self.old.room 1 }) }
         ensures made { OnOk result (image.new ≡ record image.old {
@@ -105,7 +105,7 @@ impl Messages {
           room_bytes = image.new.room_bytes;
           room_blocks = image.new.room_blocks;
         }) }
-        ensures covered { length self.old.list + 2 ≤ 65535
+        ensures covered { length self.old.list + 2 ≤ most_messages
             → length image.old.bytes + (32 + size) ≤ most_bytes
             → 1 ≤ self.old.room
             → 32 + size ≤ image.old.room_bytes
@@ -142,9 +142,9 @@ impl Messages {
         requires own { kind ≢ continuation_kind }
         requires apart { IsApart self.old.blocks image.old.free (length image.old.bytes) }
         requires standing { IsStanding image.old.bytes self.old }
-        ensures header_full { (result ≡ Err AddFault.HeaderFull) ↔ (65535 < length self.old.list + 2) }
+        ensures header_full { (result ≡ Err AddFault.HeaderFull) ↔ (most_messages < length self.old.list + 2) }
         ensures image_full { (result ≡ Err AddFault.ImageFull)
-            ↔ ((length self.old.list + 2 ≤ 65535)
+            ↔ ((length self.old.list + 2 ≤ most_messages)
             × (most_bytes < length image.old.bytes + (32 + length body.now))) }
         ensures standing { OnOk result (IsStanding image.new.bytes self.new) }
         ensures added { OnOk result (AddsMessage (messages_in image.old.bytes self.old.list)
@@ -164,7 +164,7 @@ impl Messages {
           room_bytes = image.new.room_bytes;
           room_blocks = image.new.room_blocks;
         }) }
-        ensures covered { length self.old.list + 2 ≤ 65535
+        ensures covered { length self.old.list + 2 ≤ most_messages
             → length image.old.bytes + (32 + length body.now) ≤ most_bytes
             → 1 ≤ self.old.room
             → 32 + length body.now ≤ image.old.room_bytes

@@ -2,7 +2,7 @@
 
 ghost use Rattle.std.specs.Prelude.{◌≡◌, ◌≢◌, ◌<◌, ◌≤◌, ◌+◌, ◌^◌, ◌%◌, ◌++◌, ◌==◌, ◌&&◌, nat_le, length, drop, position};
 ghost use Rattle.h5_bytes.specs.Numbers.{short, zeros};
-ghost use Rattle.h5_model.specs.Format.Messages.{prefix_at, reference_count};
+ghost use Rattle.h5_model.specs.Format.Messages.{prefix_at, reference_count, most_messages};
 ghost use Rattle.h5_model.specs.Format.MessageTypes.{nil_kind, continuation_kind};
 ghost use Rattle.h5_model.specs.Format.Plain.{message_bytes, messages_bytes};
 ghost use Rattle.h5_space.specs.Moves.{Moves, Spends};
@@ -83,7 +83,7 @@ impl Messages {
         requires fits { length body.now ≤ (kept_at self.old.list k).size }
         requires padded { length body.now % 8 ≡ 0 }
         requires own { kind ≢ continuation_kind }
-        requires total { length self.old.list < 65535 }
+        requires total { length self.old.list < most_messages }
         requires room { 1 ≤ self.old.room }
         requires standing { IsStanding image.old.bytes self.old }
         ensures standing { IsStanding image.new.bytes self.new }

@@ -6,6 +6,7 @@ use Rattle.std.specs.Option.{option_and_then}
 use Rattle.std.specs.Ordering.{nat_cmp}
 use Rattle.std.specs.FinMap.{FinMap}
 use Rattle.h5_bytes.specs.declared.Block.{Block}
+use Rattle.h5_model.specs.Format.Limits.{most_hard_links}
 use Rattle.h5_model.specs.Format.MessageTypes.{symbol_table_kind}
 use Rattle.h5_model.specs.Format.Messages.{Message}
 use Rattle.h5_model.specs.Tree.Objects.{Tree, Object, Content, Group, Array, hard_links, links_of, links_in}
@@ -45,9 +46,9 @@ module _ (image : List ℕ) (table : FinMap nat_cmp ℕ) (tree : Tree) (placed :
   is_counted : (o : Placed) → In o placed → IsCounted image tree o
   is_counted o at = in_all (IsCounted image tree) o placed reads.counted at
 
-  few : (o : Placed) → In o placed → counts tree o ≤ 65535
+  few : (o : Placed) → In o placed → counts tree o ≤ most_hard_links
   few o at = go (o.number == 0) refl where
-    go : (b : Bool) → (o.number == 0) ≡ b → counts tree o ≤ 65535
+    go : (b : Bool) → (o.number == 0) ≡ b → counts tree o ≤ most_hard_links
     go true e =
         let zero_number : o.number ≡ 0 = grind (arith, nat_tests) in
         let once = (is_counted o at).once (root_is_group o at zero_number) in

@@ -11,7 +11,7 @@ use Rattle.h5_model.specs.Format.MessageTypes.{data_layout_kind}
 use Rattle.h5_model.specs.Format.Layout.{Layout, layout_of}
 use Rattle.h5_model.specs.Format.Messages.{Message, count_of, first_body, reference_count}
 use Rattle.h5_model.specs.Format.Reads.{is_attribute_message, is_kept, kept_of}
-use Rattle.h5_model.specs.Format.Superblock.{k_values}
+use Rattle.h5_model.specs.Format.Superblock.{k_values, highest_k}
 use Rattle.h5_model.specs.Format.Described.{IsChunkSmall, Described, HasArray}
 use Rattle.h5_model.proofs.KLaws.{same_chunk, same_length}
 use Rattle.h5_space.specs.Moves.{Moves, Spends}
@@ -87,7 +87,7 @@ module _ (s t : Space) (m : Listed) (was : IsArrayApart s m) (a b : List Block)
           omega (arith, now_apart p, laid, cover-append p b others, cover-append p m.blocks (data_blocks t.bytes (described_in t.bytes m).fixed (described_in t.bytes m).layout)));
       long = omega (arith, was.long, moves.grown, same_length t.bytes s.bytes k_still);
       k_some = subst (λ n. 1 ≤ n) (sym (same_chunk t.bytes s.bytes k_still)) was.k_some;
-      k_few = subst (λ n. n ≤ 32767) (sym (same_chunk t.bytes s.bytes k_still)) was.k_few;
+      k_few = subst (λ n. n ≤ highest_k) (sym (same_chunk t.bytes s.bytes k_still)) was.k_few;
     }
 
     pub data_moved : IsArrayMoved s t m m
@@ -286,7 +286,7 @@ module _ (old mid new : Space) (m : Listed) (was : IsArrayApart old m)
             ));
         long = omega (arith, was.long, taken.grown, layout_long, same_length new.bytes old.bytes k_new);
         k_some = subst (λ n. 1 ≤ n) (sym (same_chunk new.bytes old.bytes k_new)) was.k_some;
-        k_few = subst (λ n. n ≤ 32767) (sym (same_chunk new.bytes old.bytes k_new)) was.k_few;
+        k_few = subst (λ n. n ≤ highest_k) (sym (same_chunk new.bytes old.bytes k_new)) was.k_few;
       };
       header = refl;
       count = ap reference_count written.prefix ∙ count_kept old.bytes mid.bytes m was.standing (header_keeps old mid m was [] bs none taken);

@@ -7,7 +7,7 @@ use Rattle.h5_bytes.proofs.BlockLaws.{cover-append}
 use Rattle.h5_model.specs.Edits.Refusal.{is_chunked}
 use Rattle.h5_model.specs.Format.Layout.{Layout, InMessage, InBlock, InChunks}
 use Rattle.h5_model.specs.Format.Messages.{Message}
-use Rattle.h5_model.specs.Format.Superblock.{chunk_k, k_values}
+use Rattle.h5_model.specs.Format.Superblock.{chunk_k, k_values, highest_k}
 use Rattle.h5_model.specs.Format.Described.{storage_of, Described, HasArray}
 use Rattle.h5_model.proofs.KLaws.{same_chunk, same_length}
 use Rattle.h5_space.specs.Space.{Space}
@@ -112,7 +112,7 @@ module _ (old new : Space) (m m' : Listed) (was : IsArrayApart old m) (sizes : L
     ));
     long = omega (arith, was.long, now.moves.grown, same_length new.bytes old.bytes k_now);
     k_some = subst (λ n. 1 ≤ n) (sym same_k) was.k_some;
-    k_few = subst (λ n. n ≤ 32767) (sym same_k) was.k_few;
+    k_few = subst (λ n. n ≤ highest_k) (sym same_k) was.k_few;
   }
 
   moved : IsArrayMoved old new m m'

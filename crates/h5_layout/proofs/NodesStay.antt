@@ -5,7 +5,7 @@ use Rattle.h5_bytes.specs.Blocks.{Inside, Keeps}
 use Rattle.h5_model.specs.Format.Chunks.{AreChunks, Chunks, HasChunks}
 use Rattle.h5_model.specs.Format.Nodes.{chunk_kind, tree_blocks}
 use Rattle.h5_model.specs.Format.Reached.{Shape, shape_kind}
-use Rattle.h5_model.specs.Format.Superblock.{chunk_k}
+use Rattle.h5_model.specs.Format.Superblock.{chunk_k, highest_k}
 use Rattle.h5_model.proofs.Frames.{reading-same, tree-same}
 use Rattle.h5_chunks.specs.Cursor.{IsCursor}
 use Rattle.h5_chunks.specs.Read.{AreChunksRead}
@@ -39,7 +39,7 @@ module _ (image new : List ℕ) (shape : Shape) (root : ℕ) (k : chunk_k new �
   pub read_stays : AreChunksRead new shape root
   read_stays = record {
     k_some = subst (λ n. 1 ≤ n) (sym k) read.k_some;
-    k_few = subst (λ n. n ≤ 32767) (sym k) read.k_few;
+    k_few = subst (λ n. n ≤ highest_k) (sym k) read.k_few;
     stored = subst (HasChunks new (chunk_k new) shape.sizes shape.bytes root (chunks_told new shape root)) (sym blocks_stay)
         (subst (λ (c : Chunks). HasChunks new (chunk_k new) shape.sizes shape.bytes root c (chunk_blocks_told image shape root)) (sym chunks_stay) still);
     inside = subst (Inside (length new)) (sym blocks_stay) (subst (λ (n : ℕ). Inside n (chunk_blocks_told image shape root)) (sym long) read.inside);

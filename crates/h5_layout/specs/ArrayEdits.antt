@@ -5,7 +5,7 @@ use Rattle.h5_bytes.specs.Blocks.{block}
 use Rattle.h5_bytes.specs.declared.Block.{Block}
 use Rattle.h5_model.specs.Format.Messages.{Message, prefix_at, reference_count}
 use Rattle.h5_model.specs.Format.Reads.{is_attribute_message, is_kept, kept_of}
-use Rattle.h5_model.specs.Format.Superblock.{chunk_k, k_values, superblock_length}
+use Rattle.h5_model.specs.Format.Superblock.{chunk_k, k_values, superblock_length, highest_k}
 use Rattle.h5_model.specs.Format.Described.{Described, HasArray}
 use Rattle.h5_space.specs.Moves.{Moves}
 use Rattle.h5_space.specs.Space.{Space}
@@ -35,7 +35,7 @@ pub record IsArrayApart (s : Space) (m : Listed) : Type 0 where
   pub apart : IsApart (block 0 (superblock_length s.bytes) ∷ array_blocks s.bytes m) s.free (length s.bytes)
   pub long : superblock_length s.bytes ≤ length s.bytes
   pub k_some : 1 ≤ chunk_k s.bytes
-  pub k_few : chunk_k s.bytes ≤ 32767
+  pub k_few : chunk_k s.bytes ≤ highest_k
 
 -- what attributes and kept messages say is as before
 pub record AreOthersKept (old new : List Message) : Type 0 where

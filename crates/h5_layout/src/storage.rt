@@ -7,7 +7,7 @@ ghost use Rattle.h5_model.specs.Format.Fixed.{fits};
 ghost use Rattle.h5_model.specs.Format.Layout.{InBlock, InChunks};
 ghost use Rattle.h5_model.specs.Format.Limits.{most_bytes, most_chunk_bytes, most_dimensions};
 ghost use Rattle.h5_model.specs.Format.Reached.{level_at, shape_kind};
-ghost use Rattle.h5_model.specs.Format.Superblock.{chunk_k};
+ghost use Rattle.h5_model.specs.Format.Superblock.{chunk_k, highest_k};
 ghost use Rattle.h5_model.specs.Tree.Places.{cells as cells_of};
 ghost use Rattle.h5_model.specs.Views.Selection.{Slab};
 ghost use Rattle.h5_header.specs.Listed.{Listed};
@@ -264,7 +264,7 @@ fn make_chunks(
 /// How many bytes chunks may take, or `u64::MAX` where these are more.
 fn room_for(image: &Image, shape: &ChunkShape<'_>, length: u64, new: &ChunkList) -> u64
     requires long { 26 ≤ length_of image.now.bytes }
-    requires k { chunk_k image.now.bytes ≤ 32767 }
+    requires k { chunk_k image.now.bytes ≤ highest_k }
     requires few { length_of shape.now.sizes ≤ most_dimensions }
     requires length { length ≡ shape.now.bytes }
     requires small { length ≤ most_chunk_bytes }

@@ -7,7 +7,7 @@ use Rattle.std.proofs.lemmas.Bool.Decides.{nat_tests}
 use Rattle.std.specs.Ordering.{nat_cmp}
 use Rattle.std.specs.FinMap.{FinMap}
 use Rattle.h5_bytes.specs.Bytes.{number_at, byte_at}
-use Rattle.h5_model.specs.Format.Superblock.{IsSuperblock, base_place, chunk_field, chunk_k, driver_place, end_field, end_of_file, has_chunk_k, length_with, superblock_length}
+use Rattle.h5_model.specs.Format.Superblock.{IsSuperblock, base_place, chunk_field, chunk_k, driver_place, end_field, end_of_file, has_chunk_k, length_with, superblock_length, highest_k}
 use Rattle.h5_model.specs.Tree.Objects.{Tree}
 use Rattle.h5_model.specs.Format.Reads.{Reads}
 use Rattle.h5_model.specs.Faults.Breaches.{up_to_end, FieldBreach, StartBreach, SuperblockBreach}
@@ -53,14 +53,14 @@ module _ (bytes : List ℕ) (is : IsSuperblock (up_to_end bytes)) where
   same_end : end_of_file (up_to_end bytes) ≡ end_of_file bytes
   same_end = ap (λ has. number_at (up_to_end bytes) (40 + chunk_field has) 8) version ∙ same_number (end_field bytes).at 8 (omega arith)
 
-  ranged : (p at : ℕ) → at ≡ p → p + 2 ≤ superblock_length bytes → ((number_at bytes at 2 ≡ 0) ⊎ (32767 < number_at bytes at 2))
-      → 1 ≤ number_at (up_to_end bytes) p 2 → number_at (up_to_end bytes) p 2 ≤ 32767 → ⊥
+  ranged : (p at : ℕ) → at ≡ p → p + 2 ≤ superblock_length bytes → ((number_at bytes at 2 ≡ 0) ⊎ (highest_k < number_at bytes at 2))
+      → 1 ≤ number_at (up_to_end bytes) p 2 → number_at (up_to_end bytes) p 2 ≤ highest_k → ⊥
   ranged p at e inside bad low high =
       let same : number_at (up_to_end bytes) p 2 ≡ number_at bytes at 2 = same_number p 2 inside ∙ ap (λ (q : ℕ). number_at bytes q 2) (sym e) in
       elim bad [ inl none ↦ absurd (omega arith) | inr large ↦ absurd (omega arith) ]
 
   newer : (has : Bool) → has_chunk_k (up_to_end bytes) ≡ has → (at : ℕ) → IsTrue (list_any (λ p. p == at) (16 ∷ 18 ∷ (if has then 24 ∷ [] else [])))
-      → ((number_at bytes at 2 ≡ 0) ⊎ (32767 < number_at bytes at 2)) → ⊥
+      → ((number_at bytes at 2 ≡ 0) ⊎ (highest_k < number_at bytes at 2)) → ⊥
   newer false none at among bad = elim (one_of_two 16 18 at among) [
     | inl e ↦ ranged 16 at e (omega arith) bad is.leaf_low is.leaf_high
     | inr e ↦ ranged 18 at e (omega arith) bad is.internal_low is.internal_high
@@ -70,7 +70,7 @@ module _ (bytes : List ℕ) (is : IsSuperblock (up_to_end bytes)) where
       elim (one_of_three 16 18 24 at among) [
         | inl (inl e) ↦ ranged 16 at e (omega arith) bad is.leaf_low is.leaf_high
         | inl (inr e) ↦ ranged 18 at e (omega arith) bad is.internal_low is.internal_high
-        | inr e ↦ ranged 24 at e (omega arith) bad (subst (λ n. 1 ≤ n) k is.chunk_low) (subst (λ n. n ≤ 32767) k is.chunk_high)
+        | inr e ↦ ranged 24 at e (omega arith) bad (subst (λ n. 1 ≤ n) k is.chunk_low) (subst (λ n. n ≤ highest_k) k is.chunk_high)
       ]
 
   field : (cause : Cause) (at : ℕ) → FieldBreach bytes cause at → ⊥

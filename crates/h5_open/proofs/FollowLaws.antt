@@ -3,6 +3,7 @@ use Rattle.std.proofs.Common.{Bor, ap, ◌≡◌, ◌≢◌, ◌==◌, inl, ℕ,
 use Rattle.std.specs.List.{Contains}
 use Rattle.std.specs.Prelude.{slice_get}
 use Rattle.std.proofs.lemmas.List.{append-nil}
+use Rattle.h5_model.specs.Format.Limits.{most_hard_links}
 use Rattle.h5_model.specs.Format.MessageTypes.{symbol_table_kind}
 use Rattle.h5_bytes.specs.declared.Block.{Block}
 use Rattle.h5_model.specs.Format.Reached.{Named, naming_of, ObjectHeader}
@@ -96,14 +97,14 @@ twice image held followed objects field header depth ready o among same group =
 
 too_often : (image : List ℕ) (held : List Block) (followed : List Named) (objects : List OpenedObject) (field header depth : ℕ) → IsReady image held followed objects field header depth
     → (counts : List ℕ) (name : List ℕ) (waiting : List (List ℕ × Target)) → AreCounted image objects counts ((name, Header header) ∷ waiting)
-    → (number : ℕ) (o : OpenedObject) → slice_get objects number ≡ Some o → o.messages.header ≡ header → 65535 ≤ get_or counts number 0 → IsOpenRefusedAt image TooLarge header
+    → (number : ℕ) (o : OpenedObject) → slice_get objects number ≡ Some o → o.messages.header ≡ header → most_hard_links ≤ get_or counts number 0 → IsOpenRefusedAt image TooLarge header
 too_often image held followed objects field header depth ready counts name waiting are number o here same most =
     let kept : IsObjectKept image o = in_all (IsObjectKept image) o objects (ready.under).each (in_at objects number o here) in
     let met = (ready.under).fields header in
     let one : leading header ((name, Header header) ∷ waiting) ≡ 1 + leading header waiting = one_more header header name waiting refl in
     let exact : get_or counts number 0 + leading header ((name, Header header) ∷ waiting) ≡ leading header (all_links image objects)
     = subst (λ (h : ℕ). get_or counts number 0 + leading h ((name, Header header) ∷ waiting) ≡ leading h (all_links image objects)) same (are.each number o here).exact in
-    let many : 65535 < length met.fields = omega (arith, most, one, exact, met.long) in (
+    let many : most_hard_links < length met.fields = omega (arith, most, one, exact, met.long) in (
       naming_of field ObjectHeader header depth,
       (ready.met).reached,
       refl,

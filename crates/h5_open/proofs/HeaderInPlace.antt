@@ -12,7 +12,7 @@ use Rattle.h5_bytes.specs.Blocks.{cover}
 use Rattle.h5_bytes.specs.declared.Block.{Block}
 use Rattle.h5_bytes.proofs.BlockLaws.{cover-append, holds-le}
 use Rattle.h5_model.specs.Format.Limits.{most_bytes}
-use Rattle.h5_model.specs.Format.Messages.{Message, prefix_at, reference_count, total_in}
+use Rattle.h5_model.specs.Format.Messages.{Message, prefix_at, reference_count, total_in, most_messages}
 use Rattle.h5_model.specs.Format.Reads.{HasAttributes}
 use Rattle.h5_model.specs.Format.Superblock.{end_of_file, end_field, superblock_length}
 use Rattle.h5_model.specs.Tree.Objects.{Attributes, Object}
@@ -82,11 +82,11 @@ module _ (image : Space) (slots : List (Option OpenedObject)) (numbers : BTreeMa
     go content.Array held = movable_type ms (array_told ms).fixed (standing_padded image.bytes p.messages header_standing) (held.0).array.type
 
   -- whether it is full goes by how many messages are kept of it
-  pub header_full : has_full_header (opened_state image slots) number ≡ nat_lt 65535 (length p.messages.list + 2)
+  pub header_full : has_full_header (opened_state image slots) number ≡ nat_lt most_messages (length p.messages.list + 2)
   header_full =
-      ap (λ (found : Option ℕ). option_map_or (λ (h : ℕ). nat_lt 65535 (total_in (prefix_at image.bytes h) + 2)) found false)
+      ap (λ (found : Option ℕ). option_map_or (λ (h : ℕ). nat_lt most_messages (total_in (prefix_at image.bytes h) + 2)) found false)
       (object_of image slots numbers opened number p at).header
-      ∙ ap (λ (n : ℕ). nat_lt 65535 (n + 2)) (kept.header.has.total ∙ length-map p.messages.list (message_in image.bytes))
+      ∙ ap (λ (n : ℕ). nat_lt most_messages (n + 2)) (kept.header.has.total ∙ length-map p.messages.list (message_in image.bytes))
 
   -- ---- the superblock is no part of it
 

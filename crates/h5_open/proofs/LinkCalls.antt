@@ -12,7 +12,7 @@ use Rattle.h5_bytes.proofs.BlockLaws.{cover-append}
 use Rattle.h5_model.specs.Edits.Applied.{with_links}
 use Rattle.h5_model.specs.Edits.Refusal.{has_zero}
 use Rattle.h5_model.specs.Format.Addresses.{SymbolTable}
-use Rattle.h5_model.specs.Format.Limits.{most_bytes}
+use Rattle.h5_model.specs.Format.Limits.{most_bytes, most_hard_links}
 use Rattle.h5_model.specs.Format.Messages.{prefix_at, reference_count}
 use Rattle.h5_model.specs.Format.Superblock.{AreK, leaf_k, internal_k, k_values, end_of_file, end_field, superblock_length}
 use Rattle.h5_model.specs.Format.Symbols.{Target, Header, Text}
@@ -159,7 +159,7 @@ module _ (old : Space) (slots : List (Option OpenedObject)) (numbers : BTreeMap 
       target_standing = still_standing old slots numbers opened parent p t at kind mid moves number o stands array
 
       -- and counts few links
-      pub target_few : reference_count (prefix_at mid.bytes (header_of o)) ≤ 65536
+      pub target_few : reference_count (prefix_at mid.bytes (header_of o)) ≤ most_hard_links + 1
       target_few =
           let same = still_counted old slots numbers opened parent p t at kind mid moves number o stands array in
           let few = count_few old slots numbers opened number o stands in

@@ -4,6 +4,7 @@ use Rattle.std.specs.Prelude.{slice_get, if◌then◌else◌, is_some, option_ma
 use Rattle.std.specs.Option.{option_and_then, option_flatten}
 use Rattle.std.specs.BTreeMap.{BTreeMap}
 use Rattle.std.specs.FinMap.{get}
+use Rattle.h5_model.specs.Format.Limits.{most_hard_links}
 use Rattle.h5_model.specs.Format.Messages.{prefix_at, reference_count}
 use Rattle.h5_model.specs.Tree.Objects.{Object, Dataset, Links, dataset_in, dataset_of, links_in, links_of}
 use Rattle.h5_space.specs.Space.{Space}
@@ -55,7 +56,7 @@ module _ (image : List ℕ) (slots : List (Option OpenedObject)) (n : ℕ) where
 
 -- no header counts more than 65536 links
 pub count_few : (old : Space) (slots : List (Option OpenedObject)) (numbers : BTreeMap ℕ ℕ) (opened : IsOpened old slots numbers) (number : ℕ) (o : OpenedObject)
-    → slice_get slots number ≡ Some (Some o) → reference_count (prefix_at old.bytes (header_of o)) ≤ 65536
+    → slice_get slots number ≡ Some (Some o) → reference_count (prefix_at old.bytes (header_of o)) ≤ most_hard_links + 1
 count_few old slots numbers opened number o at =
     let sound : IsSoundTree (tree_of old.bytes slots) = sound_reading old.bytes (table_of slots) (tree_of old.bytes slots) opened.reads.0 opened.reads.1 in
     let there : IsSome (get (tree_of old.bytes slots) number) = ap (λ (x : Option Object). is_some x) (object_of old slots numbers opened number o at).there in

@@ -3,7 +3,7 @@
 use Rattle.std.proofs.Common.{◌≡◌, ◌↔◌, ℕ, ◌+◌, ◌<◌, ◌≤◌, true, List, [], ◌∷◌, ◌++◌, length, refl, sym, ap, ◌∙◌, subst, arith, Option, Some, None, IsSome, Ok, Err}
 use Rattle.std.specs.BTreeMap.{BTreeMap}
 use Rattle.std.proofs.lemmas.Option.{same_Some}
-use Rattle.h5_model.specs.Format.Limits.{most_bytes}
+use Rattle.h5_model.specs.Format.Limits.{most_bytes, most_hard_links}
 use Rattle.h5_model.specs.declared.link.Link.{Link}
 use Rattle.h5_model.specs.declared.link.LinkTo.{LinkTo}
 use Rattle.h5_model.specs.declared.link.LinkTo.TheVariants as to
@@ -144,7 +144,7 @@ module _ (old : Space) (slots : List (Option OpenedObject)) (numbers : BTreeMap 
         array_standing number o at = target_standing old slots numbers opened parent p t slot.1 slot.2 mid name (target_of_leads lead) put.front put.back put.before put.after
             after.read k moves exact number o at.0 at.1
 
-        pub array_few : (number : ℕ) (o : OpenedObject) → IsArraySlot slots number o → reference_count (prefix_at mid.bytes (header_of o)) ≤ 65536
+        pub array_few : (number : ℕ) (o : OpenedObject) → IsArraySlot slots number o → reference_count (prefix_at mid.bytes (header_of o)) ≤ most_hard_links + 1
         array_few number o at = target_few old slots numbers opened parent p t slot.1 slot.2 mid name (target_of_leads lead) put.front put.back put.before put.after
             after.read k moves exact number o at.0 at.1
 

@@ -9,6 +9,7 @@ use Rattle.std.specs.Option.{option_map_or}
 use Rattle.std.specs.Ordering.{nat_cmp}
 use Rattle.h5_laws.specs.Trees.Unlinked.{links_from}
 use Rattle.h5_laws.proofs.Lists.{In, in_right}
+use Rattle.h5_model.specs.Format.Limits.{most_hard_links}
 use Rattle.h5_model.specs.Format.Messages.{Message}
 use Rattle.h5_model.specs.Format.Symbols.{Target, Header, Text}
 use Rattle.h5_model.specs.Tree.Objects.{Link, Object, Tree, leads_to, links_to}
@@ -123,8 +124,8 @@ module _ (image : Space) (slots : List (Option OpenedObject)) (numbers : BTreeMa
               next_far n ∙ ap (λ (t : Target). found_links_to table first n + (if leads_to n (link_to table t) then 1 else 0)) leads
               ∙ ap (λ (b : Bool). found_links_to table first n + (if b then 1 else 0)) (found_leads header target found n)
 
-          pub target_few : (old lost : LostLinks) → AreMoreLost old lost (found_links_to table first) → ((n : ℕ) → links_lost old.counts n + links_from tree (number ∷ []) n ≤ 65535)
-              → links_lost lost.counts target < 65535
+          pub target_few : (old lost : LostLinks) → AreMoreLost old lost (found_links_to table first) → ((n : ℕ) → links_lost old.counts n + links_from tree (number ∷ []) n ≤ most_hard_links)
+              → links_lost lost.counts target < most_hard_links
           target_few old lost is few =
               let one = at_itself target in
               omega (arith, is.counts target, few target, all_far target, target_far target, one)

@@ -7,6 +7,7 @@ use Rattle.std.proofs.lemmas.List.Sums.{sum_by-cons, sum_by_push}
 use Rattle.std.specs.FinMap.{get}
 use Rattle.std.specs.List.{Contains}
 use Rattle.std.specs.Option.{option_map_or}
+use Rattle.h5_model.specs.Format.Limits.{most_hard_links}
 use Rattle.h5_model.specs.Tree.Objects.{Tree, Object, Link, ToObject, Soft, follow, hard_links, leads_to, link_in, links_to, object_of}
 use Rattle.h5_laws.specs.Trees.Sound.{IsSoundTree}
 use Rattle.h5_laws.specs.Trees.Unlinked.{AreReachedFrom, links_from, lost_links}
@@ -133,7 +134,7 @@ module _ (tree : Tree) (link : Link) where
   -- ---- what the links of a sound tree allow
 
   module _ (parent : ℕ) (name : List ℕ) (sound : IsSoundTree tree) (stands : link_in tree parent name ≡ Some link) where
-    hard_few : (n : ℕ) → hard_links tree n ≤ 65535
+    hard_few : (n : ℕ) → hard_links tree n ≤ most_hard_links
     hard_few n = elim (cases_lt 0 (hard_links tree n)) [
       | inl some ↦ let at = some_named tree n (omega (arith, some)) in sound.few n (sound.linked at.0 n at.1 at.2)
       | inr none ↦ omega (arith, none)
@@ -156,7 +157,7 @@ module _ (tree : Tree) (link : Link) where
       through_there n at = led_there n (through.led n at)
 
       pub next_few : (number : ℕ) → done < length lost.numbers.items → number ≡ get_or lost.numbers.items done number
-          → (n : ℕ) → links_lost lost.counts n + links_from tree (number ∷ []) n ≤ 65535
+          → (n : ℕ) → links_lost lost.counts n + links_from tree (number ∷ []) n ≤ most_hard_links
       next_few number low at n =
           let fits = first_fits (done + 1) n in
           let next = next_links lost lost done number through low at n in

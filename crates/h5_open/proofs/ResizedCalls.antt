@@ -9,7 +9,7 @@ use Rattle.h5_model.specs.Edits.Applied.{with_sizes, with_dataset}
 use Rattle.h5_model.specs.Edits.Refusal.{is_chunked}
 use Rattle.h5_model.specs.Format.Layout.{Layout, InMessage, InBlock, InChunks}
 use Rattle.h5_model.specs.Format.Limits.{most_bytes}
-use Rattle.h5_model.specs.Format.Messages.{Message}
+use Rattle.h5_model.specs.Format.Messages.{Message, most_messages}
 use Rattle.h5_model.specs.Format.Superblock.{end_of_file, end_field}
 use Rattle.h5_model.specs.Format.Described.{storage_of, Described}
 use Rattle.h5_model.specs.Tree.Objects.{with_object}
@@ -90,7 +90,7 @@ module _ (image : Space) (slots : List (Option OpenedObject)) (numbers : BTreeMa
 
     place_is : (lacks : Bool) → LacksMaxima f.image (get f.table number) lacks → has_no_place image.bytes p.messages ≡ (lacks && has_full_header f number)
     place_is lacks says =
-        let full : has_full_header f number ≡ nat_lt 65535 (length p.messages.list + 2)
+        let full : has_full_header f number ≡ nat_lt most_messages (length p.messages.list + 2)
         = ap (λ (g : FileState). has_full_header g number) (sym view) ∙ header_full image slots numbers opened number p at in
         ap (λ (b : Bool). lacks_maxima ms && b) (sym full) ∙ ap (λ (b : Bool). b && has_full_header f number) (sym (lacks_is lacks says))
 

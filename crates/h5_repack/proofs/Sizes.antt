@@ -13,6 +13,7 @@ use Rattle.h5_model.specs.Tree.Objects.{Content, Group, Array, Dataset, Storage,
 use Rattle.h5_btree.specs.Writing.Written.{root_level}
 use Rattle.h5_repack.specs.Bodies.Bodies.{others_of}
 use Rattle.h5_model.specs.Format.Superblock.{chunk_k_of}
+use Rattle.h5_model.specs.Format.Messages.{most_messages}
 use Rattle.h5_repack.specs.Bodies.Headers.{IsLowStorage}
 use Rattle.h5_repack.specs.Bodies.Sound.{ArePlainChunks, IsPlainArray, IsPlainStorage}
 use Rattle.h5_repack.proofs.BodyLaws.ChunkSizes.{some_cell}
@@ -162,7 +163,7 @@ module _ (a : Described) (c : Cells) (others : OthersBytes) (o : StoredObject) (
   pub array_writable : IsArrayToWrite a c
   array_writable = record { bounded = array_bounded; fits = array_fits; room = array_room; chunks = whole_is a c is.dataset is.array_is }
 
-  pub array_few : others.count + 3 ≤ 65535
+  pub array_few : others.count + 3 ≤ most_messages
   array_few = omega (arith, (is.others_are).count_is, own_content.1)
 
   pub array_header_size : (count : ℕ) (address : Option ℕ) → length (header_written count a c others address) ≡ header_size o.object

@@ -3,7 +3,7 @@
 ghost use Rattle.std.specs.Prelude.{◌≡◌, ◌+◌, ◌<◌, ◌≤◌, ◌++◌, List, Option, OnOk, Some, length, map, slice_get};
 ghost use Rattle.std.specs.List.{AllByRecursion, AllZip, flat_map};
 ghost use Rattle.h5_model.specs.Format.Limits.{most_bytes};
-ghost use Rattle.h5_model.specs.Format.Superblock.{AreKValues};
+ghost use Rattle.h5_model.specs.Format.Superblock.{AreKValues, highest_k};
 ghost use Rattle.h5_group.specs.Writing.Written.{links_bytes};
 ghost use Rattle.h5_btree.specs.Writing.Written.{root_level};
 ghost use Rattle.h5_repack.specs.Blocks.Written.{chunks_of};
@@ -64,7 +64,7 @@ fn push_array(
     others: &Others,
 ) -> Result<(), AllocError>
     requires some { 1 ≤ chunk_k }
-    requires most { chunk_k ≤ 32767 }
+    requires most { chunk_k ≤ highest_k }
     requires held { (o : StoredObject) × IsArrayObject array.now cells.now others.now o }
     requires level { root_level chunk_k (length (chunks_of cells.now)) ≤ 15 }
     requires low { at ≤ most_bytes }

@@ -3,7 +3,7 @@
 
 ghost use Rattle.std.specs.Prelude.{◌≡◌, ◌+◌, ◌≤◌, ◌++◌, ◌<◌, ◌⊎◌, length, MatchBool, MatchOption, OnOk, Some};
 ghost use Rattle.h5_bytes.specs.Bytes.{byte_at, number_at, undefined_address};
-ghost use Rattle.h5_model.specs.Format.Superblock.{AreKValues, IsSuperblock, base_place as base_in, chunk_field as field_bytes, chunk_k as chunk_of, driver_place as driver_in, end_field as end_in, end_of_file as end_told, has_chunk_k, internal_k as internal_of, k_values as values_of, leaf_k as leaf_of, root_header as root_in, superblock_length as length_in};
+ghost use Rattle.h5_model.specs.Format.Superblock.{AreKValues, IsSuperblock, base_place as base_in, chunk_field as field_bytes, chunk_k as chunk_of, driver_place as driver_in, end_field as end_in, end_of_file as end_told, has_chunk_k, internal_k as internal_of, k_values as values_of, leaf_k as leaf_of, root_header as root_in, superblock_length as length_in, highest_k};
 ghost use Rattle.h5_model.specs.Format.Plain.{chunk_k_bytes, plain_superblock_length, superblock_bytes, version_of};
 ghost use Rattle.h5_model.specs.Faults.Breaches.{FieldBreach, SuperblockBreach};
 
@@ -135,7 +135,7 @@ fn address_fault(bytes: &[u8]) -> Option<OpenFault>
 
 /// Whether a K is from 1 to 32767.
 fn is_k(k: u16) -> bool
-    ensures { MatchBool result ((1 ≤ k) × (k ≤ 32767)) ((k ≡ 0) ⊎ (32767 < k)) }
+    ensures { MatchBool result ((1 ≤ k) × (k ≤ highest_k)) ((k ≡ 0) ⊎ (highest_k < k)) }
 {
     1 <= k && k <= MAXIMUM_K
 }

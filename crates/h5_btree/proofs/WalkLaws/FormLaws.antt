@@ -3,7 +3,7 @@ use Rattle.std.proofs.Common.{◌≡◌, ℕ, suc, ◌+◌, ◌-◌, ◌*◌, �
 use Rattle.std.specs.Prelude.{false, ◌==◌, if◌then◌else◌, slice_index_or}
 use Rattle.std.proofs.Math.Nat.{mul-le-mul_right}
 use Rattle.h5_bytes.specs.Bytes.{part}
-use Rattle.h5_model.specs.Format.Superblock.{IsSuperblock, leaf_k}
+use Rattle.h5_model.specs.Format.Superblock.{IsSuperblock, leaf_k, highest_k}
 use Rattle.h5_model.specs.Format.Symbols.{IsEntry, entry_of, symbol_bytes, symbols_at, symbols_in}
 use Rattle.h5_model.specs.Format.Nodes.{node_at, node_bytes, node_length, key_in, entries_in}
 use Rattle.h5_model.specs.Format.Chunks.{IsChunkKey}
@@ -22,7 +22,7 @@ node_long image OfGroup field root heap level at depth = refl
 node_long image (OfChunks shape) field root heap level at depth = refl
 
 -- K in an image with a superblock
-pub kind_few : (image : List ℕ) (form : TreeForm) → IsSuperblock image → (kind_of image form).k ≤ 32767
+pub kind_few : (image : List ℕ) (form : TreeForm) → IsSuperblock image → (kind_of image form).k ≤ highest_k
 kind_few image OfGroup superblock = superblock.internal_high
 kind_few image (OfChunks shape) superblock = superblock.chunk_high
 

@@ -6,6 +6,7 @@ use Rattle.h5_bytes.specs.Bytes.{number_at, part}
 use Rattle.h5_bytes.specs.Tables.{table}
 use Rattle.h5_bytes.proofs.PartLaws.{part-behind, part-front}
 use Rattle.h5_bytes.proofs.TableLaws.{length-table, get_or-table}
+use Rattle.h5_model.specs.Format.Superblock.{highest_k}
 use Rattle.h5_model.specs.Format.Nodes.{IsNode, Kind, node_length, node_of, node_signature, key_in, child_in, entries_in}
 use Rattle.h5_bytes.specs.Numbers.{word, short, zeros}
 use Rattle.h5_model.specs.Format.Plain.{keys_and_children, node_bytes_of}
@@ -123,7 +124,7 @@ table_is f n xs x e same =
     same_lists (table f n) xs (omega arith) (λ i d low.
     get_or-table f f n i d (omega arith) ∙ same i (omega arith) ∙ get_or_default xs i x d (omega arith))
 
-module _ (kind : Kind) (level left right : ℕ) (keys : List (List ℕ)) (children : List ℕ) (high : kind.k ≤ 32767) (room : length children ≤ 2 * kind.k)
+module _ (kind : Kind) (level left right : ℕ) (keys : List (List ℕ)) (children : List ℕ) (high : kind.k ≤ highest_k) (room : length children ≤ 2 * kind.k)
     (one : length keys ≡ length children + 1) (are : AreKeys kind keys) (small : AreWords children) (left_small : left < 2 ^ 64) (right_small : right < 2 ^ 64) where
   abbrev bytes : List ℕ
   bytes = node_bytes_of kind level left right keys children

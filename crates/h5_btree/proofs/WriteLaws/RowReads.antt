@@ -7,6 +7,7 @@ use Rattle.h5_bytes.specs.Bytes.{part}
 use Rattle.h5_bytes.specs.Blocks.{Run}
 use Rattle.h5_bytes.proofs.BlockLaws.{all_left, all_right}
 use Rattle.h5_bytes.proofs.PartLaws.{part-part, part-front, part-appended}
+use Rattle.h5_model.specs.Format.Superblock.{highest_k}
 use Rattle.h5_model.specs.Format.Nodes.{IsNode, Kind, node_at, node_bytes, node_length, node_of, entries_in, tree_blocks}
 use Rattle.h5_model.specs.Format.Plain.{node_bytes_of}
 use Rattle.h5_model.specs.Format.Rows.{Node, Reading, IsRow, next_row, first_or_undefined}
@@ -178,7 +179,7 @@ module _ {K : Type 0} (kind : Kind) (bytes : K → List ℕ) where
   AreRead V level left before at (c ∷ cs) =
       (V at ≡ node_over level left (right_of kind at cs) before c) × AreRead V level at (last_below before c) (at + node_length kind) cs
 
-  module _ (image : List ℕ) (level : ℕ) (high : kind.k ≤ 32767) where
+  module _ (image : List ℕ) (level : ℕ) (high : kind.k ≤ highest_k) where
     -- the row's premises: neighbour and key before it, its children, and its end
     pub record IsRowThere (left : ℕ) (before : K) (at : ℕ) (cs : List (List (Child K))) : Type 0 where
       pub are : AllByRecursion IsPiece cs

@@ -4,6 +4,7 @@ use Rattle.std.specs.List.{AllByRecursion, Contains}
 use Rattle.std.proofs.lemmas.Bool.{cases_lt}
 use Rattle.h5_bytes.specs.Bytes.{part, undefined_address}
 use Rattle.h5_bytes.proofs.BlockLaws.{all_left, all_right, all_so}
+use Rattle.h5_model.specs.Format.Superblock.{highest_k}
 use Rattle.h5_model.specs.Format.Nodes.{HasTree, Kind, node_at, node_length, reading_of, tree_blocks}
 use Rattle.h5_bytes.specs.Blocks.{Run}
 use Rattle.h5_model.specs.Format.PlainLength.{rows_of, nodes_over}
@@ -22,7 +23,7 @@ use Rattle.h5_btree.proofs.WriteLaws.Trees.{IsTree, chunks_all, chunks_filled, c
 -- ---- the whole tree, from the bottom row up
 
 module _ {K : Type 0} (image : List ℕ) (kind : Kind) (bytes : K → List ℕ) (first : K) (V : Reading) (Q : List ℕ → Type 0) (holds : Q (bytes first))
-    (some : 1 ≤ kind.k) (high : kind.k ≤ 32767) (fits : FitsKind kind bytes first) where
+    (some : 1 ≤ kind.k) (high : kind.k ≤ highest_k) (fits : FitsKind kind bytes first) where
   abbrev size : ℕ
   size = node_length kind
 

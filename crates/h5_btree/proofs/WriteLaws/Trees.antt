@@ -4,6 +4,7 @@ use Rattle.std.specs.List.{AllByRecursion, flat_map}
 use Rattle.std.proofs.lemmas.Bool.{cases_lt}
 use Rattle.h5_bytes.specs.Bytes.{part, undefined_address}
 use Rattle.h5_bytes.proofs.BlockLaws.{all_append}
+use Rattle.h5_model.specs.Format.Superblock.{highest_k}
 use Rattle.h5_model.specs.Format.Nodes.{IsNode, Kind, node_bytes, node_length, entries_in}
 use Rattle.h5_model.specs.Format.PlainLength.{rows_of, nodes_over}
 use Rattle.h5_model.specs.Format.Rows.{Reading, IsRow, leaves, nodes, next_row}
@@ -110,7 +111,7 @@ module _ {K : Type 0} (kind : Kind) (bytes : K → List ℕ) (first : K) where
         (is_beside : IsBeside beside bottom) → AreOrderedUnder kind bytes V sides orderly beside bottom is_beside level first children
         → AllByRecursion (λ n. IsOrderedBy sides V bottom (V n)) owned
 
-  module _ (image : List ℕ) (V : Reading) (Q : List ℕ → Type 0) (holds : Q (bytes first)) (some : 1 ≤ kind.k) (high : kind.k ≤ 32767)
+  module _ (image : List ℕ) (V : Reading) (Q : List ℕ → Type 0) (holds : Q (bytes first)) (some : 1 ≤ kind.k) (high : kind.k ≤ highest_k)
       (fits : FitsKind kind bytes first) where
     abbrev Lasts : List (Child K) → Type 0
     Lasts c = LastsAre (λ (key : K). Q (bytes key)) c

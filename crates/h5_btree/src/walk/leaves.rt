@@ -3,7 +3,7 @@
 ghost use Rattle.std.specs.Prelude.{◌≡◌, ℕ, ◌+◌, ◌<◌, ◌≤◌, List, length, slice_index_or, IfErr, OnOk};
 ghost use Rattle.std.specs.List.{AllByRecursion};
 ghost use Rattle.h5_bytes.specs.Blocks.{holds, cover, Separate};
-ghost use Rattle.h5_model.specs.Format.Superblock.{IsSuperblock};
+ghost use Rattle.h5_model.specs.Format.Superblock.{IsSuperblock, highest_k};
 ghost use Rattle.h5_btree.specs.Walk.Forms.{TreeForm, kind_of, leaf_length, IsKeyedAt};
 ghost use Rattle.h5_btree.specs.Walk.Below.{IsBottom};
 ghost use Rattle.h5_btree.specs.Walk.Refused.{IsLeafRefused};
@@ -21,7 +21,7 @@ pub trait Trees {
     /// The kind of their nodes.
     fn kind(&self, image: &Image) -> NodeKind
         requires long { 26 ≤ length image.now.bytes }
-        requires few { (kind_of image.now.bytes (form self.now)).k ≤ 32767 }
+        requires few { (kind_of image.now.bytes (form self.now)).k ≤ highest_k }
         ensures { result ≡ kind_of image.now.bytes (form self.now) };
 }
 

@@ -3,7 +3,7 @@
 ghost use Rattle.std.specs.Prelude.{◌≡◌, ◌++◌, ◌∷◌, [], ℕ, ◌⊎◌, List, ◌+◌, ◌<◌, ◌≤◌, length, drop, IfOk, IfErr, OnOk};
 ghost use Rattle.std.specs.List.{AllByRecursion};
 ghost use Rattle.h5_bytes.specs.Bytes.{undefined_address};
-ghost use Rattle.h5_model.specs.Format.Superblock.{IsSuperblock};
+ghost use Rattle.h5_model.specs.Format.Superblock.{IsSuperblock, highest_k};
 ghost use Rattle.h5_model.specs.Format.Rows.{IsRow, first_or_undefined, next_row};
 ghost use Rattle.h5_model.specs.Faults.TreeFaults.{SiblingBreach};
 ghost use Rattle.h5_btree.specs.Walk.Forms.{kind_of};
@@ -114,7 +114,7 @@ pub fn bottom_nodes<T: Trees>(
     root: u64,
 ) -> Result<Vec<u64>, AllocError>
     requires long { 26 ≤ length image.now.bytes }
-    requires few { (kind_of image.now.bytes (T.form over.now)).k ≤ 32767 }
+    requires few { (kind_of image.now.bytes (T.form over.now)).k ≤ highest_k }
     requires there { IsTreeAt image.now.bytes (T.form over.now) root }
     ensures bottom { IfOk result (λ row. row.items ≡ bottom_at image.now.bytes (T.form over.now) root) }
     ensures stand { IfOk result (λ row.
@@ -142,7 +142,7 @@ pub fn tree_leaves<T: Trees>(
     root: u64,
 ) -> Result<Vec<u64>, AllocError>
     requires long { 26 ≤ length image.now.bytes }
-    requires few { (kind_of image.now.bytes (T.form over.now)).k ≤ 32767 }
+    requires few { (kind_of image.now.bytes (T.form over.now)).k ≤ highest_k }
     requires there { IsTreeAt image.now.bytes (T.form over.now) root }
     ensures { IfOk result (λ found. found.items ≡ leaves_at image.now.bytes (T.form over.now) root) }
 {
@@ -158,7 +158,7 @@ fn children_of<T: Trees>(
     row: &[u64],
 ) -> Result<Vec<u64>, AllocError>
     requires long { 26 ≤ length image.now.bytes }
-    requires few { (kind_of image.now.bytes (T.form over.now)).k ≤ 32767 }
+    requires few { (kind_of image.now.bytes (T.form over.now)).k ≤ highest_k }
     requires stand { (level : ℕ)
         × AllByRecursion (IsStanding image.now.bytes (T.form over.now) level) row.now }
     ensures { IfOk result (λ next.

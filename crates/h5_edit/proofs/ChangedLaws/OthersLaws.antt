@@ -2,7 +2,7 @@
 use Rattle.std.proofs.Common.{◌≡◌, ◌+◌, ◌≤◌, List, [], ◌++◌, length, sym, ap, ◌∙◌, subst, arith, length-append}
 use Rattle.std.proofs.lemmas.List.{length-map}
 use Rattle.std.specs.FinMap.{empty, entries}
-use Rattle.h5_model.specs.Format.Messages.{Message}
+use Rattle.h5_model.specs.Format.Messages.{Message, most_messages}
 use Rattle.h5_model.specs.Tree.Objects.{Content, Group}
 use Rattle.h5_query.specs.Attributes.{attributes_of}
 use Rattle.h5_query.specs.Opened.Headers.{object_with}
@@ -14,7 +14,7 @@ use Rattle.h5_edit.specs.Changed.Appended.{Appends, HasPlaces, NamedAttributes, 
 module _ (o after : OthersBytes) (ms : List Message) (list : NamedAttributes) (none : AreOthers [] o) (kept : Appends o after (kept_messages ms))
     (sorted : list ≡ entries (attributes_of ms)) where
   -- there are places for the attributes
-  pub places_for : length (others_of (object_with (Group empty) ms)) ≤ 65535 → HasPlaces after (length list)
+  pub places_for : length (others_of (object_with (Group empty) ms)) ≤ most_messages → HasPlaces after (length list)
   places_for few =
       let split : length (others_of (object_with (Group empty) ms)) ≡ length (kept_messages ms) + length (attribute_messages (entries (attributes_of ms)))
       = length-append (kept_messages ms) (attribute_messages (entries (attributes_of ms))) in

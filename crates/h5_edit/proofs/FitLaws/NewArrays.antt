@@ -8,6 +8,7 @@ use Rattle.std.proofs.lemmas.Slice.Zip.{AllZip-long}
 use Rattle.std.proofs.lemmas.Bool.{and_parts, or_parts, not-false}
 use Rattle.h5_model.specs.Format.Fixed.{IsFixed, fits}
 use Rattle.h5_model.specs.Format.Limits.{most_cells, most_dimensions}
+use Rattle.h5_model.specs.Format.Messages.{most_messages}
 use Rattle.h5_model.specs.Tree.Places.{cells, extent_cells}
 use Rattle.h5_model.specs.Tree.Objects.{Tree, Array, Dataset, Contiguous, Chunked}
 use Rattle.h5_model.specs.Edits.Applied.{new_dataset, new_object, new_storage}
@@ -94,7 +95,7 @@ module _ (spec : Spec) (is : IsSoundSpec spec) where
       let of = (chunk_sizes_of spec.dims spec.maxima sizes is.maxima shaped).same in
       omega (arith, long, of)
 
-  pub plain_new_array : (n : ℕ) → IsFixed spec.fixed → AllZip IsBound spec.dims spec.maxima → 4 + n ≤ 65535 → IsPlainArray (new_dataset spec) n
+  pub plain_new_array : (n : ℕ) → IsFixed spec.fixed → AllZip IsBound spec.dims spec.maxima → 4 + n ≤ most_messages → IsPlainArray (new_dataset spec) n
   plain_new_array n sound bounds room = record {
     ranked = is.ranked;
     bounded = bounds;

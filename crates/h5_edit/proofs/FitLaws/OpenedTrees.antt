@@ -3,6 +3,7 @@ use Rattle.std.proofs.Common.{◌≡◌, inl, inr, ℕ, ◌+◌, ◌≤◌, List
 use Rattle.std.specs.Ordering.{nat_cmp}
 use Rattle.std.specs.FinMap.{FinMap, get}
 use Rattle.h5_bytes.specs.declared.Block.{Block}
+use Rattle.h5_model.specs.Format.Messages.{most_messages}
 use Rattle.h5_model.specs.Format.Reads.{HasObject}
 use Rattle.h5_model.specs.Tree.Objects.{Object}
 use Rattle.h5_laws.proofs.Objects.{content_cases, has_object, in_table}
@@ -19,7 +20,7 @@ use Rattle.h5_edit.proofs.FitLaws.PlainObjects.{plain_object, others_few, read_b
 
 module _ (image : List ℕ) (low : AreBytes image) (table : FinMap nat_cmp ℕ) (header : ℕ) (o : Object) (blocks : List Block) (has : HasObject image table header o blocks) where
   -- with so few others, beside the messages of its content that are there, the header has 65535 messages at most
-  pub plain_content : (n : ℕ) → n + length has.messages ≤ length (others_of o) + 65535 → IsPlainContent n o.content
+  pub plain_content : (n : ℕ) → n + length has.messages ≤ length (others_of o) + most_messages → IsPlainContent n o.content
   plain_content n room =
       let few = others_few image low table header o blocks has in
       elim (content_cases image table has.messages o.content has.content_blocks has.content) [

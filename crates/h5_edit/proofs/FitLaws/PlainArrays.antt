@@ -13,7 +13,7 @@ use Rattle.h5_bytes.specs.Bytes.{byte_at, number_at, part, undefined_address}
 use Rattle.h5_bytes.specs.declared.Block.{Block}
 use Rattle.h5_model.specs.Format.Limits.{most_dimensions}
 use Rattle.h5_model.specs.Format.MessageTypes.{data_layout_kind, dataspace_kind, datatype_kind, fill_value_kind, old_fill_value_kind}
-use Rattle.h5_model.specs.Format.Messages.{Message, count_of, first_body}
+use Rattle.h5_model.specs.Format.Messages.{Message, count_of, first_body, most_messages}
 use Rattle.h5_model.specs.Format.Fixed.{Fixed, IsFixed, fits}
 use Rattle.h5_model.specs.Tree.Grid.{corner_of, inner_of}
 use Rattle.h5_model.specs.Tree.Places.{cells, index_of, place_of}
@@ -244,7 +244,7 @@ module _ (image : List ℕ) (low : AreBytes image) (ms : List Message) (bodies :
   }
 
   -- with so few others, a fill message that is there now is written again
-  pub plain_array : (n : ℕ) → n + content_count ms ≤ 65535 → IsPlainArray d n
+  pub plain_array : (n : ℕ) → n + content_count ms ≤ most_messages → IsPlainArray d n
   plain_array n room = record {
     ranked = rank;
     bounded = bounds;

@@ -15,7 +15,7 @@ use Rattle.h5_bytes.specs.declared.Block.{Block}
 use Rattle.h5_bytes.proofs.PartLaws.{length-part}
 use Rattle.h5_bytes.proofs.BlockLaws.{all_append}
 use Rattle.h5_model.specs.Format.Limits.{most_cells, most_dimensions}
-use Rattle.h5_model.specs.Format.Messages.{Message, IsMessage, Fills, FillBlocks, HasMessages, continuations, total_in, prefix_at, first_block}
+use Rattle.h5_model.specs.Format.Messages.{Message, IsMessage, Fills, FillBlocks, HasMessages, continuations, total_in, prefix_at, first_block, most_messages}
 use Rattle.h5_model.specs.Format.Fixed.{Fixed, IsFixed, fixed_from, raw_at, value_at}
 use Rattle.h5_model.specs.Tree.Places.{cells, extent_cells}
 use Rattle.h5_model.specs.Format.Extent.{Extent, extent_of, extent_in, is_dataspace, rank_in, size_in}
@@ -89,7 +89,7 @@ module _ (image : List ℕ) (low : AreBytes image) (header : ℕ) (ms : List Mes
   plain_bodies = subst (AllByRecursion IsPlainBody) (sym has.all) (block_bodies image (first_block image header ∷ []) has.parts low has.filled)
 
   -- the total of messages has two bytes
-  pub few_messages : length ms ≤ 65535
+  pub few_messages : length ms ≤ most_messages
   few_messages =
       let total : total_in (prefix_at image header) < 65536 = short_low (prefix_at image header) 2 (bytes_part header 16 image low) in
       omega (arith, total, has.total)

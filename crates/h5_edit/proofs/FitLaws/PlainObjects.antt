@@ -10,7 +10,7 @@ use Rattle.std.proofs.lemmas.Bool.Decides.{nat_tests}
 use Rattle.h5_bytes.specs.declared.Block.{Block}
 use Rattle.h5_model.specs.Format.Limits.{most_cells}
 use Rattle.h5_model.specs.Format.MessageTypes.{data_layout_kind, dataspace_kind, datatype_kind, fill_value_kind, old_fill_value_kind, symbol_table_kind, attribute_kind, comment_kind, old_modification_time_kind, modification_time_kind}
-use Rattle.h5_model.specs.Format.Messages.{Message, count_of}
+use Rattle.h5_model.specs.Format.Messages.{Message, count_of, most_messages}
 use Rattle.h5_model.specs.Tree.Places.{extent_cells}
 use Rattle.h5_model.specs.Format.AttributeBody.{attribute_of}
 use Rattle.h5_model.specs.Tree.Objects.{Object, Content, Attribute, Attributes}
@@ -105,7 +105,7 @@ module _ (image : List ℕ) (low : AreBytes image) (table : FinMap nat_cmp ℕ) 
         each_once ms,
       )
 
-  pub total_few : length ms ≤ 65535
+  pub total_few : length ms ≤ most_messages
   total_few = few_messages image low header ms has.header_blocks has.listed
 
 -- ---- a new object

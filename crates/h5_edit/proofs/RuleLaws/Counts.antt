@@ -3,6 +3,7 @@ use Rattle.std.proofs.Common.{◌≡◌, ◌≢◌, ℕ, ◌+◌, ◌≤◌, ◌
 use Rattle.std.specs.Prelude.{◌==◌, nat_le, if◌then◌else◌}
 use Rattle.std.specs.FinMap.{entries}
 use Rattle.std.proofs.lemmas.Bool.Decides.{nat_tests}
+use Rattle.h5_model.specs.Format.Limits.{most_hard_links}
 use Rattle.h5_model.specs.Format.Messages.{prefix_at, reference_count}
 use Rattle.h5_model.specs.Format.Reads.{Placed, IsCounted}
 use Rattle.h5_model.specs.Edits.Refusal.{first_holding}
@@ -60,14 +61,14 @@ module _ (f : FileState) (number : ℕ) (o : OpenedObject) (of : IsObjectOf f nu
         (in_all (IsCounted f.image T) placed.0 sound.placed reads.counted placed.1) below_root
 
     module _ (count : ℕ) (counts : count ≡ reference_count (prefix_at f.image o.messages.header)) where
-      pub full_target : 65535 ≤ count → first_holding (target_rules T number) ≡ Some fault.TooManyLinks
+      pub full_target : most_hard_links ≤ count → first_holding (target_rules T number) ≡ Some fault.TooManyLinks
       full_target many =
           let all = links_counted in
-          let test : nat_le 65535 (hard_links T number) ≡ true = grind (arith, nat_tests) in
+          let test : nat_le most_hard_links (hard_links T number) ≡ true = grind (arith, nat_tests) in
           rw (array_no_group f number o of is, test) refl
 
-      pub free_target : count < 65535 → first_holding (target_rules T number) ≡ None
+      pub free_target : count < most_hard_links → first_holding (target_rules T number) ≡ None
       free_target few =
           let all = links_counted in
-          let test : nat_le 65535 (hard_links T number) ≡ false = grind (arith, nat_tests) in
+          let test : nat_le most_hard_links (hard_links T number) ≡ false = grind (arith, nat_tests) in
           rw (array_no_group f number o of is, test) refl

@@ -5,6 +5,7 @@ ghost use Rattle.std.specs.Prelude.{◌≡◌, ◌≤◌, ◌==◌, ◌||◌, le
 ghost use Rattle.std.specs.List.{AllByRecursion};
 ghost use Rattle.std.specs.FinMap.{empty};
 ghost use Rattle.h5_model.specs.Format.MessageTypes.{comment_kind, old_modification_time_kind, modification_time_kind};
+ghost use Rattle.h5_model.specs.Format.Messages.{most_messages};
 ghost use Rattle.h5_model.specs.Format.Reads.{HasAttributes};
 ghost use Rattle.h5_model.specs.Tree.Objects.{Content, Group};
 ghost use Rattle.h5_query.specs.Attributes.{attributes_of};
@@ -25,7 +26,7 @@ use std::alloc::{AllocError, Global};
 pub(crate) fn others_in(alloc: Global, header: &HeaderRef<'_>) -> Result<Others, AllocError>
     requires attributes { HasAttributes header.now.messages (attributes_of header.now.messages) }
     requires plain { IsPlainObject (object_with (Group empty) header.now.messages) }
-    requires few { length (others_of (object_with (Group empty) header.now.messages)) ≤ 65535 }
+    requires few { length (others_of (object_with (Group empty) header.now.messages)) ≤ most_messages }
     ensures { IfOk result (λ others. (content : Content)
         → AreOthers (others_of (object_with content header.now.messages)) others) }
 {

@@ -5,6 +5,7 @@ use Rattle.std.specs.List.{AllByRecursion, flat_map}
 use Rattle.std.proofs.lemmas.List.{length-map, length-replicate}
 use Rattle.h5_bytes.specs.Bytes.{number_at, little_bytes, undefined_address}
 use Rattle.h5_bytes.specs.Numbers.{word, zeros}
+use Rattle.h5_model.specs.Format.Superblock.{highest_k}
 use Rattle.h5_model.specs.Format.Sizes.{symbol_node, text_span}
 use Rattle.h5_model.specs.Format.Symbols.{IsSymbolNode}
 use Rattle.h5_model.specs.Format.Symbols as symbols
@@ -81,7 +82,7 @@ module _ (leaf : ℕ) (run : List Placed) where
     pub length-node : length (written_symbol_node leaf run) ≡ symbol_node leaf
     length-node = length-node_of ∙ omega arith
 
-    module _ (high : leaf ≤ 32767) where
+    module _ (high : leaf ≤ highest_k) where
       pub node_formed : IsSymbolNode leaf (written_symbol_node leaf run)
       node_formed = form_back its (symbol_node leaf) (omega (arith, as_many)) (written_symbol_node leaf run) refl leaf (omega (arith, as_many))
 

@@ -5,6 +5,7 @@ use Rattle.std.specs.List.{AllByRecursion, flat_map}
 use Rattle.std.proofs.lemmas.List.{map-append}
 use Rattle.h5_bytes.specs.Bytes.{part}
 use Rattle.h5_bytes.specs.Blocks.{Run}
+use Rattle.h5_model.specs.Format.Superblock.{highest_k}
 use Rattle.h5_model.specs.Format.Links.{Symbols}
 use Rattle.h5_model.specs.Format.Sizes.{symbol_node}
 use Rattle.h5_model.specs.Format.Symbols.{IsSymbolNode, symbols_at, symbols_of, symbol_block}
@@ -77,7 +78,7 @@ module _ (leaf : ℕ) where
 
   -- ---- what they say
 
-  module _ (high : leaf ≤ 32767) (image : List ℕ) where
+  module _ (high : leaf ≤ highest_k) (image : List ℕ) where
     pub all_formed : (at : ℕ) (runs : List (List Placed)) → AllByRecursion (IsRun leaf) runs → AreThere image leaf at runs
         → AllByRecursion (λ n. IsSymbolNode leaf (symbols.symbol_bytes image leaf n)) (addresses (children_of leaf at runs))
     all_formed at [] all there = tt

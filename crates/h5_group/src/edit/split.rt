@@ -5,7 +5,7 @@ ghost use Rattle.h5_bytes.specs.Blocks.{Inside};
 ghost use Rattle.h5_bytes.specs.Numbers.{word};
 ghost use Rattle.h5_model.specs.Format.Heap.{heap_blocks, segment_of};
 ghost use Rattle.h5_model.specs.Format.Nodes.{node_at, node_length};
-ghost use Rattle.h5_model.specs.Format.Superblock.{leaf_k as leaf_of};
+ghost use Rattle.h5_model.specs.Format.Superblock.{leaf_k as leaf_of, highest_k};
 ghost use Rattle.h5_model.specs.Format.Symbols.{Entry, IsSymbolNode, symbol_block, symbol_bytes, symbols_at};
 ghost use Rattle.h5_space.specs.Moves.{Spends};
 ghost use Rattle.h5_space.specs.Whole.{IsApart};
@@ -155,7 +155,7 @@ fn cut(image: &mut Image, leaf: u16, at: u64, j: usize, symbol: NewSymbol) -> u6
     requires apart { IsApart (symbol_block leaf at ∷ []) image.old.free (length image.old.bytes) }
     requires place { j ≤ 2 * leaf }
     requires some { 1 ≤ leaf }
-    requires few { leaf ≤ 32767 }
+    requires few { leaf ≤ highest_k }
     requires bytes { 8 + 80 * leaf ≤ image.old.room_bytes }
     requires blocks { 1 ≤ image.old.room_blocks }
     ensures { IsCutInTwo image.old image.new leaf at j (entry_from symbol) result }
@@ -182,7 +182,7 @@ fn halve(image: &mut Image, leaf: u16, at: u64, n: usize) -> u64
     requires form { IsSymbolNode leaf (symbol_bytes image.old.bytes leaf at) }
     requires apart { IsApart (symbol_block leaf at ∷ []) image.old.free (length image.old.bytes) }
     requires place { n ≤ length (symbols_at image.old.bytes leaf at) }
-    requires few { leaf ≤ 32767 }
+    requires few { leaf ≤ highest_k }
     requires bytes { 8 + 80 * leaf ≤ image.old.room_bytes }
     requires blocks { 1 ≤ image.old.room_blocks }
     ensures { AreHalves image.old image.new leaf at result (take n (symbols_at image.old.bytes leaf at))

@@ -2,6 +2,7 @@
 
 ghost use Rattle.std.specs.Prelude.{◌≡◌, ◌+◌, ◌*◌, ◌<◌, ◌≤◌, drop, length, take};
 ghost use Rattle.std.specs.List.{insert, remove};
+ghost use Rattle.h5_model.specs.Format.Superblock.{highest_k};
 ghost use Rattle.h5_model.specs.Format.Symbols.{IsSymbolNode, symbol_bytes, symbols_at};
 ghost use Rattle.h5_snod.specs.Written.{entry_from};
 ghost use Rattle.h5_group.specs.SymbolEdits.{IsSymbolsRewritten};
@@ -15,7 +16,7 @@ pub(crate) fn put_in(image: &mut Image, leaf: u16, at: u64, j: usize, symbol: Ne
     requires form { IsSymbolNode leaf (symbol_bytes image.old.bytes leaf at) }
     requires place { j ≤ length (symbols_at image.old.bytes leaf at) }
     requires room { length (symbols_at image.old.bytes leaf at) < 2 * leaf }
-    requires few { leaf ≤ 32767 }
+    requires few { leaf ≤ highest_k }
     ensures { IsSymbolsRewritten image.old image.new leaf at
         (insert (symbols_at image.old.bytes leaf at) j (entry_from symbol)) }
 {
@@ -42,7 +43,7 @@ pub(crate) fn keep_entries(image: &mut Image, leaf: u16, at: u64, n: usize)
     requires inside { at + (8 + 80 * leaf) ≤ length image.old.bytes }
     requires form { IsSymbolNode leaf (symbol_bytes image.old.bytes leaf at) }
     requires place { n ≤ length (symbols_at image.old.bytes leaf at) }
-    requires few { leaf ≤ 32767 }
+    requires few { leaf ≤ highest_k }
     ensures { IsSymbolsRewritten image.old image.new leaf at (take n (symbols_at image.old.bytes leaf at)) }
 {
     let node = image.part_at_mut(at, 8 + 80 * u64::from(leaf));

@@ -2,7 +2,7 @@
 //! 3.0, sections II.A, III.A.1 and III.B).
 
 ghost use Rattle.std.specs.Prelude.{◌≡◌, ◌≤◌, length};
-ghost use Rattle.h5_model.specs.Format.Superblock.{leaf_k as leaf_of, internal_k as internal_of};
+ghost use Rattle.h5_model.specs.Format.Superblock.{leaf_k as leaf_of, internal_k as internal_of, highest_k};
 ghost use Rattle.h5_model.specs.Format.Nodes.{node_at};
 ghost use Rattle.h5_model.specs.Format.Symbols.{symbols_at};
 ghost use Rattle.h5_group.specs.Nodes.Trees.{kind_in};
@@ -18,7 +18,7 @@ use h5_space::{Image, internal_k, leaf_k};
 /// The node of a group's tree at this address. Takes no memory.
 pub fn tree_node(image: &Image, at: u64) -> Node<'_>
     requires long { 26 ≤ length image.now.bytes }
-    requires few { internal_of image.now.bytes ≤ 32767 }
+    requires few { internal_of image.now.bytes ≤ highest_k }
     requires there { IsNodeAt image.now.bytes OfGroup at }
     ensures { result ≡ node_at image.now.bytes (kind_in image.now.bytes) at }
 {
@@ -39,7 +39,7 @@ pub fn symbol_node(image: &Image, at: u64) -> SymbolNode<'_>
 /// The kind of the trees of groups.
 pub(crate) fn group_kind(image: &Image) -> NodeKind
     requires long { 26 ≤ length image.now.bytes }
-    requires few { internal_of image.now.bytes ≤ 32767 }
+    requires few { internal_of image.now.bytes ≤ highest_k }
     ensures { result ≡ kind_in image.now.bytes }
 {
     NodeKind::group(internal_k(image.bytes()))

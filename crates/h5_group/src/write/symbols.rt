@@ -3,6 +3,7 @@ ghost use Rattle.std.specs.Prelude.{◌≡◌, ◌+◌, ◌*◌, ◌^◌, ◌<�
 ghost use Rattle.std.specs.List.{flat_map};
 ghost use Rattle.h5_bytes.specs.Numbers.{zeros};
 ghost use Rattle.h5_model.specs.Format.Limits.{most_bytes};
+ghost use Rattle.h5_model.specs.Format.Superblock.{highest_k};
 ghost use Rattle.h5_model.specs.Format.Sizes.{symbol_node};
 ghost use Rattle.h5_heap.specs.Writing.Links.{name_and_leads};
 ghost use Rattle.h5_heap.specs.Writing.Written.{links_with_offsets, placed_links, texts_span as span};
@@ -88,7 +89,7 @@ fn push_symbol_node(
     name: u64,
     links: &[Link<'_, ObjectPlace>],
 ) -> Result<u64, AllocError>
-    requires leaf { leaf ≤ 32767 }
+    requires leaf { leaf ≤ highest_k }
     requires room { length links.now ≤ 2 * leaf }
     requires names { name + sum_by span (map name_and_leads links.now) < 2 ^ 32 }
     ensures node { OnOk result
@@ -110,7 +111,7 @@ pub(crate) fn push_symbol_nodes(
     links: &[Link<'_, ObjectPlace>],
 ) -> Result<(), AllocError>
     requires low { 1 ≤ leaf }
-    requires high { leaf ≤ 32767 }
+    requires high { leaf ≤ highest_k }
     requires names { 8 + sum_by span (map name_and_leads links.now) < 2 ^ 32 }
     ensures { OnOk result
         (out.new.items ≡ out.old.items
@@ -158,7 +159,7 @@ pub(crate) fn symbol_children(
     links: &[Link<'_, ObjectPlace>],
 ) -> Result<Vec<Child<u64>>, AllocError>
     requires low { 1 ≤ leaf }
-    requires high { leaf ≤ 32767 }
+    requires high { leaf ≤ highest_k }
     requires names { 8 + sum_by span (map name_and_leads links.now) < 2 ^ 32 }
     requires nodes { at + symbol_nodes leaf (map name_and_leads links.now) * symbol_node leaf ≤ most_bytes }
     ensures { IfOk result (λ v.

@@ -3,6 +3,7 @@ use Rattle.std.proofs.Common.{◌≡◌, ℕ, ◌+◌, ◌≤◌, List, [], ◌�
 use Rattle.std.specs.Prelude.{is_some, ◌==◌, if◌then◌else◌}
 use Rattle.std.specs.Option.{option_and_then, option_map_or}
 use Rattle.std.specs.FinMap.{get, insert}
+use Rattle.h5_model.specs.Format.Limits.{most_hard_links}
 use Rattle.h5_model.specs.Edits.Applied.{with_object_at}
 use Rattle.h5_model.specs.Tree.Paths.{object_at}
 use Rattle.h5_model.specs.Tree.Objects.{Tree, Object, Links, Link, ToObject, Soft, links_in, links_of, link_in, links_to, hard_links, follow, with_object}
@@ -39,7 +40,7 @@ module _ (tree other : Tree) (alike : IsAlike tree other) where
     reached = λ n some. let path = sound.reached n (sym (alike.objects n) ∙ some) in (path.0, same_paths path.0 (ToObject 0) ∙ path.1);
     shallow = λ path some. sound.shallow path (sym (ap (λ (o : Option Link). is_some o) (same_paths path (ToObject 0))) ∙ some);
     once = λ n some. ap (λ (k : ℕ). k + (if n == 0 then 1 else 0)) (alike.counts n) ∙ sound.once n (sym (ap (λ (o : Option Links). is_some o) (alike.links n)) ∙ some);
-    few = λ n some. subst (λ (k : ℕ). k ≤ 65535) (sym (alike.counts n)) (sound.few n (sym (alike.objects n) ∙ some));
+    few = λ n some. subst (λ (k : ℕ). k ≤ most_hard_links) (sym (alike.counts n)) (sound.few n (sym (alike.objects n) ∙ some));
   }
 
 abbrev pub links_at : Option Object → Option Links

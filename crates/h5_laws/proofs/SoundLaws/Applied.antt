@@ -5,6 +5,7 @@ use Rattle.std.specs.Prelude.{IsSome, is_some, ◌==◌}
 use Rattle.std.specs.Option.{option_and_then, option_map_or}
 use Rattle.std.specs.FinMap.{get, insert, remove, empty, get-empty}
 use Rattle.std.proofs.lemmas.Bool.{or_parts}
+use Rattle.h5_model.specs.Format.Limits.{most_hard_links}
 use Rattle.h5_model.specs.Edits.Applied.{with_edit, with_link_at, with_hard_link, with_links, with_attributes, new_object, new_dataset, attribute_from, with_selection, with_sizes}
 use Rattle.h5_model.specs.Tree.Paths.{names_of, locate, object_at, object_there, links_at, Located, Here, Missing, NoParent, NoGroup, NoPath}
 use Rattle.h5_model.specs.Edits.Refusal.{refusal_of, rules_of, has_zero, is_no_text}
@@ -134,10 +135,10 @@ object_stands tree path m sound is = go (names_of path) is where
 -- ---- a hard link
 
 sound_linked_to : (tree : Tree) (target path : List ℕ) → IsSoundTree tree → IsFree tree path → is_some (links_at tree target) ≡ false
-    → option_map_or (λ number. nat_le 65535 (hard_links tree number)) (object_at tree target) false ≡ false → IsSoundTree (with_hard_link tree target path)
+    → option_map_or (λ number. nat_le most_hard_links (hard_links tree number)) (object_at tree target) false ≡ false → IsSoundTree (with_hard_link tree target path)
 sound_linked_to tree target path sound f group many = go (object_at tree target) refl group many where
   go : (o : Option ℕ) → object_at tree target ≡ o → is_some (option_and_then (links_of tree) o) ≡ false
-      → option_map_or (λ number. nat_le 65535 (hard_links tree number)) o false ≡ false → IsSoundTree (option_map_or (λ number. with_link_at tree path (ToObject number)) o tree)
+      → option_map_or (λ number. nat_le most_hard_links (hard_links tree number)) o false ≡ false → IsSoundTree (option_map_or (λ number. with_link_at tree path (ToObject number)) o tree)
   go None is no_group few = sound
   go (Some n) is no_group few =
       let room : hard_links tree n ≤ 65534 = grind (arith, nat_tests, few) in
@@ -155,7 +156,7 @@ group_rule tree next target path accepted =
     let rules = none_holds (rules_of tree next (HardLink target path)) accepted in rules.1.1.1.1.1.1.1.1.1.0
 
 many_rule : (tree : Tree) (next : ℕ) (target path : List ℕ) → refusal_of tree next (HardLink target path) ≡ None
-    → option_map_or (λ number. nat_le 65535 (hard_links tree number)) (object_at tree target) false ≡ false
+    → option_map_or (λ number. nat_le most_hard_links (hard_links tree number)) (object_at tree target) false ≡ false
 unfolding refusal_of
 many_rule tree next target path accepted =
     let rules = none_holds (rules_of tree next (HardLink target path)) accepted in

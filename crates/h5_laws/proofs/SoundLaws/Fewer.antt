@@ -4,6 +4,7 @@ use Rattle.std.proofs.lemmas.Bool.Decides.{nat_tests}
 use Rattle.std.specs.Prelude.{IsSome, is_some, ◌==◌, if◌then◌else◌}
 use Rattle.std.specs.Option.{option_and_then}
 use Rattle.std.specs.FinMap.{get, get-retain_keys, nat_cmp-IsAntisymmetric}
+use Rattle.h5_model.specs.Format.Limits.{most_hard_links}
 use Rattle.h5_model.specs.Tree.Paths.{is_name}
 use Rattle.h5_model.specs.Edits.Refusal.{has_zero}
 use Rattle.h5_model.specs.Tree.Objects.{Tree, Object, Links, Link, ToObject, Soft, links_in, links_of, link_in, links_to, hard_links, follow, is_reached, only_reached}
@@ -124,7 +125,7 @@ module _ (tree fewer : Tree) (is_fewer : IsFewer tree fewer) (sound : IsSoundTre
         let least = still_one n (group_stands left n some) is in
         omega (arith, count, low, least)
 
-  few : (n : ℕ) → IsSome (get left n) → hard_links left n ≤ 65535
+  few : (n : ℕ) → IsSome (get left n) → hard_links left n ≤ most_hard_links
   few n some = let low = no_more n in let before = sound.few n (was_object n some).1 in omega (arith, low, before)
 
   -- ---- the whole tree

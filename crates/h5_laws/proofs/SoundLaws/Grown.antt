@@ -4,6 +4,7 @@ use Rattle.std.proofs.lemmas.Bool.Decides.{nat_tests}
 use Rattle.std.specs.Prelude.{IsSome, is_some, ◌==◌, if◌then◌else◌}
 use Rattle.std.specs.Option.{option_and_then}
 use Rattle.std.specs.FinMap.{get}
+use Rattle.h5_model.specs.Format.Limits.{most_hard_links}
 use Rattle.h5_model.specs.Tree.Paths.{is_name}
 use Rattle.h5_model.specs.Edits.Refusal.{has_zero}
 use Rattle.h5_model.specs.Tree.Objects.{Tree, Object, Link, ToObject, Soft, links_of, link_in, follow, hard_links}
@@ -72,7 +73,7 @@ module _ (tree grown : Tree) (parent : ℕ) (name : List ℕ) (link : Link) (sou
         omega (arith, none, one, below, all)
   ]
 
-  few : (n : ℕ) → IsSome (get grown n) → hard_links grown n ≤ 65535
+  few : (n : ℕ) → IsSome (get grown n) → hard_links grown n ≤ most_hard_links
   few n some = elim (leads_or n link) [
     | inl e ↦
         let one : adds n link ≡ 1 = ap (adds n) e ∙ leads_itself n in

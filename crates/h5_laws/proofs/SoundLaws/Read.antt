@@ -5,6 +5,7 @@ use Rattle.std.specs.Ordering.{nat_cmp}
 use Rattle.std.specs.FinMap.{FinMap, get, entries, get-entries}
 use Rattle.h5_bytes.specs.Texts.{text_at, until_zero}
 use Rattle.h5_bytes.specs.declared.Block.{Block}
+use Rattle.h5_model.specs.Format.Limits.{most_hard_links}
 use Rattle.h5_model.specs.Format.Messages.{Message}
 use Rattle.h5_model.specs.Tree.Paths.{is_name}
 use Rattle.h5_model.specs.Format.Reads.{Placed, IsPlaced, HasObject, HasGroup, IsSame, IsCounted, IsGroup, ReadsAs}
@@ -134,11 +135,11 @@ module _ (image : List ℕ) (table : FinMap nat_cmp ℕ) (tree : Tree) (placed :
       let group = is_group x.object.content g.links (ap (λ (o : Object). o.content) by.3 ∙ g.is) in
       subst (λ (k : ℕ). hard_links tree k + (if k == 0 then 1 else 0) ≡ 1) by.2 (sym (by.1).counted ∙ (by.1).once group)
 
-  few : (n : ℕ) → IsSome (get tree n) → hard_links tree n ≤ 65535
+  few : (n : ℕ) → IsSome (get tree n) → hard_links tree n ≤ most_hard_links
   few n some = go (get tree n) refl some where
-    go : (o : Option Object) → get tree n ≡ o → IsSome o → hard_links tree n ≤ 65535
+    go : (o : Option Object) → get tree n ≡ o → IsSome o → hard_links tree n ≤ most_hard_links
     go None is none = let never : false ≡ true = none in absurd (cc)
-    go (Some o) is there = let by = counted n o is in subst (λ (k : ℕ). hard_links tree k ≤ 65535) by.2 (by.1).limit
+    go (Some o) is there = let by = counted n o is in subst (λ (k : ℕ). hard_links tree k ≤ most_hard_links) by.2 (by.1).limit
 
   pub sound_reading : IsSoundTree tree
   sound_reading = record {

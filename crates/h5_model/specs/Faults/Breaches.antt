@@ -8,7 +8,7 @@ use Rattle.h5_bytes.specs.Bytes.{number_at, byte_at, part, undefined_address}
 use Rattle.h5_bytes.specs.Blocks.{cover}
 use Rattle.h5_bytes.specs.declared.Block.{Block}
 use Rattle.h5_model.specs.Format.Limits.{most_names, most_bytes, most_hard_links}
-use Rattle.h5_model.specs.Format.Superblock.{signature, has_chunk_k, superblock_length, base_place, end_field, driver_place, end_of_file, leaf_k, internal_k}
+use Rattle.h5_model.specs.Format.Superblock.{signature, has_chunk_k, superblock_length, base_place, end_field, driver_place, end_of_file, leaf_k, internal_k, highest_k}
 use Rattle.h5_model.specs.Format.MessageTypes.{symbol_table_kind}
 use Rattle.h5_model.specs.Format.Messages.{Message, count_of, prefix_at, reference_count}
 use Rattle.h5_model.specs.Format.Nodes.{group_kind}
@@ -35,7 +35,7 @@ FieldBreach bytes SuperblockVersion at = IsTrue (list_any (λ p. p == at) (8 ∷
 FieldBreach bytes FieldSizes at = IsTrue (list_any (λ p. p == at) (13 ∷ 14 ∷ [])) × (byte_at bytes at ≢ 8)
 FieldBreach bytes BaseAddress at = (at ≡ base_place bytes) × (number_at bytes at 8 ≢ 0)
 FieldBreach bytes Driver at = (at ≡ driver_place bytes) × (number_at bytes at 8 ≢ undefined_address)
-FieldBreach bytes KRange at = IsTrue (list_any (λ p. p == at) (k_places bytes)) × ((number_at bytes at 2 ≡ 0) ⊎ (32767 < number_at bytes at 2))
+FieldBreach bytes KRange at = IsTrue (list_any (λ p. p == at) (k_places bytes)) × ((number_at bytes at 2 ≡ 0) ⊎ (highest_k < number_at bytes at 2))
 FieldBreach bytes TooLarge at = (at ≡ (end_field bytes).at) × (most_bytes < end_of_file bytes)
 FieldBreach bytes _ at = ⊥
 

@@ -2,7 +2,7 @@
 
 ghost use Rattle.std.specs.Prelude.{◌≡◌, ◌↔◌, ◌+◌, ◌<◌, ◌≤◌, Err, IsSome, None, OnErr, OnOk, length};
 ghost use Rattle.h5_model.specs.Format.Addresses.{SymbolTable};
-ghost use Rattle.h5_model.specs.Format.Limits.{most_bytes};
+ghost use Rattle.h5_model.specs.Format.Limits.{most_bytes, most_hard_links};
 ghost use Rattle.h5_model.specs.Format.Messages.{prefix_at, reference_count};
 ghost use Rattle.h5_model.specs.Format.PlainLength.{link_span};
 ghost use Rattle.h5_model.specs.Tree.Links.{tree_link, tree_target};
@@ -105,7 +105,7 @@ fn place_of<'a>(
 /// Counts one link more in a header. Takes no memory.
 fn count_link(image: &mut Image, messages: &Messages)
     requires standing { IsStanding image.old.bytes messages.now }
-    requires few { reference_count (prefix_at image.old.bytes messages.now.header) ≤ 65536 }
+    requires few { reference_count (prefix_at image.old.bytes messages.now.header) ≤ most_hard_links + 1 }
     ensures standing { IsStanding image.new.bytes messages.now }
     ensures messages { messages_in image.new.bytes messages.now.list
         ≡ messages_in image.old.bytes messages.now.list }

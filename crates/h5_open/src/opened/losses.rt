@@ -5,6 +5,7 @@ ghost use Rattle.std.specs.Prelude.{◌≡◌, ◌==◌, ℕ, ◌+◌, ◌-◌, 
 ghost use Rattle.std.specs.FinMap.{get};
 ghost use Rattle.h5_bytes.specs.Blocks.{Separate};
 ghost use Rattle.h5_laws.specs.Trees.Unlinked.{links_from};
+ghost use Rattle.h5_model.specs.Format.Limits.{most_hard_links};
 ghost use Rattle.h5_model.specs.Format.Messages.{prefix_at, reference_count};
 ghost use Rattle.h5_model.specs.Format.Superblock.{IsSuperblock};
 ghost use Rattle.h5_model.specs.Tree.Objects.{Link, hard_links, object_of};
@@ -92,7 +93,7 @@ fn lose_links(
     requires there { IsSome (get (tree_of image.now.bytes index.now.objects.items) number) }
     requires lost { HaveLostLinks lost.old.numbers.items lost.old.counts }
     requires few { (n : ℕ) → links_lost lost.old.counts n
-        + links_from (tree_of image.now.bytes index.now.objects.items) (number ∷ []) n ≤ 65535 }
+        + links_from (tree_of image.now.bytes index.now.objects.items) (number ∷ []) n ≤ most_hard_links }
     ensures { OnOk result (AreMoreLost lost.old lost.new
         (links_from (tree_of image.now.bytes index.now.objects.items) (number ∷ []))) }
 {
@@ -113,7 +114,7 @@ fn lose_links(
 /// Counts one lost link to the object of this number.
 fn lose(lost: &mut LostLinks, number: u32) -> Result<(), AllocError>
     requires lost { HaveLostLinks lost.old.numbers.items lost.old.counts }
-    requires few { links_lost lost.old.counts number < 65535 }
+    requires few { links_lost lost.old.counts number < most_hard_links }
     ensures { OnOk result (AreMoreLost lost.old lost.new (λ n. if n == number then 1 else 0)) }
 {
     let before = lost.counts.get(&number).copied().unwrap_or(0);

@@ -6,6 +6,7 @@ use Rattle.std.specs.Prelude.{nat_lt, if◌then◌else◌, slice_get, slice_inde
 use Rattle.std.proofs.lemmas.Bool.{not-true}
 use Rattle.h5_model.specs.Format.Limits.{most_dimensions}
 use Rattle.h5_model.specs.Format.MessageTypes.{dataspace_kind, data_layout_kind}
+use Rattle.h5_model.specs.Format.Messages.{most_messages}
 use Rattle.h5_bytes.specs.Texts.{pad8}
 use Rattle.h5_model.specs.Format.Bodies.{padded_body, dataspace_bytes, bounded_bytes, fill_bytes, chunked_bytes, short_words}
 use Rattle.h5_model.specs.Format.Fixed.{Fixed}
@@ -85,10 +86,10 @@ module _ (chunked : Bool) (t : Fixed) (fill : ℤ) (others : ℕ) where
   abbrev fill_by : Bool → List (ℕ × List ℕ)
   fill_by b = if b then [] else fill_message chunked t fill ∷ []
 
-  pub fill_there : not (nat_lt 65535 (4 + others)) ≡ true → messages_bytes (fill_messages chunked t fill others) ≡ message_bytes (fill_message chunked t fill)
-  fill_there few = ap (λ b. messages_bytes (fill_by b)) (not-true (nat_lt 65535 (4 + others)) few) ∙ append-nil (message_bytes (fill_message chunked t fill))
+  pub fill_there : not (nat_lt most_messages (4 + others)) ≡ true → messages_bytes (fill_messages chunked t fill others) ≡ message_bytes (fill_message chunked t fill)
+  fill_there few = ap (λ b. messages_bytes (fill_by b)) (not-true (nat_lt most_messages (4 + others)) few) ∙ append-nil (message_bytes (fill_message chunked t fill))
 
-  pub length-fill : not (nat_lt 65535 (4 + others)) ≡ true → message_size (8 + t.size) ≡ length (messages_bytes (fill_messages chunked t fill others))
+  pub length-fill : not (nat_lt most_messages (4 + others)) ≡ true → message_size (8 + t.size) ≡ length (messages_bytes (fill_messages chunked t fill others))
   length-fill few =
       let time : ℕ = if chunked then 3 else 1 in
       let long : length (padded_body (fill_bytes time t fill)) ≡ pad8 (8 + t.size) = length-raised (fill_bytes time t fill) ∙ ap pad8 (length-fill_bytes time t fill) in

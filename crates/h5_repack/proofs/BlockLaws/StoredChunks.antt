@@ -8,6 +8,7 @@ use Rattle.std.specs.Prelude.{slice_get}
 use Rattle.std.specs.List.{AllByRecursion, flat_map}
 use Rattle.h5_model.specs.Format.Fixed.{Fixed}
 use Rattle.h5_model.specs.Format.Limits.{most_chunk_bytes}
+use Rattle.h5_model.specs.Format.Superblock.{highest_k}
 use Rattle.h5_model.specs.Format.Nodes.{Kind, chunk_kind, node_length}
 use Rattle.h5_model.specs.Format.PlainLength.{nodes_over}
 use Rattle.h5_model.specs.Tree.Places.{cells}
@@ -27,7 +28,7 @@ use Rattle.h5_repack.proofs.ChunkLaws.KeyTrees.{tree_kept}
 -- ---- products
 
 -- the nodes of a tree of at most 32 dimensions
-pub nodes_low : (nodes long : ℕ) (kind : Kind) → kind.k ≤ 32767 → kind.key_length ≤ 272 → nodes < 2 ^ 33 → long ≡ node_length kind → nodes * long ≤ 2 ^ 58
+pub nodes_low : (nodes long : ℕ) (kind : Kind) → kind.k ≤ highest_k → kind.key_length ≤ 272 → nodes < 2 ^ 33 → long ≡ node_length kind → nodes * long ≤ 2 ^ 58
 nodes_low nodes long kind k key few is =
     let children : 2 * kind.k * (kind.key_length + 8) ≤ 2 ^ 16 * 280 = mul-le (2 * kind.k) (kind.key_length + 8) (2 ^ 16) 280 (omega (arith, k)) (omega (arith, key)) in
     let own : long ≤ 2 ^ 25 = omega (arith, is, children, key) in

@@ -4,7 +4,7 @@ use Rattle.std.proofs.Common.{◌≡◌, ℕ, ◌+◌, ◌^◌, ◌<◌, ◌≤�
 use Rattle.std.specs.Prelude.{if◌then◌else◌}
 use Rattle.h5_bytes.specs.Bytes.{part}
 use Rattle.h5_model.specs.Format.Sizes.{header_size}
-use Rattle.h5_model.specs.Format.Superblock.{chunk_k}
+use Rattle.h5_model.specs.Format.Superblock.{chunk_k, highest_k}
 use Rattle.h5_model.specs.Tree.Objects.{Dataset, Storage, Compact, Contiguous, Chunked}
 use Rattle.h5_repack.specs.Bodies.Bodies.{others_of}
 use Rattle.h5_repack.specs.Bodies.Laws.{ArrayReads}
@@ -17,7 +17,7 @@ use Rattle.h5_repack.proofs.ChunkLaws.HeldChunks.{none_unset}
 
 -- where its data stand, by how it is stored
 laid_by : (image : List ℕ) (place others k : ℕ) (d : Dataset) (s : Storage) (stored : List (List ℕ)) → IsPlainArray (record d { storage = s }) others
-    → AreStoredFor stored (record d { storage = s }) → chunk_k image ≡ k → 1 ≤ k → k ≤ 32767 → IsLowStorage k (length stored) s → place + length (data_of k stored (record d { storage = s }) place) < 2 ^ 63
+    → AreStoredFor stored (record d { storage = s }) → chunk_k image ≡ k → 1 ≤ k → k ≤ highest_k → IsLowStorage k (length stored) s → place + length (data_of k stored (record d { storage = s }) place) < 2 ^ 63
     → part place (length (data_of k stored (record d { storage = s }) place)) image ≡ data_of k stored (record d { storage = s }) place
     → IsLaid image place (place + length (data_of k stored (record d { storage = s }) place)) (if is_stored stored s then Some place else None) (record d { storage = s })
 laid_by image place others k d Compact stored is are k_is some_k few_k low_tree room there =

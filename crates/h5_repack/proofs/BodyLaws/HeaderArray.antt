@@ -25,7 +25,7 @@ use Rattle.h5_model.specs.Format.Fill.{fill_value, old_fill_value, chosen_fill}
 use Rattle.h5_model.specs.Format.Fixed.{Fixed, IsFixed, fits}
 use Rattle.h5_model.specs.Edits.Refusal.{is_chunked}
 use Rattle.h5_model.specs.Format.Layout.{Layout, InMessage, InBlock, InChunks, layout_of, most_compact_bytes}
-use Rattle.h5_model.specs.Format.Messages.{Message, HasMessages, prefix_at, reference_count, count_of, first_body}
+use Rattle.h5_model.specs.Format.Messages.{Message, HasMessages, prefix_at, reference_count, count_of, first_body, most_messages}
 use Rattle.h5_model.specs.Tree.Places.{cells, extent_cells, index_of, place_of}
 use Rattle.h5_model.specs.Format.Bodies.{padded_body, datatype_bytes, fill_bytes, compact_bytes, contiguous_bytes, chunked_bytes}
 use Rattle.h5_model.specs.Format.Plain.{header_bytes, cells_bytes}
@@ -102,7 +102,7 @@ module _ (t : Fixed) (sizes : List ℕ) (maxima : List (Option ℕ)) (fill : ℤ
 
   -- ---- which there are
 
-  few_bodies : (without : Bool) (others : ℕ) → nat_lt 65535 (4 + others) ≡ without → 3 + others ≤ 65535 → length (bodies without) + others < 65536
+  few_bodies : (without : Bool) (others : ℕ) → nat_lt most_messages (4 + others) ≡ without → 3 + others ≤ most_messages → length (bodies without) + others < 65536
   few_bodies true others e few = omega (arith, few)
   few_bodies false others e few = grind (arith, nat_tests, e)
 
@@ -221,7 +221,7 @@ module _ (t : Fixed) (sizes : List ℕ) (maxima : List (Option ℕ)) (fill : ℤ
         header = header_bytes count (own ++ others_of p)
 
         module _ (whole : part at (length header) image ≡ header)
-            (fits_in : nat_lt 65535 (4 + length (others_of p)) ≡ without) (most : 3 + length (others_of p) ≤ 65535)
+            (fits_in : nat_lt most_messages (4 + length (others_of p)) ≡ without) (most : 3 + length (others_of p) ≤ most_messages)
             (short : length header < most_bytes) where
           listed : HasMessages image at messages (block at (length header) ∷ [])
           listed =
@@ -356,12 +356,12 @@ module _ (image : List ℕ) (place : ℕ) (t : Fixed) (sizes : List ℕ) (maxima
 -- ---- any array in this layout
 
 module _ (image : List ℕ) (table : FinMap nat_cmp ℕ) (at place end count size : ℕ) (p : Object) (plain : IsPlainObject p) (d : Dataset) (is : IsHead d (length (others_of p)))
-    (address : Option ℕ) (laid : IsLaid image place end address d) (most : 3 + length (others_of p) ≤ 65535) (few_links : count < 2 ^ 32) (short : size < most_bytes) where
+    (address : Option ℕ) (laid : IsLaid image place end address d) (most : 3 + length (others_of p) ≤ most_messages) (few_links : count < 2 ^ 32) (short : size < most_bytes) where
   abbrev without : Bool
-  without = nat_lt 65535 (4 + length (others_of p))
+  without = nat_lt most_messages (4 + length (others_of p))
 
   unwritten : without ≡ true → d.fill ≡ pos 0
-  unwritten h = let many : 65535 < 4 + length (others_of p) = grind (arith, nat_tests, h) in is.unwritten many
+  unwritten h = let many : most_messages < 4 + length (others_of p) = grind (arith, nat_tests, h) in is.unwritten many
 
   abbrev body : List ℕ
   body = array_layout d address

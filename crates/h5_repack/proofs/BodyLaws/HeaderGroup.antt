@@ -12,7 +12,7 @@ use Rattle.h5_model.specs.Format.Addresses.{symbol_table_of}
 use Rattle.h5_model.specs.Format.Limits.{most_bytes}
 use Rattle.h5_model.specs.Format.Links.{HasLinks}
 use Rattle.h5_model.specs.Format.MessageTypes.{nil_kind, attribute_kind, continuation_kind, symbol_table_kind}
-use Rattle.h5_model.specs.Format.Messages.{Message, HasMessages, prefix_at, reference_count}
+use Rattle.h5_model.specs.Format.Messages.{Message, HasMessages, prefix_at, reference_count, most_messages}
 use Rattle.h5_model.specs.Format.Bodies.{pair_bytes}
 use Rattle.h5_model.specs.Format.Plain.{messages_bytes}
 use Rattle.h5_model.specs.Format.Reads.{HasObject, HasContent, HasGroup, InGroup, IsSame}
@@ -66,7 +66,7 @@ module _ (image : List ℕ) (table : FinMap nat_cmp ℕ) (at leaf internal tree 
   unfolding in_group
   known = each_message in_group (at + 16) (cs ++ others_of o) (refl, others_pass o plain in_group other_in_group)
 
-  module _ (few : 1 + length (others_of o) ≤ 65535) (low : length (messages_bytes (others_of o)) < most_bytes)
+  module _ (few : 1 + length (others_of o) ≤ most_messages) (low : length (messages_bytes (others_of o)) < most_bytes)
       (there : part at (length (group_header tree heap (others_of o))) image ≡ group_header tree heap (others_of o)) where
     listed : HasMessages image at ms (block at (length (group_header tree heap (others_of o))) ∷ [])
     listed = header_reads image at 1 (cs ++ others_of o) there (all_plain o plain (at + 16) cs content) (omega (arith, few)) (omega (arith, low))
@@ -100,7 +100,7 @@ module _ (image : List ℕ) (table : FinMap nat_cmp ℕ) (at leaf internal tree 
 -- A group's header is that of the group, and is counted once.
 pub group_object : (image : List ℕ) (table : FinMap nat_cmp ℕ) (at leaf internal tree heap : ℕ) (o : Object) (links : Links)
     (found : List (List ℕ × Target)) (blocks : List Block) → IsPlainObject o → o.content ≡ Group links
-    → 1 + length (others_of o) ≤ 65535 → length (messages_bytes (others_of o)) < most_bytes → tree < 2 ^ 64 → heap < 2 ^ 64
+    → 1 + length (others_of o) ≤ most_messages → length (messages_bytes (others_of o)) < most_bytes → tree < 2 ^ 64 → heap < 2 ^ 64
     → part at (length (group_header tree heap (others_of o))) image ≡ group_header tree heap (others_of o)
     → leaf_k image ≡ leaf → internal_k image ≡ internal → HasLinks image leaf internal tree heap found blocks
     → AllZip (IsSame table) (entries links) found

@@ -5,6 +5,7 @@ use Rattle.std.specs.Prelude.{nat_lt, if◌then◌else◌, ◌<◌, pos}
 use Rattle.std.specs.List.{AllZip}
 use Rattle.h5_model.specs.Format.Limits.{most_cells, most_dimensions}
 use Rattle.h5_model.specs.Format.MessageTypes.{dataspace_kind, data_layout_kind}
+use Rattle.h5_model.specs.Format.Messages.{most_messages}
 use Rattle.h5_bytes.specs.Texts.{pad8}
 use Rattle.h5_bytes.specs.Bytes.{little_bytes}
 use Rattle.h5_model.specs.Edits.Refusal.{is_chunked}
@@ -68,7 +69,7 @@ pub record IsHead (d : Dataset) (others : ℕ) : Type 0 where
   pub few : extent_cells d.sizes ≤ most_cells
   pub fixed : IsFixed d.fixed
   pub sound : IsDataset d
-  pub unwritten : 65535 < 4 + others → d.fill ≡ pos 0
+  pub unwritten : most_messages < 4 + others → d.fill ≡ pos 0
 
 pub head_of : (d : Dataset) (others : ℕ) → IsPlainArray d others → IsHead d others
 head_of d others is = record {
@@ -107,7 +108,7 @@ messages_counted d address others is =
     = ap message_size (length-space_body chunked d.sizes d.maxima same
     ∙ ap (λ b. dataspace_length (length d.sizes) + (if b then 8 * length d.sizes else 0)) (writes_counted d.sizes d.maxima d.storage)) in
     let extent = (space_padded chunked d.sizes d.maxima is.ranked same).2 in
-    let fills = fill_counted chunked d.fixed d.fill (nat_lt 65535 (4 + others)) in
+    let fills = fill_counted chunked d.fixed d.fill (nat_lt most_messages (4 + others)) in
     let long : length (cells_bytes d.fixed d.cells) ≡ cells d.sizes * (d.fixed).size
     = length-cells_bytes d.fixed d.cells ∙ ap (λ n. n * (d.fixed).size) (is.sound).counted in
     let layout : message_size (length (array_layout d address)) ≡ message_size (layout_size d.sizes d.storage (d.fixed).size)

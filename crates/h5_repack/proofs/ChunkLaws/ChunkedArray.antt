@@ -16,12 +16,12 @@ use Rattle.h5_model.specs.Format.Chunks.{HasChunks, IsOffset}
 use Rattle.h5_model.specs.Format.Fixed.{IsFixed}
 use Rattle.h5_model.specs.Format.Layout.{InChunks, layout_of}
 use Rattle.h5_model.specs.Format.Limits.{most_bytes, most_dimensions}
-use Rattle.h5_model.specs.Format.Messages.{prefix_at, reference_count}
+use Rattle.h5_model.specs.Format.Messages.{prefix_at, reference_count, most_messages}
 use Rattle.h5_model.specs.Format.Plain.{cells_bytes}
 use Rattle.h5_model.specs.Format.PlainLength.{data_bytes}
 use Rattle.h5_model.specs.Format.Reads.{HasObject}
 use Rattle.h5_model.specs.Format.Sizes.{header_size, layout_size}
-use Rattle.h5_model.specs.Format.Superblock.{chunk_k}
+use Rattle.h5_model.specs.Format.Superblock.{chunk_k, highest_k}
 use Rattle.h5_model.specs.Tree.Objects.{Object, Array, Dataset, Storage, Chunked}
 use Rattle.h5_model.specs.Tree.Places.{cells}
 use Rattle.h5_model.specs.Tree.Sound.{IsDataset}
@@ -69,7 +69,7 @@ module _ (d : Dataset) (chunk : List ℕ) (e : d.storage ≡ Chunked chunk) (fix
         let any : (length stored == 0) ≡ false = grind (arith, nat_tests) in
         rw (e, any) (sym (length-chunked k some_k chunk d first others place (ranked_of [] d chunk grid stored held)))
 
-    module _ (image : List ℕ) (k_is : chunk_k image ≡ k) (few_k : k ≤ 32767) (low_tree : root_level k (length (first ∷ others)) ≤ 15) (few : length d.sizes ≤ most_dimensions) (room : place + length bytes < 2 ^ 63)
+    module _ (image : List ℕ) (k_is : chunk_k image ≡ k) (few_k : k ≤ highest_k) (low_tree : root_level k (length (first ∷ others)) ≤ 15) (few : length d.sizes ≤ most_dimensions) (room : place + length bytes < 2 ^ 63)
         (there : part place (length bytes) image ≡ bytes) where
       says : layout_of d.sizes (d.fixed).size (padded_body (array_layout d (Some place))) ≡ Some (InChunks chunk (Some place))
       says =
@@ -101,7 +101,7 @@ module _ (d : Dataset) (chunk : List ℕ) (e : d.storage ≡ Chunked chunk) (fix
 
       -- the header, the tree and the chunks are those of the array
       pub chunked_reads : (table : FinMap nat_cmp ℕ) (at count : ℕ) (p : Object) → IsPlainObject p → p.content ≡ Array d → IsHead d (length (others_of p))
-          → 3 + length (others_of p) ≤ 65535 → count < 2 ^ 32 → header_size p < most_bytes → part at (header_size p) image ≡ counted_header count p d (Some place)
+          → 3 + length (others_of p) ≤ most_messages → count < 2 ^ 32 → header_size p < most_bytes → part at (header_size p) image ≡ counted_header count p d (Some place)
           → (blocks : List Block) × HasObject image table at p (block at (header_size p) ∷ blocks) × (reference_count (prefix_at image at) ≡ count)
           × Run place blocks (place + length bytes)
       chunked_reads table at count p plain_p content head most few_links short stands_at =

@@ -8,6 +8,7 @@ use Rattle.h5_bytes.specs.Bytes.{part}
 use Rattle.h5_bytes.specs.Blocks.{Run, block}
 use Rattle.h5_bytes.specs.declared.Block.{Block}
 use Rattle.h5_bytes.proofs.BlockLaws.{all_so}
+use Rattle.h5_model.specs.Format.Superblock.{highest_k}
 use Rattle.h5_model.specs.Format.Chunks.{Chunks, HasChunks, IsOffset}
 use Rattle.h5_model.specs.Format.Nodes.{Kind, chunk_kind, node_length, tree_blocks}
 use Rattle.h5_model.specs.Format.PlainLength.{nodes_over}
@@ -79,7 +80,7 @@ module _ (image : List ℕ) (d : Dataset) (chunk : List ℕ) where
   ranked_of grid stored held = all_so (AllZip IsOffset chunk) (λ (o : List ℕ). length o ≡ length chunk) stored (λ o is. (key_of chunk grid size o is).long) held
 
   -- in a tree of nodes of this K
-  module _ (k : ℕ) (some_k : 1 ≤ k) (few_k : k ≤ 32767) (grid : IsGridOf chunk) (some : 1 ≤ size) (small : size < 2 ^ 32) (at : ℕ) (first : List ℕ)
+  module _ (k : ℕ) (some_k : 1 ≤ k) (few_k : k ≤ highest_k) (grid : IsGridOf chunk) (some : 1 ≤ size) (small : size < 2 ^ 32) (at : ℕ) (first : List ℕ)
       (others : List (List ℕ)) (are : AreStoredChunks d chunk (first ∷ others)) (low_tree : root_level k (length (first ∷ others)) ≤ 15)
       (room : at + length (chunked_data k d chunk (first ∷ others) at) < 2 ^ 63)
       (there : part at (length (chunked_data k d chunk (first ∷ others) at)) image ≡ chunked_data k d chunk (first ∷ others) at) where

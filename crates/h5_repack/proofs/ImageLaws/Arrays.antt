@@ -9,7 +9,7 @@ use Rattle.h5_bytes.specs.Bytes.{part}
 use Rattle.h5_bytes.specs.Blocks.{block, Inside, Run, cover, holds}
 use Rattle.h5_bytes.specs.declared.Block.{Block}
 use Rattle.h5_bytes.proofs.BlockLaws.{cover-run, holds_join, run_rises}
-use Rattle.h5_model.specs.Format.Limits.{most_bytes}
+use Rattle.h5_model.specs.Format.Limits.{most_bytes, most_hard_links}
 use Rattle.h5_model.specs.Format.Messages.{prefix_at, reference_count}
 use Rattle.h5_model.specs.Format.PlainLength.{content_bytes, data_bytes}
 use Rattle.h5_model.specs.Format.Reads.{HasObject, IsGroup}
@@ -96,7 +96,7 @@ module _ (array_length : ArrayLength) (k : KValues) (stored : StoredIn) (tree : 
         let never : false ≡ true = subst (λ (r : Option Links). IsSome r) none rooted in absurd (cc)
     by_test false other = refl
 
-  few_links : hard_links tree number ≤ 65535
+  few_links : hard_links tree number ≤ most_hard_links
   few_links = (plain.sound).few number (ap is_some is)
 
   module _ (array_reads : ArrayReads) (end : ℕ) (fits_in : end ≤ most_bytes) (image : List ℕ) (k_is : chunk_k image ≡ chunk_k_of k) (place : ℕ) (found : get table number ≡ Some place) (high : 1 ≤ place) (low : place + object_length k (counts_of stored number) o ≤ end)

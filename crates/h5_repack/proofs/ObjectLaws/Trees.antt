@@ -11,6 +11,7 @@ use Rattle.std.specs.FinMap.Entries.{below_all, same_entries}
 use Rattle.std.specs.List.{AllZip, sum_by, count_by, cons_option, filter_map}
 use Rattle.std.specs.Option.{option_and_then, option_flatten}
 use Rattle.std.specs.Ordering.{nat_cmp, eq_by_cmp}
+use Rattle.h5_model.specs.Format.Limits.{most_hard_links}
 use Rattle.h5_model.proofs.ReachLaws.{Entry, find_entry}
 use Rattle.h5_model.specs.Tree.Objects.{Tree, Object, Content, Group, Array, Link, ToObject, links_in, link_in, leads_to, links_to, hard_links}
 use Rattle.h5_laws.specs.Trees.Sound.{IsSoundTree}
@@ -253,6 +254,6 @@ hard_links_counted objects tree are number =
 
 -- few enough for a number of 32 bits
 pub counted_few : (objects : List (Option NewObject)) (tree : Tree) → AreObjects objects tree → IsSoundTree tree → (number : ℕ) → IsFilled objects number
-    → sum_by (counted number) objects ≤ 65535
+    → sum_by (counted number) objects ≤ most_hard_links
 counted_few objects tree are sound number filled =
     omega (arith, hard_links_counted objects tree are number, sound.few number (some_of objects tree are number filled))

@@ -12,7 +12,7 @@ use Rattle.h5_model.specs.Format.Messages.{prefix_at, reference_count, most_mess
 use Rattle.h5_model.specs.Format.Plain.{header_bytes}
 use Rattle.h5_model.specs.Format.Reads.{Placed, ReadsAs, HasObject, all_blocks}
 use Rattle.h5_model.specs.Format.Sizes.{header_size}
-use Rattle.h5_model.specs.Format.Superblock.{chunk_k, k_values}
+use Rattle.h5_model.specs.Format.Superblock.{chunk_k, k_values, highest_k}
 use Rattle.h5_model.specs.Tree.Objects.{Tree, Object, Array, Dataset}
 use Rattle.h5_repack.specs.Bodies.Bodies.{others_of, array_messages}
 use Rattle.h5_repack.specs.Bodies.Headers.{AreStoredFor, IsLowStorage, is_stored, data_of}
@@ -37,7 +37,7 @@ counted_header count p d address = header_bytes count (array_messages d address 
 abbrev pub ArrayReads : Type 0
 ArrayReads = (image : List ℕ) (table : FinMap nat_cmp ℕ) (at place count k : ℕ) (p : Object) (d : Dataset) (stored : List (List ℕ)) → IsPlainObject p → p.content ≡ Array d
     → IsPlainArray d (length (others_of p)) → AreStoredFor stored d → 3 + length (others_of p) ≤ most_messages → count < 2 ^ 32 → header_size p < most_bytes
-    → chunk_k image ≡ k → 1 ≤ k → k ≤ 32767 → IsLowStorage k (length stored) d.storage
+    → chunk_k image ≡ k → 1 ≤ k → k ≤ highest_k → IsLowStorage k (length stored) d.storage
     → place + length (data_of k stored d place) < 2 ^ 63
     → part at (header_size p) image ≡ counted_header count p d (if is_stored stored d.storage then Some place else None)
     → part place (length (data_of k stored d place)) image ≡ data_of k stored d place

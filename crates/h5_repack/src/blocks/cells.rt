@@ -3,6 +3,7 @@ ghost use Rattle.std.specs.Prelude.{◌≡◌, ℕ, ◌-◌, ◌*◌, ◌^◌, �
 ghost use Rattle.h5_model.specs.Format.Fixed.{bytes_of, fits};
 ghost use Rattle.h5_bytes.specs.Numbers.{zeros};
 ghost use Rattle.h5_model.specs.Format.Limits.{most_bytes};
+ghost use Rattle.h5_model.specs.Format.Superblock.{highest_k};
 ghost use Rattle.h5_model.specs.Format.Plain.{cells_bytes};
 ghost use Rattle.h5_model.specs.Tree.Places.{cells as cells_of};
 ghost use Rattle.h5_btree.specs.Writing.Written.{root_level};
@@ -111,7 +112,7 @@ fn stores_data(array: &ArrayRef<'_>, cells: &Cells<'_>) -> bool
 /// many. `chunk_k` is K of the nodes of the tree over chunks.
 pub fn data_length(chunk_k: u16, array: &ArrayRef<'_>, cells: &Cells<'_>) -> Option<u64>
     requires some { 1 ≤ chunk_k }
-    requires most { chunk_k ≤ 32767 }
+    requires most { chunk_k ≤ highest_k }
     requires array { IsArrayToWrite array.now cells.now }
     ensures { (place : ℕ) → IsLength result (length (data_written chunk_k cells.now array.now place)) }
 {
@@ -129,7 +130,7 @@ pub fn data_length(chunk_k: u16, array: &ArrayRef<'_>, cells: &Cells<'_>) -> Opt
 /// Whether the tree of the chunks that are stored, of nodes of this K, has at most 16 levels.
 pub(crate) fn has_low_tree(chunk_k: u16, cells: &Cells<'_>) -> bool
     requires some { 1 ≤ chunk_k }
-    requires most { chunk_k ≤ 32767 }
+    requires most { chunk_k ≤ highest_k }
     requires few { length (chunks_of cells.now) < 2 ^ 32 }
     ensures { result ≡ nat_le (root_level chunk_k (length (chunks_of cells.now))) 15 }
 {
@@ -168,7 +169,7 @@ pub fn push_data(
     place: u64,
 ) -> Result<(), AllocError>
     requires some { 1 ≤ chunk_k }
-    requires most { chunk_k ≤ 32767 }
+    requires most { chunk_k ≤ highest_k }
     requires array { IsArrayToWrite array.now cells.now }
     requires level { root_level chunk_k (length (chunks_of cells.now)) ≤ 15 }
     requires low { place ≤ most_bytes }

@@ -2,6 +2,7 @@
 ghost use Rattle.std.specs.Prelude.{◌≡◌, ℕ, ℤ, ◌+◌, ◌-◌, ◌*◌, ◌^◌, ◌<◌, ◌≤◌, ◌++◌, ◌∷◌, IfOk, List, OnOk, Some, drop, length, map, nat_le, slice_get};
 ghost use Rattle.std.specs.List.{AllByRecursion};
 ghost use Rattle.h5_model.specs.Format.Limits.{most_bytes, most_chunk_bytes};
+ghost use Rattle.h5_model.specs.Format.Superblock.{highest_k};
 ghost use Rattle.h5_model.specs.Format.Nodes.{chunk_kind, node_length};
 ghost use Rattle.h5_model.specs.Format.PlainLength.{nodes_over as nodes};
 ghost use Rattle.h5_model.specs.Tree.Objects.{Chunked};
@@ -41,7 +42,7 @@ pub(crate) fn has_chunks(cells: &Cells<'_>) -> bool
 
 /// The kind of the tree over chunks, of nodes of this K.
 fn kind_of(chunk_k: u16, held: &HeldChunks<'_>) -> NodeKind
-    requires { chunk_k ≤ 32767 }
+    requires { chunk_k ≤ highest_k }
     ensures kind { result ≡ chunk_kind chunk_k (length held.now.chunk) }
     ensures short { result.key_length ≤ 272 }
     ensures ranked { AllByRecursion (λ (part : List ℕ × List ℤ).
@@ -53,7 +54,7 @@ fn kind_of(chunk_k: u16, held: &HeldChunks<'_>) -> NodeKind
 /// How many bytes the nodes of a tree of this kind have over so many chunks.
 fn nodes_length(kind: &NodeKind, count: u64) -> u64
     requires some { 1 ≤ kind.now.k }
-    requires most { kind.now.k ≤ 32767 }
+    requires most { kind.now.k ≤ highest_k }
     requires short { kind.now.key_length ≤ 272 }
     requires few { count < 2 ^ 32 }
     ensures exact { result ≡ nodes 64 (2 * kind.now.k) count * node_length kind.now }
@@ -68,7 +69,7 @@ const MAXIMUM_LEVEL: u32 = 15;
 /// Whether the tree of stored chunks has at most 16 levels.
 pub(crate) fn has_low_chunks(chunk_k: u16, held: &HeldChunks<'_>) -> bool
     requires some { 1 ≤ chunk_k }
-    requires most { chunk_k ≤ 32767 }
+    requires most { chunk_k ≤ highest_k }
     requires few { length (part_offsets held.now) < 2 ^ 32 }
     ensures { result ≡ nat_le (level chunk_k (length (part_offsets held.now))) 15 }
 {
@@ -78,7 +79,7 @@ pub(crate) fn has_low_chunks(chunk_k: u16, held: &HeldChunks<'_>) -> bool
 /// How many bytes stored chunks have with their tree; `None` where an image cannot have as many.
 pub(crate) fn chunks_length(chunk_k: u16, held: &HeldChunks<'_>) -> Option<u64>
     requires some { 1 ≤ chunk_k }
-    requires most { chunk_k ≤ 32767 }
+    requires most { chunk_k ≤ highest_k }
     requires whole { AreWhole held.now }
     ensures { (place : ℕ) → IsLength result (length (chunks_written chunk_k held.now place)) }
 {
@@ -150,7 +151,7 @@ fn push_chunk_tree(
 ) -> Result<(), AllocError>
     requires some { 1 ≤ length held.now.parts }
     requires low_k { 1 ≤ chunk_k }
-    requires high_k { chunk_k ≤ 32767 }
+    requires high_k { chunk_k ≤ highest_k }
     requires level { level chunk_k (length held.now.parts) ≤ 15 }
     requires whole { AreWhole held.now }
     requires low { place ≤ most_bytes }
@@ -193,7 +194,7 @@ pub(crate) fn push_chunks(
     place: u64,
 ) -> Result<(), AllocError>
     requires some { 1 ≤ chunk_k }
-    requires most { chunk_k ≤ 32767 }
+    requires most { chunk_k ≤ highest_k }
     requires level { level chunk_k (length (part_offsets held.now)) ≤ 15 }
     requires whole { AreWhole held.now }
     requires low { place ≤ most_bytes }

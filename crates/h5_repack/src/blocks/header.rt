@@ -6,6 +6,7 @@ ghost use Rattle.h5_bytes.specs.Texts.{pad8};
 ghost use Rattle.h5_model.specs.Format.Bodies.{pair_bytes};
 ghost use Rattle.h5_model.specs.Format.Fixed.{fits};
 ghost use Rattle.h5_model.specs.Format.Limits.{most_bytes};
+ghost use Rattle.h5_model.specs.Format.Messages.{most_messages};
 ghost use Rattle.h5_model.specs.Format.Plain.{message_bytes, messages_bytes};
 ghost use Rattle.h5_model.specs.Format.Sizes.{message_size};
 ghost use Rattle.h5_model.specs.Tree.Places.{cells as cells_of};
@@ -147,7 +148,7 @@ fn push_fill(out: &mut Vec<u8>, chunked: bool, fixed: &Fixed, fill: i128) -> Res
 
 /// How many bytes the header of a group has, with its prefix, its Symbol Table message and these other messages.
 pub fn group_header_length(others: &Others) -> u64
-    requires { others.now.count + 1 ≤ 65535 }
+    requires { others.now.count + 1 ≤ most_messages }
     ensures exact { (tree heap : ℕ) → result ≡ length (group_written tree heap others.now) }
     ensures few { result ≤ 2 ^ 33 }
     ensures holds { length others.now.bytes ≤ result }
@@ -167,7 +168,7 @@ pub fn push_group_header(
     heap: u64,
     others: &Others,
 ) -> Result<(), AllocError>
-    requires few { others.now.count + 1 ≤ 65535 }
+    requires few { others.now.count + 1 ≤ most_messages }
     requires low { length others.now.bytes ≤ most_bytes }
     ensures { OnOk result (out.new.items ≡ out.old.items ++ group_written tree heap others.now) }
 {
@@ -180,15 +181,15 @@ pub fn push_group_header(
 
 /// Whether the fill has a message of its own: the header can count it.
 fn has_fill(others: &Others) -> bool
-    requires { others.now.count ≤ 65535 }
-    ensures { result ≡ not (nat_lt 65535 (4 + others.now.count)) }
+    requires { others.now.count ≤ most_messages }
+    ensures { result ≡ not (nat_lt most_messages (4 + others.now.count)) }
 {
-    4 + others.count() <= 65535
+    4 + others.count() <= most_messages
 }
 
 /// How many bytes the fill value message of an array has, where there is one.
 fn fill_message_length(fixed: &Fixed, fill: i128, others: &Others) -> u64
-    requires { others.now.count ≤ 65535 }
+    requires { others.now.count ≤ most_messages }
     ensures exact { (chunked : Bool)
         → result ≡ length (messages_bytes (fill_messages chunked fixed.now fill others.now.count)) }
     ensures few { result ≤ 24 }
@@ -206,7 +207,7 @@ fn push_fill_message(
     array: &ArrayRef<'_>,
     others: &Others,
 ) -> Result<(), AllocError>
-    requires { others.now.count ≤ 65535 }
+    requires { others.now.count ≤ most_messages }
     ensures { OnOk result (out.new.items ≡ out.old.items ++ messages_bytes
         (fill_messages (in_chunks array.now.layout) array.now.fixed array.now.fill others.now.count)) }
 {
@@ -218,7 +219,7 @@ fn push_fill_message(
 
 /// How many messages an array's header has, with these behind its own.
 fn messages_count(others: &Others) -> u16
-    requires { others.now.count + 3 ≤ 65535 }
+    requires { others.now.count + 3 ≤ most_messages }
     ensures { (a : Described) (c : NewCells) (address : Option ℕ) → result ≡ count_of a c others.now address }
 {
     let count = others.count() as u16;
@@ -233,7 +234,7 @@ fn messages_count(others: &Others) -> u16
 fn messages_size(array: &ArrayRef<'_>, others: &Others) -> u64
     requires same { length array.now.maxima ≡ length array.now.sizes }
     requires fits { FitsLayout (cells_of array.now.sizes * array.now.fixed.size) array.now.layout }
-    requires few { others.now.count + 3 ≤ 65535 }
+    requires few { others.now.count + 3 ≤ most_messages }
     ensures exact { (c : NewCells) (address : Option ℕ)
         → HasRoom c (cells_of array.now.sizes * array.now.fixed.size)
         → result ≡ size_of array.now c others.now address }
@@ -254,7 +255,7 @@ fn messages_size(array: &ArrayRef<'_>, others: &Others) -> u64
 pub fn array_header_length(array: &ArrayRef<'_>, others: &Others) -> u64
     requires same { length array.now.maxima ≡ length array.now.sizes }
     requires fits { FitsLayout (cells_of array.now.sizes * array.now.fixed.size) array.now.layout }
-    requires few { others.now.count + 3 ≤ 65535 }
+    requires few { others.now.count + 3 ≤ most_messages }
     ensures exact { (c : NewCells) (count : ℕ) (address : Option ℕ)
         → HasRoom c (cells_of array.now.sizes * array.now.fixed.size)
         → result ≡ length (header_written count array.now c others.now address) }
@@ -283,7 +284,7 @@ pub fn push_array_header(
     references: u32,
 ) -> Result<(), AllocError>
     requires array { IsArrayToWrite array.now cells.now }
-    requires few { others.now.count + 3 ≤ 65535 }
+    requires few { others.now.count + 3 ≤ most_messages }
     requires address { ForSome address (λ at. at < 2 ^ 64 - 1) }
     requires low { length others.now.bytes ≤ most_bytes }
     ensures { OnOk result (out.new.items

@@ -2,6 +2,7 @@
 //! sections IV.A.1.a and IV.A.2).
 ghost use Rattle.std.specs.Prelude.{◌≡◌, ℕ, ◌*◌, ◌%◌, ◌<◌, ◌≤◌, [], ◌∷◌, ◌++◌, List, OnOk, length};
 ghost use Rattle.h5_model.specs.Edits.Applied.{attribute_from};
+ghost use Rattle.h5_model.specs.Format.Messages.{most_messages};
 ghost use Rattle.h5_repack.specs.Bodies.Bodies.{attribute_message};
 ghost use Rattle.h5_repack.specs.Bodies.Sound.{IsPlainAttribute};
 ghost use Rattle.h5_repack.specs.Blocks.Written.{AreOthers};
@@ -65,7 +66,7 @@ impl Others {
     pub fn push_kept(&mut self, kind: u16, body: &[u8]) -> Result<(), AllocError>
         requires padded { length body.now % 8 ≡ 0 }
         requires low { length body.now < 65536 }
-        requires few { self.old.count < 65536 }
+        requires few { self.old.count ≤ most_messages }
         ensures { OnOk result
             ((ms : List (ℕ × List ℕ)) → AreOthers ms self.old
             → AreOthers (ms ++ (kind, body.now) ∷ []) self.new) }
@@ -86,7 +87,7 @@ impl Others {
     /// `AllocError` if memory is refused.
     pub fn push_new(&mut self, attr: &AttrSpec) -> Result<(), AllocError>
         requires plain { IsPlainAttribute (attr.now.name, attribute_from attr.now) }
-        requires few { self.old.count < 65536 }
+        requires few { self.old.count ≤ most_messages }
         ensures { OnOk result ((ms : List (ℕ × List ℕ)) → AreOthers ms self.old
             → AreOthers (ms ++ attribute_message (attr.now.name, attribute_from attr.now) ∷ []) self.new) }
     {
@@ -106,7 +107,7 @@ impl Others {
     /// `AllocError` if memory is refused.
     pub fn push_stored(&mut self, attr: &AttributeBody<'_>) -> Result<(), AllocError>
         requires plain { IsPlainAttribute attr.now }
-        requires few { self.old.count < 65536 }
+        requires few { self.old.count ≤ most_messages }
         ensures { OnOk result
             ((ms : List (ℕ × List ℕ)) → AreOthers ms self.old
             → AreOthers (ms ++ attribute_message attr.now ∷ []) self.new) }

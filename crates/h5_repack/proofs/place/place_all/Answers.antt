@@ -1,5 +1,6 @@
 use Rattle.std.proofs.Common.{◌<◌, ◌∙◌, Some, length, length-set}
 use Rattle.std.specs.Prelude.{slice_index}
+use Rattle.h5_model.specs.Format.Limits.{most_bytes}
 use Rattle.h5_repack.proofs.Headers.{all_at, end_step, headers_step, end_over}
 use Rattle.h5_repack.proofs.place.place_all.Goals as goal
 
@@ -8,7 +9,7 @@ returns-then-end-gt-MAXIMUM_IMAGE-clause-refused c =
     let i = c.loop-number.number-index in
     let within = all_at (λ n. n < length c.args.sizes.now) c.args.order.now i c.requires.below c.loop-number-test.true in
     end_over c.args.sizes.now c.args.order.now i c.loop-number.end c.whole_length-end.result _ c.loop-number-test.true within c.whole_length-end.ensures.exact
-    2147483648 _ c.if-end-gt-MAXIMUM_IMAGE.true c.loop-number.invariant.end_is
+    most_bytes _ c.if-end-gt-MAXIMUM_IMAGE.true c.loop-number.invariant.end_is
 
 pub loop-number-preserved : goal.loop-number-preserved
 loop-number-preserved c =

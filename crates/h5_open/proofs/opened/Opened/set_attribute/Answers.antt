@@ -9,7 +9,7 @@ use Rattle.std.proofs.lemmas.Result.{err_from_is_err_and}
 use Rattle.h5_model.specs.Edits.Applied.{with_attributes}
 use Rattle.h5_model.specs.Format.AttributeBody.{attribute_of}
 use Rattle.h5_model.specs.Format.Limits.{most_bytes, most_cells}
-use Rattle.h5_model.specs.Format.Messages.{prefix_at, reference_count}
+use Rattle.h5_model.specs.Format.Messages.{prefix_at, reference_count, most_messages}
 use Rattle.h5_model.specs.Format.Reads.{HasAttributes}
 use Rattle.h5_model.specs.Format.Superblock.{end_of_file, end_field}
 use Rattle.h5_model.specs.Tree.Objects.{Attribute, Attributes, with_object}
@@ -36,26 +36,26 @@ use Rattle.h5_open.proofs.opened.Opened.set_attribute.Goals as goal
 use Rattle.h5_open.proofs.opened.Opened.set_attribute.Goals.{After-from_residual, After-write_end}
 
 -- what is said of the total, by the header's own
-header_by : (P : Type 0) (full : Bool) (n : ℕ) → full ≡ nat_lt 65535 (n + 2) → P ↔ (65535 < n + 2) → P ↔ (full ≡ true)
+header_by : (P : Type 0) (full : Bool) (n : ℕ) → full ≡ nat_lt most_messages (n + 2) → P ↔ (most_messages < n + 2) → P ↔ (full ≡ true)
 header_by P full n is told = (
   λ holds. let low = told.0 holds in grind (arith, nat_tests, low, is),
-  λ tested. let high : 65535 < n + 2 = grind (arith, nat_tests, tested, is) in told.1 high,
+  λ tested. let high : most_messages < n + 2 = grind (arith, nat_tests, tested, is) in told.1 high,
 )
 
-image_by : (P Q : Type 0) (full : Bool) (n : ℕ) → full ≡ nat_lt 65535 (n + 2) → P ↔ ((n + 2 ≤ 65535) × Q) → P ↔ ((full ≡ false) × Q)
+image_by : (P Q : Type 0) (full : Bool) (n : ℕ) → full ≡ nat_lt most_messages (n + 2) → P ↔ ((n + 2 ≤ most_messages) × Q) → P ↔ ((full ≡ false) × Q)
 image_by P Q full n is told = (
   λ holds. let both = told.0 holds in let low = both.0 in (grind (arith, nat_tests, low, is), both.1),
-  λ both. let tested = both.0 in let low : n + 2 ≤ 65535 = grind (arith, nat_tests, tested, is) in told.1 (low, both.1),
+  λ both. let tested = both.0 in let low : n + 2 ≤ most_messages = grind (arith, nat_tests, tested, is) in told.1 (low, both.1),
 )
 
 -- room that is left where it was made
 no_fault : (e : AddFault) → Ok (tt {0}) ≡ Err e → ⊥
 no_fault e is = absurd (cc)
 
-room_by : (P Q : Type 0) (n k : ℕ) → (P → ⊥) → (Q → ⊥) → P ↔ (65535 < n + 2) → Q ↔ ((n + 2 ≤ 65535) × (most_bytes < k)) → k ≤ most_bytes
+room_by : (P Q : Type 0) (n k : ℕ) → (P → ⊥) → (Q → ⊥) → P ↔ (most_messages < n + 2) → Q ↔ ((n + 2 ≤ most_messages) × (most_bytes < k)) → k ≤ most_bytes
 room_by P Q n k small short header image =
-    let none : 65535 < n + 2 → ⊥ = λ high. small (header.1 high) in
-    let low : n + 2 ≤ 65535 = omega (arith, none) in
+    let none : most_messages < n + 2 → ⊥ = λ high. small (header.1 high) in
+    let low : n + 2 ≤ most_messages = omega (arith, none) in
     let fits : most_bytes < k → ⊥ = λ high. short (image.1 (low, high)) in
     omega (arith, fits)
 
@@ -75,12 +75,12 @@ module _ (image : Space) (slots : List (Option OpenedObject)) (numbers : BTreeMa
   lent = slot_lent_mut slots number slot.0 slot.1
 
   module _ (p : OpenedObject) (at : slice_get slots number ≡ Some (Some p)) where
-    full : has_full_header f number ≡ nat_lt 65535 (length p.messages.list + 2)
+    full : has_full_header f number ≡ nat_lt most_messages (length p.messages.list + 2)
     full = ap (λ (g : FileState). has_full_header g number) (sym view) ∙ header_full image slots numbers opened number p at
 
-    image_of : (P : Type 0) (size : ℕ) → P ↔ ((length p.messages.list + 2 ≤ 65535) × (most_bytes < length image.bytes + (32 + size)))
-        → P ↔ ((length p.messages.list + 2 ≤ 65535) × (most_bytes < length f.image + (32 + size)))
-    image_of P size = subst (λ (g : FileState). P ↔ ((length p.messages.list + 2 ≤ 65535) × (most_bytes < length g.image + (32 + size)))) view
+    image_of : (P : Type 0) (size : ℕ) → P ↔ ((length p.messages.list + 2 ≤ most_messages) × (most_bytes < length image.bytes + (32 + size)))
+        → P ↔ ((length p.messages.list + 2 ≤ most_messages) × (most_bytes < length f.image + (32 + size)))
+    image_of P size = subst (λ (g : FileState). P ↔ ((length p.messages.list + 2 ≤ most_messages) × (most_bytes < length g.image + (32 + size)))) view
 
     module _ (r : Space) (was : r ≡ record image { room_bytes = r.room_bytes; room_blocks = r.room_blocks }) where
       roomy_opened : IsOpened r slots numbers
