@@ -91,7 +91,8 @@ impl Messages {
     /// a new block, which has 32 bytes more than the body. Else `NoMemory`, but never where there is room already. A
     /// refusal changes nothing but what room there is.
     pub fn make_room(&mut self, image: &mut Image, size: u16) -> Result<(), AddFault>
-        ensures header_full { (result ≡ Err AddFault.HeaderFull) ↔ (most_messages < length self.old.list + 2) }
+        ensures header_full { (result ≡ Err AddFault.HeaderFull)
+            ↔ (most_messages < length self.old.list + 2) }
         ensures image_full { (result ≡ Err AddFault.ImageFull)
             ↔ ((length self.old.list + 2 ≤ most_messages)
             × (most_bytes < length image.old.bytes + (32 + size))) }
@@ -142,7 +143,8 @@ impl Messages {
         requires own { kind ≢ continuation_kind }
         requires apart { IsApart self.old.blocks image.old.free (length image.old.bytes) }
         requires standing { IsStanding image.old.bytes self.old }
-        ensures header_full { (result ≡ Err AddFault.HeaderFull) ↔ (most_messages < length self.old.list + 2) }
+        ensures header_full { (result ≡ Err AddFault.HeaderFull)
+            ↔ (most_messages < length self.old.list + 2) }
         ensures image_full { (result ≡ Err AddFault.ImageFull)
             ↔ ((length self.old.list + 2 ≤ most_messages)
             × (most_bytes < length image.old.bytes + (32 + length body.now))) }
