@@ -3,6 +3,7 @@ use Rattle.std.proofs.Common.{◌≡◌, ℕ, zero, suc, Option, Some, None, Lis
 use Rattle.std.specs.FinMap.{get, entries}
 use Rattle.std.specs.List.{flat_map}
 use Rattle.std.specs.Option.{option_and_then, option_map_or}
+use Rattle.h5_model.specs.Format.Limits.{most_names}
 use Rattle.h5_model.specs.Scripts.Text.{content_text, joined_path, line_of, lines_below, link_line, list_text}
 use Rattle.h5_model.specs.Tree.Objects.{Tree, Links, Object, Content, Group, Array, Dataset, ToObject, dataset_of, dataset_in, links_in, links_of}
 use Rattle.h5_model.specs.Tree.Links.{tree_link}
@@ -134,9 +135,9 @@ lines_of_next tree depth down path name below number links listed are next joine
 -- ---- the whole list
 
 pub list_of_none : (tree : Tree) → links_of tree 0 ≡ None → codes "/ group\n" ≡ list_text tree
-list_of_none tree is = sym (ap (λ t. codes "/ group\n" ++ t) (lines_of_none tree 64 [] 0 is))
+list_of_none tree is = sym (ap (λ t. codes "/ group\n" ++ t) (lines_of_none tree most_names [] 0 is))
 
-pub list_of_links : (tree : Tree) (depth : ℕ) (path : List ℕ) (links listed : List (LinkOf ObjectNo)) → AreGroupLinks tree 0 links → suc depth ≡ 64 → path ≡ [] → listed ≡ links
+pub list_of_links : (tree : Tree) (depth : ℕ) (path : List ℕ) (links listed : List (LinkOf ObjectNo)) → AreGroupLinks tree 0 links → suc depth ≡ most_names → path ≡ [] → listed ≡ links
     → codes "/ group\n" ++ flat_map (lines_of_link tree depth path) (map tree_link listed) ≡ list_text tree
 list_of_links tree depth path links listed are deep none same =
     ap (λ p. codes "/ group\n" ++ flat_map (lines_of_link tree depth p) (map tree_link listed)) none

@@ -5,6 +5,7 @@ use Rattle.std.specs.List.{flat_map}
 use Rattle.std.specs.Option.{option_map, option_map_or}
 use Rattle.h5_laws.specs.Trees.Unlinked.{tree_left}
 use Rattle.h5_laws.proofs.SoundLaws.Removed.{unlinked_gives, unlinked_is}
+use Rattle.h5_model.specs.Format.Limits.{most_names}
 use Rattle.h5_model.specs.Edits.Touched.{touched_by}
 use Rattle.h5_model.specs.Tree.Objects.{Tree, Link, ToObject, Soft, object_of, within_names}
 use Rattle.h5_model.specs.Tree.Paths.{Here, object_at, object_there}
@@ -49,7 +50,7 @@ module _ (f : FileState) (path : List ℕ) (r : Removal) (is : IsRemoval f.tree 
   touched_is =
       let object : object_at f.tree path ≡ r.object = ap object_there is.stands ∙ object_led is.link ∙ sym is.leads in
       λ i. option_map_or (λ (p : ℕ × List ℕ). p.0 ∷ []) (is.parent i) []
-      ++ flat_map (within_names f.tree 64) (option_map_or (λ (number : ℕ). number ∷ []) (object i) [])
+      ++ flat_map (within_names f.tree most_names) (option_map_or (λ (number : ℕ). number ∷ []) (object i) [])
 
   pub unlink_made : (now : FileState) (e : Edited) → IsChangedInPlace f now after f.next touched 0
       → option_map (λ (o : ObjectNo). o.0) e.object ≡ None → e.refreshed ≡ 0 → IsEdited f edit now e

@@ -18,7 +18,7 @@ use Rattle.h5_laws.proofs.RisingMaps.{searched, rise_push, rise_remove, get_at, 
 use Rattle.h5_laws.proofs.TypesKept.{size-accepted}
 use Rattle.h5_model.specs.Edits.Applied.{State, state_after}
 use Rattle.h5_model.specs.Edits.Refusal.{refusal_of}
-use Rattle.h5_model.specs.Format.Limits.{most_cells}
+use Rattle.h5_model.specs.Format.Limits.{most_cells, most_views}
 use Rattle.h5_model.specs.Scripts.Answers.{has_many_views}
 use Rattle.h5_model.specs.Scripts.Sessions.{IsView, IsSession}
 use Rattle.h5_model.specs.Tree.Objects.{Tree, Object, Dataset, dataset_in, dataset_of}
@@ -150,25 +150,25 @@ all_fit_edited before after edit accepted is views all =
 
 -- ---- opening
 
-pub full_is : (file : FileState) (views : List KeptView) (next : ℕ) (full : Bool) → AreNumbered views next → full ≡ (nat_le 1024 (length views) || nat_le 4294967295 next)
+pub full_is : (file : FileState) (views : List KeptView) (next : ℕ) (full : Bool) → AreNumbered views next → full ≡ (nat_le most_views (length views) || nat_le 4294967295 next)
     → full ≡ has_many_views (session_of (session_state file views next))
-full_is file views next full rise is = is ∙ ap (λ n. nat_le 1024 n || nat_le 4294967295 next) (sym (many_views views next rise))
+full_is file views next full rise is = is ∙ ap (λ n. nat_le most_views n || nat_le 4294967295 next) (sym (many_views views next rise))
 
 pub refused_by : (file : FileState) (views : List KeptView) (next : ℕ) (path : List ℕ) (hyper : Hyper) (full : Bool) (e : ViewFault) → AreNumbered views next
-    → full ≡ (nat_le 1024 (length views) || nat_le 4294967295 next) → IsViewRefusedBy file.tree path hyper full e → IsViewRefused (session_state file views next) path hyper e
+    → full ≡ (nat_le most_views (length views) || nat_le 4294967295 next) → IsViewRefusedBy file.tree path hyper full e → IsViewRefused (session_state file views next) path hyper e
 refused_by file views next path hyper full e rise is refused =
     subst (λ (b : Bool). IsViewRefusedBy file.tree path hyper b e) (full_is file views next full rise is) refused
 
 module _ (file : FileState) (views : List KeptView) (next : ℕ) (kept : AreViewsKept file views next) (v : KeptView) (full : Bool)
-    (is : full ≡ (nat_le 1024 (length views) || nat_le 4294967295 next)) (free : full ≡ false) (new : List KeptView) (more : new ≡ views ++ v ∷ []) (number : v.number ≡ next) where
-  room_left : (nat_le 1024 (length views) || nat_le 4294967295 next) ≡ false
+    (is : full ≡ (nat_le most_views (length views) || nat_le 4294967295 next)) (free : full ≡ false) (new : List KeptView) (more : new ≡ views ++ v ∷ []) (number : v.number ≡ next) where
+  room_left : (nat_le most_views (length views) || nat_le 4294967295 next) ≡ false
   room_left = sym is ∙ free
 
   pub kept_more : IsViewFit file.tree file.next v → IsViewShown file.tree v → AreViewsKept file new (next + 1)
   kept_more fit shown = subst (λ (vs : List KeptView). AreViewsKept file vs (next + 1)) (sym more) (record {
     numbered = numbered_more views next v kept.numbered (sym number);
     low = let left = room_left in grind (arith, nat_tests);
-    few = let left = room_left in let low : length views < 1024 = grind (arith, nat_tests) in omega (arith, low, length-append views (v ∷ []));
+    few = let left = room_left in let low : length views < most_views = grind (arith, nat_tests) in omega (arith, low, length-append views (v ∷ []));
     fit = all_push (IsViewFit file.tree file.next) views v kept.fit fit;
     shown = all_push (IsViewShown file.tree) views v kept.shown shown;
   })

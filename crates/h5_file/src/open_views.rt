@@ -2,7 +2,7 @@
 
 ghost use Rattle.std.specs.Prelude.{◌≡◌, ◌↔◌, ◌<◌, ◌≤◌, ℕ, IsTrue, OnOk, OnErr, Some, ◌∷◌, ◌++◌, [], length, map};
 ghost use Rattle.std.specs.List.{AllByRecursion, remove};
-ghost use Rattle.h5_model.specs.Format.Limits.{most_cells};
+ghost use Rattle.h5_model.specs.Format.Limits.{most_cells, most_views};
 ghost use Rattle.h5_model.specs.Tree.Objects.{Dataset, dataset_of};
 ghost use Rattle.h5_model.specs.Tree.Places.{cells};
 ghost use Rattle.h5_model.specs.Tree.Sound.{IsDataset};
@@ -96,7 +96,7 @@ impl OpenViews {
     pub(crate) fn follow(&mut self, file: &File, number: ObjectNo, touched: &Touched<'_>) -> u64
         requires rise { (end : ℕ) × AreNumbered self.old end }
         requires fit { AllByRecursion (IsViewFit file.now.tree file.now.next) self.old }
-        requires few { length self.old ≤ 1024 }
+        requires few { length self.old ≤ most_views }
         requires touch { (d : Dataset) → dataset_of file.now.tree number.0 ≡ Some d
             → IsTouchOf d touched.now
             × (cells d.sizes ≤ most_cells → cells (sizes_before d touched.now) ≤ most_cells) }

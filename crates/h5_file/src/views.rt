@@ -3,7 +3,7 @@
 ghost use Rattle.std.specs.Prelude.{◌≡◌, ◌≤◌, ℕ, IfOk, IfErr, IfSome, MatchOption, MatchResult, Ok, Err, Some, false, length, map, slice_index_or};
 ghost use Rattle.std.specs.FinMap.{contains_key};
 ghost use Rattle.std.specs.List.{AllByRecursion, list_any};
-ghost use Rattle.h5_model.specs.Format.Limits.{most_cells};
+ghost use Rattle.h5_model.specs.Format.Limits.{most_cells, most_views};
 ghost use Rattle.h5_model.specs.Scripts.Answers.{view_is_lent};
 ghost use Rattle.h5_model.specs.Edits.Refusal.{is_chunked};
 ghost use Rattle.h5_model.specs.Tree.Objects.{Chunked, Dataset, dataset_of};
@@ -248,7 +248,7 @@ pub(crate) fn follow_all(
     requires rise { (end : ℕ) × AreNumbered views.old end }
     requires listed { AreByArray by_array.now views.old }
     requires fit { AllByRecursion (IsViewFit file.now.tree file.now.next) views.old }
-    requires few { length views.old ≤ 1024 }
+    requires few { length views.old ≤ most_views }
     requires touch { (d : Dataset) → dataset_of file.now.tree number.0 ≡ Some d
         → IsTouchOf d touched.now
         × (cells_of d.sizes ≤ most_cells → cells_of (sizes_before d touched.now) ≤ most_cells) }
@@ -293,7 +293,7 @@ fn follow_each(
     requires listed { AreByArray by_array.now views.old }
     requires array { IsArrayLeft array.now touched.now grid.now }
     requires fit { AreViewsReady number.0 array.now views.old }
-    requires few { length views.old ≤ 1024 }
+    requires few { length views.old ≤ most_views }
     ensures { AreViewsFollowed number.0 array.now touched.now views.old result views.new }
 {
     let own = views_on(by_array, number.0);

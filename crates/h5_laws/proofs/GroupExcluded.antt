@@ -9,6 +9,7 @@ use Rattle.std.specs.List.{flat_map}
 use Rattle.std.proofs.lemmas.List.Concat.{flat_map-append}
 use Rattle.h5_bytes.specs.Texts.{text_at}
 use Rattle.h5_bytes.specs.declared.Block.{Block}
+use Rattle.h5_model.specs.Format.Limits.{most_names}
 use Rattle.h5_model.specs.Format.Heap.{heap_header, segment_of, IsHeap, HasNames}
 use Rattle.h5_model.specs.Format.Rows.{Node, blank, nodes}
 use Rattle.h5_model.specs.Format.Nodes.{group_kind, node_at, reading_of}
@@ -124,12 +125,12 @@ module _ (image : List ℕ) (root heap : ℕ) (found : List (List ℕ × Target)
 
 module _ (image : List ℕ) (table : FinMap nat_cmp ℕ) (tree : Tree) (placed : List Placed) (reads : Holds image table tree placed) where
   pub deep_excluded : (depth root heap at : ℕ) (g : KnownGroup image table tree placed depth root heap) → In at g.linked.symbol_nodes
-      → 64 ≤ depth → 1 ≤ symbols_in (symbol_bytes image (leaf_k image) at) → ⊥
+      → most_names ≤ depth → 1 ≤ symbols_in (symbol_bytes image (leaf_k image) at) → ⊥
   deep_excluded depth root heap at g there deep some =
       let entry = entry_listed image root heap g.found g.k.has.content_blocks g.linked at 0 there (omega (arith, some)) in
       let listed = link_listed image root heap g.found g.k.has.content_blocks g.linked (entry_in image at 0) entry in
       let tied = tied_left (IsSame table) (entries g.links) g.found (link_of (segment_of image heap) (entry_in image at 0)) g.same listed in
       let linked : get g.links tied.0.0 ≡ Some tied.0.1 = get_of_entry nat_list_cmp_total g.links tied.0.0 tied.0.1 tied.1 in
       let leads = name_leads image table tree placed reads depth root heap g tied.0.0 tied.0.1 linked in
-      let short : length (g.k.path ++ tied.0.0 ∷ []) ≤ 64 = reads.shallow (g.k.path ++ tied.0.0 ∷ []) (ap is_some leads) in
+      let short : length (g.k.path ++ tied.0.0 ∷ []) ≤ most_names = reads.shallow (g.k.path ++ tied.0.0 ∷ []) (ap is_some leads) in
       absurd (omega (arith, deep, short, length-append g.k.path (tied.0.0 ∷ []), g.k.long))

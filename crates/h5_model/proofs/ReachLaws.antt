@@ -13,6 +13,7 @@ use Rattle.std.specs.Option.{option_map_or, option_and_then}
 use Rattle.std.proofs.lemmas.List.Folds.{list_any-append}
 use Rattle.std.proofs.lemmas.List.Concat.{flat_map-cons}
 use Rattle.std.proofs.lemmas.Bool.{or_right, or_cases}
+use Rattle.h5_model.specs.Format.Limits.{most_names}
 use Rattle.h5_model.specs.Tree.Objects.{Tree, Link, ToObject, Soft, Links, links_of, follow, object_of, named_by, within_names, is_reached}
 use Rattle.h5_model.proofs.Members.{In}
 use Rattle.h5_model.proofs.RowLaws.{same_number, equal_number}
@@ -175,10 +176,10 @@ follow-within_names tree (suc n) from number h = elim (or_cases (from == number)
 ]
 
 -- an object is reached exactly where a path of at most 64 names leads to it from the root
-pub is_reached-from_path : (tree : Tree) (number : ℕ) → Leads tree 64 0 number → is_reached tree number ≡ true
+pub is_reached-from_path : (tree : Tree) (number : ℕ) → Leads tree most_names 0 number → is_reached tree number ≡ true
 unfolding is_reached
-is_reached-from_path tree number path = within_names-follow tree path.0 64 0 number path.1 path.2
+is_reached-from_path tree number path = within_names-follow tree path.0 most_names 0 number path.1 path.2
 
-pub path-from_is_reached : (tree : Tree) (number : ℕ) → is_reached tree number ≡ true → Leads tree 64 0 number
+pub path-from_is_reached : (tree : Tree) (number : ℕ) → is_reached tree number ≡ true → Leads tree most_names 0 number
 unfolding is_reached
-path-from_is_reached tree number h = follow-within_names tree 64 0 number h
+path-from_is_reached tree number h = follow-within_names tree most_names 0 number h

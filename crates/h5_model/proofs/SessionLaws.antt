@@ -6,6 +6,7 @@ use Rattle.std.specs.Cmp.{nat_cmp_total}
 use Rattle.std.specs.declared.cmp.Ordering.TheVariants.{Equal}
 use Rattle.std.specs.FinMap.{get, insert, remove, empty, len, contains_key, get-insert, get-remove, get-retain_keys, len-insert, len-remove, len-empty, get-empty, nat_cmp-IsAntisymmetric}
 use Rattle.std.specs.Option.{option_map_or, option_and_then}
+use Rattle.h5_model.specs.Format.Limits.{most_views}
 use Rattle.h5_model.specs.Tree.Objects.{Tree, Link, ToObject, Soft, Links, Object, Group, Array, Dataset, dataset_in, dataset_of, with_object, only_reached, is_reached}
 use Rattle.h5_model.specs.Tree.Paths.{names_of, location_of, parent_at, object_at, dataset_at}
 use Rattle.h5_model.specs.Views.Selection.{Slab, axes_of, has_rank}
@@ -164,7 +165,7 @@ IsSession-accepted s edit h is = record {
 more : (s : Session) (view : View) → IsSession s → IsView s.state view → has_many_views s ≡ false
     → IsSession (record s { views = insert s.views s.next_view view; next_view = s.next_view + 1 })
 more s view is new room =
-    let few : len s.views < 1024 = grind (arith, nat_tests) in
+    let few : len s.views < most_views = grind (arith, nat_tests) in
     let low : s.next_view < 4294967295 = grind (arith, nat_tests) in
     record {
       state = is.state;
@@ -183,7 +184,7 @@ more s view is new room =
       same_view : (a b : View) → Some a ≡ Some b → a ≡ b
       same_view a b h = ap (λ o. unwrap_or o a) h
 
-      one_more : (b : Bool) (n m : ℕ) → m ≡ cond b n (n + 1) → n < 1024 → m ≤ 1024
+      one_more : (b : Bool) (n m : ℕ) → m ≡ cond b n (n + 1) → n < most_views → m ≤ most_views
       one_more true n m h low = omega (arith, h, low)
       one_more false n m h low = omega (arith, h, low)
 
@@ -202,7 +203,7 @@ less s number is = record {
   low = is.low;
   few = fewer (contains_key s.views number) (len s.views) (len (remove s.views number)) (len-remove nat_cmp_total s.views number) is.few;
 } where
-  fewer : (b : Bool) (n m : ℕ) → m ≡ cond b (n - 1) n → n ≤ 1024 → m ≤ 1024
+  fewer : (b : Bool) (n m : ℕ) → m ≡ cond b (n - 1) n → n ≤ most_views → m ≤ most_views
   fewer true n m h low = omega (arith, h, low)
   fewer false n m h low = omega (arith, h, low)
 

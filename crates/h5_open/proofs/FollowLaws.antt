@@ -3,7 +3,7 @@ use Rattle.std.proofs.Common.{Bor, ap, ◌≡◌, ◌≢◌, ◌==◌, inl, ℕ,
 use Rattle.std.specs.List.{Contains}
 use Rattle.std.specs.Prelude.{slice_get}
 use Rattle.std.proofs.lemmas.List.{append-nil}
-use Rattle.h5_model.specs.Format.Limits.{most_hard_links}
+use Rattle.h5_model.specs.Format.Limits.{most_hard_links, most_names}
 use Rattle.h5_model.specs.Format.MessageTypes.{symbol_table_kind}
 use Rattle.h5_bytes.specs.declared.Block.{Block}
 use Rattle.h5_model.specs.Format.Reached.{Named, naming_of, ObjectHeader}
@@ -45,7 +45,7 @@ pub array_read : (image : List ℕ) (held : List Block) (followed : List Named) 
 array_read image held followed objects field header depth name ready o among same array = record {
   more = [];
   further = nothing image held followed objects field ready.under;
-  led = (o, among, same, bare image objects (64 - (depth + 1)) o (none o.content array));
+  led = (o, among, same, bare image objects (most_names - (depth + 1)) o (none o.content array));
 } where
   none : (c : OpenedContent) → (IsGroupContent c → ⊥) → content_links image c ≡ []
   none (content.Group t) array = absurd (array tt)

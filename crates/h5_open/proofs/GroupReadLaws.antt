@@ -5,6 +5,7 @@ use Rattle.std.specs.List.{find}
 use Rattle.h5_bytes.specs.Blocks.{cover, Separate, Inside}
 use Rattle.h5_bytes.specs.declared.Block.{Block}
 use Rattle.h5_bytes.proofs.BlockLaws.{all_append, all_left, all_right, all_so, cover-append}
+use Rattle.h5_model.specs.Format.Limits.{most_names}
 use Rattle.h5_model.specs.Format.MessageTypes.{symbol_table_kind}
 use Rattle.h5_model.specs.Format.Addresses.{SymbolTable, symbol_table_of}
 use Rattle.h5_model.specs.Format.Superblock.{leaf_k}
@@ -41,7 +42,7 @@ abbrev pub group_object : Listed → SymbolTable → Bool → OpenedObject
 group_object m table tidy = record { messages = m; content = content.Group table; tidy = tidy }
 
 pub group_object_read : (image : List ℕ) (held now after : List Block) (m : Listed) (table : SymbolTable) (tidy : Bool) (depth : ℕ) → (tidy ≡ true → HasExactKeys image table) → IsHeaderRead image m → IsGroupList (messages_in image m.list) table
-    → HasNamesOnce (messages_in image m.list) → IsGroupRead image table → (1 ≤ length (links_told image table) → depth + 1 ≤ 64)
+    → HasNamesOnce (messages_in image m.list) → IsGroupRead image table → (1 ≤ length (links_told image table) → depth + 1 ≤ most_names)
     → ((p : ℕ) → cover p now ≡ cover p held + cover p m.blocks) → ((p : ℕ) → cover p after ≡ cover p now + cover p (blocks_told image table))
     → IsObjectRead image held after m.header depth (group_object m table tidy)
 group_object_read image held now after m table tidy depth exact read list names is shallow claimed stored = record {

@@ -5,6 +5,7 @@ use Rattle.std.proofs.lemmas.List.{append-nil}
 use Rattle.h5_bytes.specs.Blocks.{cover, Separate}
 use Rattle.h5_bytes.specs.declared.Block.{Block}
 use Rattle.h5_bytes.proofs.BlockLaws.{all_append, all_left}
+use Rattle.h5_model.specs.Format.Limits.{most_names}
 use Rattle.h5_model.specs.Format.Symbols.{Target, Header, Text}
 use Rattle.h5_model.specs.Format.Reached.{Named, naming_of, ObjectHeader}
 use Rattle.h5_laws.proofs.Lists.{contains_in, in_left, in_right}
@@ -124,8 +125,8 @@ module _ (image : List ℕ) (base held : List Block) (followed : List Named) (ob
       stands = all_append (IsOwn base outer) far.new part.new
           (all_outer image base held now outer turn.field grown turn.free far.new (all_left (IsFollowed image now) far.new (part.new ++ followed) ((far.under).walked).all) far.stands) part.stands;
       led = all_append (AreLed image after) part.others got.more (over (λ (xs : List OpenedObject). AllByRecursion (AreLed image xs) part.others) (objects_led_grow image objects' got.more part.others part.led)) far.led;
-      passed = all_append (IsLed image after (64 - (depth + 1))) part.first (link ∷ [])
-          (over (λ (xs : List OpenedObject). AllByRecursion (IsLed image xs (64 - (depth + 1))) part.first) (all_led_grow image objects' got.more (64 - (depth + 1)) part.first part.passed)) (got.led, tt);
+      passed = all_append (IsLed image after (most_names - (depth + 1))) part.first (link ∷ [])
+          (over (λ (xs : List OpenedObject). AllByRecursion (IsLed image xs (most_names - (depth + 1))) part.first) (all_led_grow image objects' got.more (most_names - (depth + 1)) part.first part.passed)) (got.led, tt);
       fields = turn.rest;
       waiting = subst (λ (ys : List Named). AreWaiting image base now ys depth later turn.rest) (sym seam)
           (still_waiting image base held now more_claimed (part.new ++ followed) far.new turn.field depth far.stands later turn.rest turn.others turn.waiting);
@@ -156,21 +157,21 @@ module _ (image : List ℕ) (held now : List Block) (followed : List Named) (obj
   }
 
 -- links that lead to objects of a height are those of an object that is one higher; none stand at the last level
-higher : (image : List ℕ) (objects : List OpenedObject) (depth : ℕ) (o : OpenedObject) → (1 ≤ length (content_links image o.content) → depth + 1 ≤ 64)
-    → AllByRecursion (IsLed image objects (64 - (depth + 1))) (content_links image o.content) → HasHeight image objects (64 - depth) o
+higher : (image : List ℕ) (objects : List OpenedObject) (depth : ℕ) (o : OpenedObject) → (1 ≤ length (content_links image o.content) → depth + 1 ≤ most_names)
+    → AllByRecursion (IsLed image objects (most_names - (depth + 1))) (content_links image o.content) → HasHeight image objects (most_names - depth) o
 higher image objects depth o low led = go (content_links image o.content) refl where
-  go : (links : List (List ℕ × Target)) → content_links image o.content ≡ links → HasHeight image objects (64 - depth) o
-  go [] is = bare image objects (64 - depth) o is
+  go : (links : List (List ℕ × Target)) → content_links image o.content ≡ links → HasHeight image objects (most_names - depth) o
+  go [] is = bare image objects (most_names - depth) o is
   go (l ∷ links) is =
       let some : 1 ≤ length (content_links image o.content) = omega (arith, ap length is) in
-      let one : suc (64 - (depth + 1)) ≡ 64 - depth = omega (arith, low some) in
+      let one : suc (most_names - (depth + 1)) ≡ most_names - depth = omega (arith, low some) in
       subst (λ (h : ℕ). HasHeight image objects h o) one led
 
 pub finished : (image : List ℕ) (held now : List Block) (followed : List Named) (objects after : List OpenedObject) (field header depth : ℕ)
     → IsPartly image held now followed objects after field header depth [] → IsTreeRead image held now followed objects after field header depth
 finished image held now followed objects after field header depth part =
-    let high : HasHeight image after (64 - depth) part.object = higher image after depth part.object part.shallow
-    (subst (AllByRecursion (IsLed image after (64 - (depth + 1)))) (sym (part.links_are ∙ append-nil part.first)) part.passed) in
+    let high : HasHeight image after (most_names - depth) part.object = higher image after depth part.object part.shallow
+    (subst (AllByRecursion (IsLed image after (most_names - (depth + 1)))) (sym (part.links_are ∙ append-nil part.first)) part.passed) in
     record {
       object = part.object;
       others = part.others;
@@ -182,6 +183,6 @@ finished image held now followed objects after field header depth part =
         new = part.new;
         under = part.under;
         stands = part.stands;
-        led = ((64 - depth, high), part.led);
+        led = ((most_names - depth, high), part.led);
       };
     }

@@ -6,6 +6,7 @@ use Rattle.std.specs.BTreeMap.{BTreeMap}
 use Rattle.std.specs.List.{Contains}
 use Rattle.h5_bytes.specs.Blocks.{cover}
 use Rattle.h5_bytes.specs.declared.Block.{Block}
+use Rattle.h5_model.specs.Format.Limits.{most_names}
 use Rattle.h5_model.specs.Format.Addresses.{SymbolTable}
 use Rattle.h5_model.specs.Format.Symbols.{Target}
 use Rattle.h5_model.specs.Tree.Objects.{Tree, Link, Soft, ToObject, follow, object_of, within_names}
@@ -89,7 +90,7 @@ module _ (image : Space) (slots : List (Option OpenedObject)) (numbers : BTreeMa
 
       -- the number of each object to which paths lead from the link is below where it leads
       below : (l : Link) → here.link ≡ l → (q : ℕ) → Contains losses.numbers q → In q (touched_below tree parent (object_of l))
-      below (ToObject m) is q among = inr (in_flat (within_names tree 64) m q (m ∷ []) (inl refl) (in_contains q (within_names tree 64 m) (left.within m q is among)))
+      below (ToObject m) is q among = inr (in_flat (within_names tree most_names) m q (m ∷ []) (inl refl) (in_contains q (within_names tree most_names m) (left.within m q is among)))
       below (Soft text) is q among =
           let led = losses.reached.led q among in
           absurd (nowhere led.0 (ap (λ (l : Link). follow tree l led.0) (sym is) ∙ led.1)) where

@@ -6,6 +6,7 @@ use Rattle.std.specs.List.{Contains, flat_map}
 use Rattle.std.specs.Option.{option_flatten, option_map_or}
 use Rattle.std.specs.Ordering.{nat_cmp}
 use Rattle.h5_bytes.specs.declared.Block.{Block}
+use Rattle.h5_model.specs.Format.Limits.{most_names}
 use Rattle.h5_model.specs.Format.Addresses.{SymbolTable}
 use Rattle.h5_model.specs.Format.Messages.{prefix_at, reference_count}
 use Rattle.h5_model.specs.Format.Superblock.{k_values}
@@ -30,7 +31,7 @@ pub record IsLinkTo (tree : Tree) (parent : ℕ) (name : List ℕ) (object : Opt
 
 -- the objects that are touched where a link goes: the group, the object to which it leads, and all below
 abbrev pub touched_below : Tree → ℕ → Option ℕ → List ℕ
-touched_below tree parent object = parent ∷ flat_map (within_names tree 64) (option_map_or (λ n. n ∷ []) object [])
+touched_below tree parent object = parent ∷ flat_map (within_names tree most_names) (option_map_or (λ n. n ∷ []) object [])
 
 -- The group at this tree and heap has the link of this name no more; all its other links stay, its keys are exact where they were, and the image is
 -- as long as it was.

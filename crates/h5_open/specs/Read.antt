@@ -68,7 +68,7 @@ pub record IsHeaderRead (image : List ℕ) (m : Listed) : Type 0 where
 -- a symbol node of a group at the last level, with a link
 pub record IsDeepAt (image : List ℕ) (table : SymbolTable) (depth node : ℕ) : Type 0 where
   pub node_of : Contains (symbol_nodes_told image table) node
-  pub deep : 64 ≤ depth
+  pub deep : most_names ≤ depth
   pub some : 1 ≤ symbols_in (symbol_bytes image (leaf_k image) node)
 
 -- a header was met, and its messages are read

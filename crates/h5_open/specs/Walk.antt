@@ -85,7 +85,7 @@ IsLinkReady image held followed objects field depth (name, Text text) = IsUnder 
 pub record IsLinkRead (image : List ℕ) (held now : List Block) (followed : List Named) (objects objects' : List OpenedObject) (field depth : ℕ) (link : List ℕ × Target) : Type 0 where
   pub more : List OpenedObject
   pub further : AreFurtherObjects image held now followed field objects objects' more
-  pub led : IsLed image objects' (64 - (depth + 1)) link
+  pub led : IsLed image objects' (most_names - (depth + 1)) link
 
 -- ---- steps of the walk
 
@@ -128,6 +128,6 @@ pub record IsPartly (image : List ℕ) (held now : List Block) (followed : List 
   pub under : IsUnder image now (new ++ followed) objects'
   pub stands : AllByRecursion (IsOwn held field) new
   pub led : AllByRecursion (AreLed image objects') others
-  pub passed : AllByRecursion (IsLed image objects' (64 - (depth + 1))) first
+  pub passed : AllByRecursion (IsLed image objects' (most_names - (depth + 1))) first
   pub fields : List ℕ
   pub waiting : AreWaiting image held now (new ++ followed) depth left fields

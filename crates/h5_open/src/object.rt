@@ -3,7 +3,7 @@
 
 ghost use Rattle.std.specs.Prelude.{◌≡◌, ◌⊎◌, ℕ, ◌+◌, ◌*◌, ◌≤◌, Some, length, IfOk, IfErr, OnOk};
 ghost use Rattle.h5_bytes.specs.Blocks.{Separate};
-ghost use Rattle.h5_model.specs.Format.Limits.{most_chunk_bytes};
+ghost use Rattle.h5_model.specs.Format.Limits.{most_chunk_bytes, most_names};
 ghost use Rattle.h5_model.specs.Format.Superblock.{IsSuperblock};
 ghost use Rattle.h5_model.specs.Tree.Places.{cells as cells_of};
 ghost use Rattle.h5_space.specs.Claimed.{HasClaimed};
@@ -137,7 +137,7 @@ fn read_array_object(
 /// Refuses a group at the last level below the root that has a link, at its first symbol node with one; `NoMemory`, at its tree.
 fn check_depth(alloc: Global, image: &Image, table: SymbolTable, depth: u8) -> Result<(), OpenFault>
     requires { IsGroupRead image.now.bytes table }
-    ensures shallow { OnOk result (1 ≤ length (links_told image.now.bytes table) → depth + 1 ≤ 64) }
+    ensures shallow { OnOk result (1 ≤ length (links_told image.now.bytes table) → depth + 1 ≤ most_names) }
     ensures refused { IfErr result (λ fault. (fault.cause ≡ Cause.NoMemory)
         ⊎ ((fault.cause ≡ Cause.TooDeep) × IsDeepAt image.now.bytes table depth fault.address)) }
 {

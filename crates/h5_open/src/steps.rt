@@ -2,7 +2,7 @@
 
 ghost use Rattle.std.specs.Prelude.{◌≡◌, ◌+◌, ◌≤◌, [], List, ℕ, length, IfOk, IfErr, OnOk};
 ghost use Rattle.std.specs.List.{Contains};
-ghost use Rattle.h5_model.specs.Format.Limits.{most_bytes};
+ghost use Rattle.h5_model.specs.Format.Limits.{most_bytes, most_names};
 ghost use Rattle.h5_model.specs.Format.Superblock.{IsSuperblock, end_of_file};
 ghost use Rattle.h5_model.specs.Format.Symbols.{Header};
 ghost use Rattle.h5_header.specs.Walk.Walked.{IsWalked};
@@ -82,7 +82,7 @@ fn read_tree(
     requires index { IsNumbered tally.old.index.objects.items tally.old.index.numbers }
     requires length { length tally.old.counts.items ≡ length tally.old.index.objects.items }
     requires new { Contains (headers (objects_of tally.old.index.objects.items)) header → ⊥ }
-    requires depth { depth ≤ 64 }
+    requires depth { depth ≤ most_names }
     ensures end { claims.new.end ≡ claims.old.end }
     ensures index { OnOk result (IsNumbered tally.new.index.objects.items tally.new.index.numbers) }
     ensures length { OnOk result (length tally.new.counts.items ≡ length tally.new.index.objects.items) }
@@ -119,7 +119,7 @@ fn follow(
     requires end { claims.old.end ≡ length image.now.bytes }
     requires index { IsNumbered tally.old.index.objects.items tally.old.index.numbers }
     requires length { length tally.old.counts.items ≡ length tally.old.index.objects.items }
-    requires depth { depth + 1 ≤ 64 }
+    requires depth { depth + 1 ≤ most_names }
     ensures end { claims.new.end ≡ claims.old.end }
     ensures index { OnOk result (IsNumbered tally.new.index.objects.items tally.new.index.numbers) }
     ensures length { OnOk result (length tally.new.counts.items ≡ length tally.new.index.objects.items) }

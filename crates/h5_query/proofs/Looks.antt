@@ -5,6 +5,7 @@ use Rattle.std.specs.Option.{option_map_or, option_and_then}
 use Rattle.std.proofs.lemmas.Bool.Decides.{nat_tests}
 use Rattle.std.proofs.lemmas.List.{take_rest}
 use Rattle.std.proofs.lemmas.List.Splits.{length-slice_split}
+use Rattle.h5_model.specs.Format.Limits.{most_names}
 use Rattle.h5_model.specs.Tree.Objects.{Tree, Link, ToObject, link_in}
 use Rattle.h5_model.specs.Tree.Paths.{Located, Here, Missing, NoParent, NoGroup, NoPath, names_of, locate, missing_before, parent_from}
 use Rattle.h5_model.specs.declared.edit_fault.EditFault.{EditFault}
@@ -63,8 +64,8 @@ missing_inside rest = let more = some_part (parts rest) _ (length-slice_split is
 
 -- ---- the whole path
 
-module _ (f : FileState) (path x : List ℕ) (xs : List (List ℕ)) (named : names_of path ≡ Some (x ∷ xs)) (low : length (x ∷ xs) ≤ 64) where
-  shallow : nat_lt 64 (length (x ∷ xs)) ≡ false
+module _ (f : FileState) (path x : List ℕ) (xs : List (List ℕ)) (named : names_of path ≡ Some (x ∷ xs)) (low : length (x ∷ xs) ≤ most_names) where
+  shallow : nat_lt most_names (length (x ∷ xs)) ≡ false
   shallow = grind (arith, nat_tests)
 
   located_at : (at : Located) → locate f.tree (ToObject 0) (x ∷ xs) ≡ at → option_map_or (λ names. locate f.tree (ToObject 0) names) (names_of path) NoPath ≡ at
@@ -92,7 +93,7 @@ module _ (f : FileState) (path x : List ℕ) (xs : List (List ℕ)) (named : nam
   by_names (Err e) lost = lost_before e lost
 
 -- what the names between the slashes lead to
-pub followed : (f : FileState) (path : List ℕ) (names : List (List ℕ)) → names_of path ≡ Some names → 0 < length names → length names ≤ 64
+pub followed : (f : FileState) (path : List ℕ) (names : List (List ℕ)) → names_of path ≡ Some names → 0 < length names → length names ≤ most_names
     → (r : Result Spot EditFault)
     → MatchResult r (IsReached f (parts (take (length path - 1) (drop 1 path)))) (IsLost f.tree (parts (take (length path - 1) (drop 1 path))))
     → MatchResult r (IsSpotOf f path) (IsNoSpot f.tree path)

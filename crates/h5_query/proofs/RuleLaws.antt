@@ -2,6 +2,7 @@
 use Rattle.std.proofs.Common.{◌≡◌, ℕ, List, [], ◌∷◌, ◌++◌, length, refl, ap, ◌∙◌, Bool, not, true, false, Option, Some, None}
 use Rattle.std.specs.Prelude.{nat_lt, ◌==◌, if◌then◌else◌, ◌||◌, ◌&&◌, is_none}
 use Rattle.std.specs.Option.{option_map_or}
+use Rattle.h5_model.specs.Format.Limits.{most_names}
 use Rattle.h5_model.specs.Tree.Places.{is_inside}
 use Rattle.h5_model.specs.Tree.Objects.{Tree, Link, Dataset, ToObject, links_of, dataset_of}
 use Rattle.h5_model.specs.Tree.Paths.{Located, Here, names_of, location_of, links_at, dataset_at}
@@ -38,10 +39,10 @@ abbrev group_table : Bool → Bool → Located → Option EditFault
 group_table bad deep at = first_holding ((BadPath, bad) ∷ (PathTooDeep, deep) ∷ (NoSuchParent, has_no_parent at) ∷ (NotAGroup, has_no_group at) ∷ [])
 
 -- a path that is not deep is refused by what it leads to alone
-pub at_group : (tree : Tree) (path : List ℕ) (names : List (List ℕ)) (at : Located) → names_of path ≡ Some names → nat_lt 64 (length names) ≡ false
+pub at_group : (tree : Tree) (path : List ℕ) (names : List (List ℕ)) (at : Located) → names_of path ≡ Some names → nat_lt most_names (length names) ≡ false
     → location_of tree path ≡ at → first_holding (group_rules tree path) ≡ group_table false false at
 at_group tree path names at h low there =
-    let shallow : is_deep path ≡ false = ap (λ o. option_map_or (λ ns. nat_lt 64 (length ns)) o false) h ∙ low in
+    let shallow : is_deep path ≡ false = ap (λ o. option_map_or (λ ns. nat_lt most_names (length ns)) o false) h ∙ low in
     let good : is_none (names_of path) ≡ false = ap is_none h in
     (λ i. group_table (good i) (shallow i) (there i))
 

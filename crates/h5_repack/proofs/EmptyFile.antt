@@ -9,6 +9,7 @@ use Rattle.std.specs.Cmp.{nat_cmp_total, unsigned_tied}
 use Rattle.std.specs.Cmp.Lexicographic.{slice_cmp}
 use Rattle.std.specs.declared.alloc.Global.{Global}
 use Rattle.std.specs.FinMap.{FinMap, get, entries, empty, len-empty, entries-insert, get-insert, get-empty, put}
+use Rattle.h5_model.specs.Format.Limits.{most_names}
 use Rattle.h5_model.specs.Format.MessageTypes.{symbol_table_kind}
 use Rattle.h5_model.specs.Format.Empty.{empty_file, new_k, root_table, root_tree, root_object}
 use Rattle.h5_model.specs.Format.Bodies.{pair_bytes}
@@ -73,7 +74,7 @@ reached : (n : ℕ) → IsSome (get root_tree n) → (path : List (List ℕ)) ×
 reached zero there = ([], refl)
 reached (suc n) there = absurd (let none : false ≡ true = rw (get-root_tree_other n) at there in cc)
 
-shallow : (path : List (List ℕ)) → IsSome (follow root_tree (ToObject 0) path) → length path ≤ 64
+shallow : (path : List (List ℕ)) → IsSome (follow root_tree (ToObject 0) path) → length path ≤ most_names
 shallow [] there = omega arith
 shallow (name ∷ names) there = absurd (let none : false ≡ true = rw (no_link 0 name) at there in cc)
 

@@ -4,7 +4,7 @@ use Rattle.std.proofs.lemmas.Bool.Decides.{nat_tests}
 use Rattle.std.specs.Prelude.{IsSome, is_some, ◌==◌, if◌then◌else◌}
 use Rattle.std.specs.Option.{option_and_then}
 use Rattle.std.specs.FinMap.{get, get-retain_keys, nat_cmp-IsAntisymmetric}
-use Rattle.h5_model.specs.Format.Limits.{most_hard_links}
+use Rattle.h5_model.specs.Format.Limits.{most_hard_links, most_names}
 use Rattle.h5_model.specs.Tree.Paths.{is_name}
 use Rattle.h5_model.specs.Edits.Refusal.{has_zero}
 use Rattle.h5_model.specs.Tree.Objects.{Tree, Object, Links, Link, ToObject, Soft, links_in, links_of, link_in, links_to, hard_links, follow, is_reached, only_reached}
@@ -99,7 +99,7 @@ module _ (tree fewer : Tree) (is_fewer : IsFewer tree fewer) (sound : IsSoundTre
       let path = path-from_is_reached fewer n (was_object n some).0 in
       (path.0, ways_stay path.0 (ToObject 0) (ToObject n) at_root path.2)
 
-  shallow : (path : List (List ℕ)) → IsSome (follow left (ToObject 0) path) → length path ≤ 64
+  shallow : (path : List (List ℕ)) → IsSome (follow left (ToObject 0) path) → length path ≤ most_names
   shallow path some =
       let to = value_of (follow left (ToObject 0) path) some in
       sound.shallow path (ap (λ (o : Option Link). is_some o) (same_way left tree old_link path (ToObject 0) to.0 to.1))

@@ -4,7 +4,7 @@ use Rattle.std.proofs.lemmas.Bool.Decides.{nat_tests}
 use Rattle.std.specs.Prelude.{IsSome, is_some, ◌==◌, if◌then◌else◌}
 use Rattle.std.specs.Option.{option_and_then}
 use Rattle.std.specs.FinMap.{get}
-use Rattle.h5_model.specs.Format.Limits.{most_hard_links}
+use Rattle.h5_model.specs.Format.Limits.{most_hard_links, most_names}
 use Rattle.h5_model.specs.Tree.Paths.{is_name}
 use Rattle.h5_model.specs.Edits.Refusal.{has_zero}
 use Rattle.h5_model.specs.Tree.Objects.{Tree, Object, Link, ToObject, Soft, links_of, link_in, follow, hard_links}
@@ -32,7 +32,7 @@ pub record IsFit (tree grown : Tree) (parent : ℕ) (name : List ℕ) (link : Li
   pub named : is_name name ≡ true
   pub depth : ℕ
   pub above : Depth tree depth parent
-  pub low : depth + 1 ≤ 64
+  pub low : depth + 1 ≤ most_names
   pub spelled : (text : List ℕ) → link ≡ Soft text → has_zero text ≡ false
   pub there : (n : ℕ) → link ≡ ToObject n → IsSome (get grown n)
   pub bare : (n : ℕ) → link ≡ ToObject n → IsSome (links_of tree n) → ⊥
@@ -118,16 +118,16 @@ module _ (tree grown : Tree) (parent : ℕ) (name : List ℕ) (link : Link) (sou
 
   -- a path from an object that is so deep in the first tree
   abbrev IsShort : ℕ → List (List ℕ) → Type 0
-  IsShort k path = (n : ℕ) → Depth tree k n → IsSome (follow grown (ToObject n) path) → k + length path ≤ 64
+  IsShort k path = (n : ℕ) → Depth tree k n → IsSome (follow grown (ToObject n) path) → k + length path ≤ most_names
 
-  short_end : (k n : ℕ) → Depth tree k n → k + 0 ≤ 64
+  short_end : (k n : ℕ) → Depth tree k n → k + 0 ≤ most_names
   short_end k n d =
       let path = depth_path tree k n d in
       let low = sound.shallow path.0 (ap (λ (o : Option Link). is_some o) path.2) in
       omega (arith, low, path.1)
 
   behind_text : (k n : ℕ) (x text : List ℕ) (path : List (List ℕ)) → Depth tree k n → link_in tree n x ≡ Some (Soft text)
-      → IsSome (follow grown (Soft text) path) → k + length (x ∷ path) ≤ 64
+      → IsSome (follow grown (Soft text) path) → k + length (x ∷ path) ≤ most_names
   behind_text k n x text [] d is some =
       let path = depth_path tree k n d in
       let there = follow-more tree (ToObject 0) (Soft text) path.0 x n path.2 is in
@@ -136,17 +136,17 @@ module _ (tree grown : Tree) (parent : ℕ) (name : List ℕ) (link : Link) (sou
   behind_text k n x text (y ∷ path) d is some = let never : IsSome {T = Link} None = some in absurd (cc)
 
   behind_old : (k n : ℕ) (x : List ℕ) (l : Link) (path : List (List ℕ)) → Depth tree k n → link_in tree n x ≡ Some l → IsShort (suc k) path
-      → IsSome (follow grown l path) → k + length (x ∷ path) ≤ 64
+      → IsSome (follow grown l path) → k + length (x ∷ path) ≤ most_names
   behind_old k n x (Soft text) path d is short some = behind_text k n x text path d is some
   behind_old k n x (ToObject m) path d is short some = let rest = short m (deeper tree k n m x d is) some in omega (arith, rest)
 
-  behind_new : (k : ℕ) (x : List ℕ) (l : Link) (path : List (List ℕ)) → Depth tree k parent → l ≡ link → IsSome (follow grown l path) → k + length (x ∷ path) ≤ 64
+  behind_new : (k : ℕ) (x : List ℕ) (l : Link) (path : List (List ℕ)) → Depth tree k parent → l ≡ link → IsSome (follow grown l path) → k + length (x ∷ path) ≤ most_names
   behind_new k x l [] d same some = let depth = one_depth tree top single k fit.depth parent grows.group d fit.above in let low = fit.low in omega (arith, depth, low)
   behind_new k x l (y ∷ path) d same some = absurd (ends l same y path some)
 
   short_step : (k : ℕ) (x : List ℕ) (path : List (List ℕ)) → IsShort (suc k) path → IsShort k (x ∷ path)
   short_step k x path short n d some = go (link_in grown n x) refl some where
-    go : (o : Option Link) → link_in grown n x ≡ o → IsSome (option_and_then (λ l. follow grown l path) o) → k + length (x ∷ path) ≤ 64
+    go : (o : Option Link) → link_in grown n x ≡ o → IsSome (option_and_then (λ l. follow grown l path) o) → k + length (x ∷ path) ≤ most_names
     go None is none = let never : IsSome {T = Link} None = none in absurd (cc)
     go (Some l) is rest = elim (grows.only n x l is) [
       | inl before ↦ behind_old k n x l path d before short rest
@@ -157,7 +157,7 @@ module _ (tree grown : Tree) (parent : ℕ) (name : List ℕ) (link : Link) (sou
   all_short [] k n d some = short_end k n d
   all_short (x ∷ path) k n d some = short_step k x path (all_short path (suc k)) n d some
 
-  shallow : (path : List (List ℕ)) → IsSome (follow grown (ToObject 0) path) → length path ≤ 64
+  shallow : (path : List (List ℕ)) → IsSome (follow grown (ToObject 0) path) → length path ≤ most_names
   shallow path some = let short = all_short path 0 0 (at_root tree) some in omega (arith, short)
 
   -- ---- the whole tree

@@ -7,6 +7,7 @@ use Rattle.std.specs.Option.{option_and_then}
 use Rattle.std.specs.Ordering.{nat_cmp, eq_by_cmp}
 use Rattle.std.specs.List.{Contains, IsDistinct, list_any}
 use Rattle.std.specs.FinMap.{get}
+use Rattle.h5_model.specs.Format.Limits.{most_names}
 use Rattle.h5_model.specs.Tree.Objects.{Tree, Object, Content, Group, Array, Links, Link, ToObject, Soft, links_of, link_in, links_to, hard_links, follow, is_reached, only_reached, within_names}
 use Rattle.h5_model.proofs.RowLaws.{equal_number}
 use Rattle.h5_model.proofs.ReachLaws.{path-from_is_reached, same_object, within_names-follow}
@@ -74,12 +75,12 @@ module _ (tree : Tree) (parent : ℕ) (name : List ℕ) (link : Link) (numbers :
   -- no path leads from the link back to its group
   no_way_back : (path : List (List ℕ)) → follow tree link path ≡ Some (ToObject parent) → ⊥
   no_way_back path back =
-      let way = longer_ways path back 65 in
+      let way = longer_ways path back (most_names + 1) in
       let low = sound.shallow way.0 (ap (λ (o : Option Link). is_some o) way.2) in
       omega (arith, way.1, low)
 
   -- a path from the link is short
-  short_way : (path : List (List ℕ)) (to : Link) → follow tree link path ≡ Some to → length path ≤ 64
+  short_way : (path : List (List ℕ)) (to : Link) → follow tree link path ≡ Some to → length path ≤ most_names
   short_way path to is =
       let on : follow tree (ToObject parent) (name ∷ path) ≡ Some to = ap (option_and_then (λ (l : Link). follow tree l path)) there ∙ is in
       let whole = follow-append tree to_parent.0 (name ∷ path) (ToObject 0) (ToObject parent) to to_parent.1 on in
@@ -275,7 +276,7 @@ module _ (tree : Tree) (parent : ℕ) (name : List ℕ) (link : Link) (numbers :
             let path = led n at in
             let way : follow tree (ToObject m) path.0 ≡ Some (ToObject n) = ap (λ (l : Link). follow tree l path.0) (sym leads) ∙ path.1 in
             let short = short_way path.0 (ToObject n) path.1 in
-            contains_in n (within_names tree 64 m) (passes_in n (within_names tree 64 m) (within_names-follow tree path.0 64 m n short way));
+            contains_in n (within_names tree most_names m) (passes_in n (within_names tree most_names m) (within_names-follow tree path.0 most_names m n short way));
       }
 
   pub left_is : AreReachedFrom tree link numbers → IsTreeLeft tree parent name link numbers

@@ -6,6 +6,7 @@ use Rattle.std.specs.List.{list_any, list_all, slice_split}
 use Rattle.std.specs.Option.{option_and_then, option_map_or}
 use Rattle.std.specs.FinMap.{get}
 use Rattle.std.proofs.lemmas.Bool.{and_parts, or_parts}
+use Rattle.h5_model.specs.Format.Limits.{most_names}
 use Rattle.h5_model.specs.declared.edits.Edit.{Edit}
 use Rattle.h5_model.specs.Tree.Paths.{is_name, checked_names, names_of, Located, Here, Missing, NoParent, NoGroup, NoPath, locate, location_of, parent_from, parent_at}
 use Rattle.h5_model.specs.Edits.Refusal.{new_path, is_deep, is_root, has_no_parent, has_no_group, is_here, refusal_of, rules_of}
@@ -26,7 +27,7 @@ pub record IsFree (tree : Tree) (path : List ℕ) : Type 0 where
   pub named : is_name name ≡ true
   pub depth : ℕ
   pub above : Depth tree depth parent
-  pub low : depth + 1 ≤ 64
+  pub low : depth + 1 ≤ most_names
 
 -- ---- names
 
@@ -97,7 +98,7 @@ free_beside tree p is = go (links_of tree p.0) refl is where
   go (Some links) there yet = at_name links (get links p.1) there refl yet
 
 module _ (tree : Tree) (path : List ℕ) where
-  with_parent : (names : List (List ℕ)) (p : ℕ × List ℕ) → names_of path ≡ Some names → length names ≤ 64 → parent_from tree (ToObject 0) names ≡ Some p
+  with_parent : (names : List (List ℕ)) (p : ℕ × List ℕ) → names_of path ≡ Some names → length names ≤ most_names → parent_from tree (ToObject 0) names ≡ Some p
       → locate tree (ToObject 0) names ≡ Missing → IsFree tree path
   with_parent names p form short from yet =
       let stands = free_beside tree p (sym (locate-beside tree (ToObject 0) names p from) ∙ yet) in
@@ -115,12 +116,12 @@ module _ (tree : Tree) (path : List ℕ) where
         low = omega (arith, up.2, short);
       }
 
-  by_parent : (names : List (List ℕ)) (o : Option (ℕ × List ℕ)) → is_some o ≡ true → names_of path ≡ Some names → length names ≤ 64
+  by_parent : (names : List (List ℕ)) (o : Option (ℕ × List ℕ)) → is_some o ≡ true → names_of path ≡ Some names → length names ≤ most_names
       → parent_from tree (ToObject 0) names ≡ o → locate tree (ToObject 0) names ≡ Missing → IsFree tree path
   by_parent names None some form short from yet = absurd (let never : false ≡ true = some in cc)
   by_parent names (Some p) some form short from yet = with_parent names p form short from yet
 
-  by_names : (o : Option (List (List ℕ))) → names_of path ≡ o → is_none o ≡ false → option_map_or (λ names. nat_lt 64 (length names)) o false ≡ false
+  by_names : (o : Option (List (List ℕ))) → names_of path ≡ o → is_none o ≡ false → option_map_or (λ names. nat_lt most_names (length names)) o false ≡ false
       → option_map_or (λ names. length names == 0) o false ≡ false
       → (at : Located) → at ≡ option_map_or (λ names. locate tree (ToObject 0) names) o NoPath → has_no_parent at ≡ false → has_no_group at ≡ false → is_here at ≡ false
       → IsFree tree path
@@ -129,7 +130,7 @@ module _ (tree : Tree) (path : List ℕ) where
   by_names (Some (name ∷ names)) form some deep root at is parent group here =
       let place : is_place at ≡ true = ap is_place is ∙ locate-is_place tree (ToObject 0) (name ∷ names) in
       let yet : locate tree (ToObject 0) (name ∷ names) ≡ Missing = sym is ∙ missing at place parent group here in
-      let short : length (name ∷ names) ≤ 64 = grind (arith, nat_tests, deep) in
+      let short : length (name ∷ names) ≤ most_names = grind (arith, nat_tests, deep) in
       by_parent (name ∷ names) (parent_from tree (ToObject 0) (name ∷ names)) (parent_of-has_parent tree (ToObject 0) name names (ap has_parent yet)) form short refl yet
 
   pub free_path : is_none (names_of path) ≡ false → is_deep path ≡ false → is_root path ≡ false → has_no_parent (location_of tree path) ≡ false

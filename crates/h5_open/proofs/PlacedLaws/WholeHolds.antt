@@ -6,6 +6,7 @@ use Rattle.std.specs.Ordering.{nat_cmp}
 use Rattle.std.specs.FinMap.{FinMap, get}
 use Rattle.h5_bytes.specs.Blocks.{block, Separate, Inside}
 use Rattle.h5_bytes.specs.declared.Block.{Block}
+use Rattle.h5_model.specs.Format.Limits.{most_names}
 use Rattle.h5_model.specs.Format.Messages.{Message}
 use Rattle.h5_model.specs.Format.Superblock.{superblock_length, root_header}
 use Rattle.h5_model.specs.Tree.Objects.{Object, links_in}
@@ -71,7 +72,7 @@ whole_holds image objects whole = record {
   root = root_there image objects whole;
   root_group = root_links image objects whole;
   reached = all_reached image objects whole.distinct whole.each whole.parents;
-  shallow = λ path some. all_short image objects whole.distinct whole.each path 0 (whole.begins).root 64 (first image objects whole) whole.shallow some;
+  shallow = λ path some. all_short image objects whole.distinct whole.each path 0 (whole.begins).root most_names (first image objects whole) whole.shallow some;
   apart = subst Separate (all_placed_blocks image objects) whole.apart;
   within = subst (Inside (length image)) (all_placed_blocks image objects) whole.within;
 }

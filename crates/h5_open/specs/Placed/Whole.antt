@@ -5,6 +5,7 @@ use Rattle.std.specs.List.{AllByRecursion, Contains, IsDistinct}
 use Rattle.std.specs.Ordering.{nat_cmp, eq_by_cmp}
 use Rattle.std.specs.FinMap.{FinMap}
 use Rattle.h5_bytes.specs.Blocks.{Separate, Inside}
+use Rattle.h5_model.specs.Format.Limits.{most_names}
 use Rattle.h5_model.specs.Format.Superblock.{IsSuperblock, end_of_file, root_header}
 use Rattle.h5_model.specs.Format.Symbols.{Target, Header, Text}
 use Rattle.h5_model.specs.Format.Reads.{Placed}
@@ -60,7 +61,7 @@ pub record IsWholeImage (image : List ℕ) (objects : List OpenedObject) : Type 
   pub each : AllByRecursion (IsObjectKept image) objects
   pub distinct : IsDistinct (eq_by_cmp nat_cmp) (headers objects)
   pub led : AllByRecursion (AreLed image objects) objects
-  pub shallow : HasHeight image objects 64 begins.root
+  pub shallow : HasHeight image objects most_names begins.root
   pub parents : AreNamed image [] objects
   pub apart : Separate (opened_blocks image objects)
   pub within : Inside (length image) (opened_blocks image objects)

@@ -3,6 +3,7 @@ use Rattle.std.specs.Prelude.{MatchOption}
 use Rattle.std.specs.List.{flat_map}
 use Rattle.h5_text.specs.Appends.{Appends}
 use Rattle.h5_text.proofs.Appending.{appends_more}
+use Rattle.h5_model.specs.Format.Limits.{most_names}
 use Rattle.h5_model.specs.Tree.Links.{tree_link}
 use Rattle.h5_file.specs.Listed.{AreGroupLinks, IsNoGroup}
 use Rattle.h5_dump.specs.Listing.{lines_of_link}
@@ -23,6 +24,6 @@ returns c =
     let listed = c.deref.result.now in
     let are = subst (λ found. MatchOption found (IsNoGroup tree 0) (λ links. AreGroupLinks tree 0 links.items)) c.in-Some.is c.in_ok-links.ensures.found in
     subst (λ (text : List ℕ). Appends c.push_links.result old c.push_links.new.text.items text)
-    (list_of_links tree 63 path c.in-Some.links.items listed are refl c.new-path.ensures.items c.deref.ensures.value)
+    (list_of_links tree (most_names - 1) path c.in-Some.links.items listed are refl c.new-path.ensures.items c.deref.ensures.value)
     (appends_more c.push_links.result old (codes "/ group\n") c.push_group_line.new.out.items c.push_links.new.text.items
-    (flat_map (lines_of_link tree 63 path) (map tree_link listed)) c.in_ok-push_group_line.ensures c.push_links.ensures.lines)
+    (flat_map (lines_of_link tree (most_names - 1) path) (map tree_link listed)) c.in_ok-push_group_line.ensures c.push_links.ensures.lines)

@@ -1,7 +1,7 @@
 use Rattle.std.proofs.Common.{◌≡◌, ◌≤◌, ◌+◌, ◌*◌, ℕ, List, [], drop, get_or, length, map, sym, ap, ◌∙◌, subst, arith}
 use Rattle.std.proofs.lemmas.List.{drop_all, length-map}
 use Rattle.std.proofs.Math.Nat.{mul-le-mul_right}
-use Rattle.h5_model.specs.Format.Limits.{most_cells}
+use Rattle.h5_model.specs.Format.Limits.{most_cells, most_views}
 use Rattle.h5_file.specs.ByArray.{numbers_on}
 use Rattle.h5_file.specs.declared.by_array.ArrayView.{ArrayView}
 use Rattle.h5_file.specs.declared.views.KeptView.{KeptView}
@@ -18,7 +18,7 @@ any = record { object = 0; number = 0 }
 listed : (c : After-views_on-own) → numbers c.views_on-own.result.now ≡ numbers_on c.args.number.0 c.args.views.now
 listed c = c.views_on-own.ensures ∙ c.requires.listed.each c.args.number.0
 
-few : (c : After-views_on-own) → length c.views_on-own.result.now ≤ 1024
+few : (c : After-views_on-own) → length c.views_on-own.result.now ≤ most_views
 few c =
     let same : length c.views_on-own.result.now ≡ length (numbers_on c.args.number.0 c.args.views.now)
     = sym (length-map c.views_on-own.result.now (λ (v : ArrayView). v.number)) ∙ ap length (listed c) in
@@ -63,8 +63,8 @@ pub overflow_add-count : goal.overflow_add-count
 overflow_add-count c =
     let sum = low (goal.at.overflow_add-count c).After-follow_one-count in
     let many = few (goal.at.overflow_add-count c).After-views_on-own in
-    let rows : c.loop-view.view-index + 1 ≤ 1024 = omega (arith, c.loop-view-test.true, many) in
-    let all : (c.loop-view.view-index + 1) * most_cells ≤ 1024 * most_cells = mul-le-mul_right most_cells rows in
+    let rows : c.loop-view.view-index + 1 ≤ most_views = omega (arith, c.loop-view-test.true, many) in
+    let all : (c.loop-view.view-index + 1) * most_cells ≤ most_views * most_cells = mul-le-mul_right most_cells rows in
     omega (arith, sum, all)
 
 pub loop-view-preserved : goal.loop-view-preserved
