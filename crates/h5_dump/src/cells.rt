@@ -12,14 +12,14 @@ ghost use Rattle.h5_file.specs.Pieces.{piece_values};
 use crate::array::row_length;
 use h5_file::{Piece, StoredArray};
 use h5_model::Fixed;
-use h5_text::{PrintFault, Rows, write_full, write_text};
+use h5_text::{MOST_HELD, PrintFault, Rows, write_full, write_text};
 use std::io::Write;
 
 /// The most cells that are put into the buffer before it is written.
 const AT_ONCE: u64 = 4096;
 
-/// The bytes that a buffer keeps back, and those of so many cells of 21 bytes behind them.
-pub(crate) const CELLS_ROOM: usize = 65536 + 4096 * 21;
+/// The bytes that a buffer holds back, and those of so many cells of 21 bytes behind them.
+pub(crate) const CELLS_ROOM: usize = MOST_HELD + AT_ONCE as usize * 21;
 
 /// Writes what the buffer holds, and the array's cells in rows behind it.
 pub(crate) fn write_cells<W: Write>(

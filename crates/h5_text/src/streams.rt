@@ -27,8 +27,8 @@ impl From<AllocError> for PrintFault {
     }
 }
 
-/// The most bytes that a buffer keeps back.
-const KEPT: usize = 65536;
+/// The most bytes that a buffer holds back between two writes.
+pub const MOST_HELD: usize = 65536;
 
 /// Writes a text, in as many writes as it takes. No write is tried again.
 ///
@@ -77,7 +77,7 @@ pub fn write_full<W: Write>(output: &mut W, held: &mut Vec<u8>) -> Result<(), Pr
     ensures small { length held.old.items ≤ most_held
         → IsOk result × (output.new ≡ output.old) × (held.new ≡ held.old) }
 {
-    if held.len() > KEPT {
+    if held.len() > MOST_HELD {
         write_text(output, held)?;
         held.clear();
     }
