@@ -1,6 +1,6 @@
 -- The rules on the messages of a dataset, in the order in which they are judged (File Format Specification 3.0, section
 -- IV.A.2).
-use Rattle.std.specs.Prelude.{ℕ, ◌*◌, ◌^◌, ◌||◌, Bool, false, nat_lt, is_none, if◌then◌else◌, ℤ, Option, Some, None, List}
+use Rattle.std.specs.Prelude.{ℕ, ◌*◌, ◌||◌, Bool, false, nat_lt, is_none, if◌then◌else◌, ℤ, Option, Some, None, List}
 use Rattle.std.specs.Option.{option_map_or, option_or}
 use Rattle.h5_model.specs.Format.Limits.{most_cells, most_chunk_bytes}
 use Rattle.h5_model.specs.Format.MessageTypes.{old_fill_value_kind, fill_value_kind}

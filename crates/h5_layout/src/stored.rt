@@ -1,6 +1,6 @@
 //! An array with the image in which its cells stand.
 
-ghost use Rattle.std.specs.Prelude.{◌≡◌, ◌+◌, ◌<◌, ◌≤◌, false, IfSome, MatchOption, [], ◌∷◌, length};
+ghost use Rattle.std.specs.Prelude.{◌≡◌, ◌+◌, ◌<◌, ◌≤◌, false, true, IfSome, IsSome, MatchOption, [], ◌∷◌, length};
 ghost use Rattle.h5_model.specs.Edits.Refusal.{is_chunked};
 ghost use Rattle.h5_model.specs.Format.Limits.{most_cells};
 ghost use Rattle.h5_model.specs.Tree.Objects.{Chunked};
@@ -9,6 +9,7 @@ ghost use Rattle.h5_model.specs.Scripts.Reading.{cell_at};
 ghost use Rattle.h5_model.specs.Views.Selection.{Within, is_one_run, selection_of};
 ghost use Rattle.h5_model.specs.Views.Shown.{is_in_line, is_lent, selected_values};
 ghost use Rattle.h5_model.specs.Format.Described.{storage_of};
+ghost use Rattle.h5_shape.specs.OneRun.{IsOneRun};
 ghost use Rattle.h5_shape.specs.Runs.{cell_runs};
 ghost use Rattle.h5_layout.specs.Data.{AreDataRead, IsSoundDataset, dataset_told};
 ghost use Rattle.h5_layout.specs.Lent.{AreInLine, IsLent, IsStandingSelection};
@@ -129,9 +130,12 @@ impl<'a> StoredArray<'a> {
 
     /// The bytes of the selected cells as they stand in the image, where the four lists select cells of the array that
     /// stand one behind another there: cells of one row of a chunk, of a contiguous block, or in the header. `None` where
-    /// they do not, or where the lists are no selection within the sizes. Takes no memory.
+    /// they do not, or where the lists are no selection within the sizes. In a block and in the header, selected cells
+    /// that are one run are always found; in chunks it is left open which are. Takes no memory.
     pub fn standing(&self, hyper: &HyperRef<'_>) -> Option<&'a [u8]>
-        ensures { IfSome result (λ bytes. IsStandingSelection self.now hyper.now bytes.now) }
+        ensures bytes { IfSome result (λ bytes. IsStandingSelection self.now hyper.now bytes.now) }
+        ensures found { is_in_line self.now.storage ≡ true
+            → (run : CellRun) → IsOneRun self.now.sizes hyper.now run → IsSome result }
     {
         let run = one_run(self.array().dims(), hyper)?;
         if let Some(bytes) = self.line() {

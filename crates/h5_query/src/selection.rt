@@ -1,9 +1,12 @@
 //! Selections of an array's cells, and the runs of these (HDF5 dataspace reference, H5Sselect_hyperslab).
 
-ghost use Rattle.std.specs.Prelude.{◌≡◌, Some, None, IfOk, IfSome, MatchResult};
+ghost use Rattle.std.specs.Prelude.{◌≡◌, true, Some, None, IfOk, IfSome, IsSome, MatchResult};
 ghost use Rattle.h5_model.specs.Edits.Refusal.{first_holding};
 ghost use Rattle.h5_model.specs.Scripts.Reading.{selection_rules};
 ghost use Rattle.h5_model.specs.Views.Selection.{axes_of};
+ghost use Rattle.h5_model.specs.Views.Shown.{is_in_line};
+ghost use Rattle.h5_shape.specs.OneRun.{IsOneRun};
+ghost use Rattle.h5_shape.specs.declared.runs.CellRun.{CellRun};
 ghost use Rattle.h5_query.specs.Selected.{HasRuns, HasSelectedBytes, IsSelectedAt, IsSlabOf, fault_of_slab, hyper_rules};
 
 use crate::array::array_at;
@@ -85,9 +88,12 @@ pub fn selected_at<'a, 'b>(
 
 /// The bytes of the selected cells of an array as they stand in the image, where no rule refuses the selection and the
 /// cells stand one behind another there: cells of one row of a chunk, of a contiguous block, or in the header. `None`
-/// else. It is left open which cells of a chunk are found to do so. Takes no memory.
+/// else. In a block and in the header, selected cells that are one run are always found; in chunks it is left open
+/// which are. Takes no memory.
 pub fn standing_cells<'a>(array: &StoredArray<'a>, hyper: &HyperRef<'_>) -> Option<&'a [u8]>
-    ensures { IfSome result (λ bytes. HasSelectedBytes array.now hyper.now bytes.now) }
+    ensures bytes { IfSome result (λ bytes. HasSelectedBytes array.now hyper.now bytes.now) }
+    ensures found { is_in_line array.now.storage ≡ true
+        → (run : CellRun) → IsOneRun array.now.sizes hyper.now run → IsSome result }
 {
     array.standing(hyper)
 }

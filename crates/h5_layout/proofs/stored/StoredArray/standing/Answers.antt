@@ -32,9 +32,9 @@ run_bytes-requires c =
     subst (λ (t : Fixed). (run.place + run.length) * t.size ≤ length c.in-Some.bytes.now) (sym (type-is b))
     (run_room c.args.self.now (axes_of c.args.hyper.now) run (in_line b).runs c.in-Some.bytes.now c.in-Some.ensures)
 
-pub returns-in-Some : goal.returns-in-Some
-returns-in-Some c =
-    let b = (goal.at.returns-in-Some c).After-fixed in
+pub returns-in-Some-clause-bytes : goal.returns-in-Some-clause-bytes
+returns-in-Some-clause-bytes c =
+    let b = (goal.at.returns-in-Some-clause-bytes c).After-fixed in
     let run = c.in_ok-run.run' in
     standing_line c.args.self.now c.args.hyper.now run (in_line b) c.array.ensures.sound.fixed c.in-Some.bytes.now c.run_bytes.result.now c.in-Some.ensures
     (subst (λ (t : Fixed). AreCellBytes t c.in-Some.bytes.now run.place run.length c.run_bytes.result.now) (type-is b) c.run_bytes.ensures.cells) c.run_bytes.ensures.bytes
@@ -50,11 +50,11 @@ piece-cells-requires-clause-below c =
     let counted : length c.args.self.now.cells ≡ cells c.args.self.now.sizes = c.array.ensures.sound.counted in
     omega (arith, counted, (standing_below c.args.self.now c.args.hyper.now c.in_ok-run.run' (one (goal.at.piece-cells-requires-clause-below c).After-line)).1)
 
-pub returns-in-Bytes : goal.returns-in-Bytes
-returns-in-Bytes c =
+pub returns-in-Bytes-clause-bytes : goal.returns-in-Bytes-clause-bytes
+returns-in-Bytes-clause-bytes c =
     let run = c.in_ok-run.run' in
     let all : CellsLeft = record { fixed = c.args.self.now.fixed; fill = c.args.self.now.fill; values = c.args.self.now.cells } in
     let low : AreBytes c.in-Bytes.bytes.now = subst HasBytes c.in-Bytes.is c.piece-cells.ensures.bytes in
     let at = subst (λ (p : Piece). IsPieceAt all run.place run.length p c.piece-cells.result.1) c.in-Bytes.is c.piece-cells.ensures.piece in
     let whole : c.piece-cells.result.1 ≡ run.length = omega (arith, at.few, c.if-cells-run.false) in
-    standing_selected c.args.self.now c.args.hyper.now run (one (goal.at.returns-in-Bytes c).After-line) all refl c.array.ensures.sound.fixed c.in-Bytes.bytes low c.piece-cells.result.1 whole at
+    standing_selected c.args.self.now c.args.hyper.now run (one (goal.at.returns-in-Bytes-clause-bytes c).After-line) all refl c.array.ensures.sound.fixed c.in-Bytes.bytes low c.piece-cells.result.1 whole at
