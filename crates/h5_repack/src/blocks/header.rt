@@ -184,7 +184,7 @@ fn has_fill(others: &Others) -> bool
     requires { others.now.count ≤ most_messages }
     ensures { result ≡ not (nat_lt most_messages (4 + others.now.count)) }
 {
-    4 + others.count() <= most_messages
+    4 + others.count() <= 65535
 }
 
 /// How many bytes the fill value message of an array has, where there is one.
