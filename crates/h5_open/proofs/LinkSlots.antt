@@ -1,5 +1,5 @@
 -- The slots of a group and of an array of an opened image, by its tree; and how many links a header counts.
-use Rattle.std.proofs.Common.{◌≡◌, ℕ, ◌≤◌, ◌==◌, true, false, Bool, List, refl, ap, subst, arith, Option, Some, None, IsSome}
+use Rattle.std.proofs.Common.{◌≡◌, ℕ, ◌+◌, ◌≤◌, ◌==◌, true, false, Bool, List, refl, ap, subst, arith, Option, Some, None, IsSome}
 use Rattle.std.specs.Prelude.{slice_get, if◌then◌else◌, is_some, option_map}
 use Rattle.std.specs.Option.{option_and_then, option_flatten}
 use Rattle.std.specs.BTreeMap.{BTreeMap}
