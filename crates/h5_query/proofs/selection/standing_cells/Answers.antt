@@ -8,11 +8,11 @@ by_each : {P Q : Bor (List ℕ) → Type 0} (r : Option (Bor (List ℕ))) → If
 by_each None is each = tt
 by_each (Some bytes) is each = each bytes is
 
-pub returns : goal.returns
-returns c =
+pub returns-clause-bytes : goal.returns-clause-bytes
+returns-clause-bytes c =
     let d = c.args.array.now in
     let hyper = c.args.hyper.now in
-    by_each c.standing.result c.standing.ensures (λ bytes is. record {
+    by_each c.standing.result c.standing.ensures.bytes (λ bytes is. record {
       accepted = selection_accepted d.sizes hyper is.selection is.rank is.within;
       slab = selection_is d.sizes hyper is.selection is.rank is.within;
       same = is.same;
