@@ -5,12 +5,12 @@ ghost use Rattle.std.specs.Prelude.{◌≡◌, ◌≤◌, length};
 use std::marker::Model;
 
 /// How many bytes the longest key has: one of chunks of 32 dimensions.
-const LONGEST: usize = 272;
+pub const LONGEST_KEY: usize = 272;
 
 /// The bytes of a key, in the value itself.
 #[derive(Drop)]
 pub(crate) struct KeyCopy {
-    bytes: [u8; LONGEST],
+    bytes: [u8; LONGEST_KEY],
     len: usize,
 }
 
@@ -30,7 +30,7 @@ impl KeyCopy {
         requires { length key.now ≤ 272 }
         ensures { result ≡ key.now }
     {
-        let mut bytes = [0; LONGEST];
+        let mut bytes = [0; LONGEST_KEY];
         bytes[..key.len()].copy_from_slice(key);
         KeyCopy {
             bytes,

@@ -22,7 +22,7 @@ pub struct Step {
 }
 
 /// How many steps a way has at most: one for each level.
-pub(crate) const MOST_STEPS: usize = MAX_LEVEL as usize + 1;
+pub const MOST_STEPS: usize = MAX_LEVEL as usize + 1;
 
 /// The way from a node of level 0 up to the root, with a step for each level. The steps stand in the value itself, so
 /// it takes no memory.

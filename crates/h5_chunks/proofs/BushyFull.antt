@@ -106,7 +106,7 @@ module _ (s : Space) (shape : Shape) (root : ℕ) (chunks : AreChunksApart s sha
       (subst (AllByRecursion (λ (step : Step). length (V step.node).children ≡ 2 * k)) is.4 full)).0
 
   -- a full root at level 15 has as many chunks below it as an image has bytes
-  chunks_many : (low : ℕ) → 1073741824 ≤ k ^ (16 - low) → length (V root).children ≡ 2 * k → IsBushyBelow V k low 15 root
+  chunks_many : (low : ℕ) → most_bytes ≤ 2 * k ^ (16 - low) → length (V root).children ≡ 2 * k → IsBushyBelow V k low 15 root
       → most_bytes ≤ length (leaves V 15 (root ∷ []))
   chunks_many low power full bushy =
       let row = (V root).children in
@@ -134,7 +134,7 @@ never_full s shape root low offsets chunks storable short is_low bushy full =
     let some = storable.some in
     let V = node_at s.bytes (shape_kind s.bytes shape) in
     let k = chunk_k s.bytes in
-    let power : 1073741824 ≤ k ^ (16 - low) = grind (arith, nat_tests, is_low) in
+    let power : most_bytes ≤ 2 * k ^ (16 - low) = grind (arith, nat_tests, is_low) in
     let few = chunks_few s shape root chunks some in
     let wide = root_full s shape root chunks some (chunk_behind offsets) 14 full.way full.sought full.nodes in
     let many = chunks_many s shape root chunks some low power wide (subst (λ (l : ℕ). IsBushyBelow V k low l root) full.high bushy) in

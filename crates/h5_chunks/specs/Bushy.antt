@@ -1,6 +1,7 @@
 -- Trees of chunks whose upper nodes were made by splits, and are at least half full (File Format Specification 3.0, section III.A.1).
-use Rattle.std.specs.Prelude.{ℕ, zero, suc, ◌-◌, ◌^◌, ◌≤◌, Bool, List, ⊤, length, nat_le, if◌then◌else◌}
+use Rattle.std.specs.Prelude.{ℕ, zero, suc, ◌-◌, ◌*◌, ◌^◌, ◌≤◌, Bool, List, ⊤, length, nat_le, if◌then◌else◌}
 use Rattle.std.specs.List.{AllByRecursion}
+use Rattle.h5_model.specs.Format.Limits.{most_bytes}
 use Rattle.h5_model.specs.Format.Nodes.{node_at}
 use Rattle.h5_model.specs.Format.Reached.{Shape, level_at, shape_kind}
 use Rattle.h5_model.specs.Format.Rows.{Reading}
@@ -21,6 +22,6 @@ IsBushy image shape root low =
     IsBushyBelow (node_at image (shape_kind image shape)) (shape_kind image shape).k low (level_at image (shape_kind image shape) root) root
 
 -- A tree of nodes of this K whose root is at this level never gets too deep: a full root at level 15, above nodes with K children at least
--- down to this level, has 2^31 chunks below it, and an image has no more bytes.
+-- down to this level, has 2K · K^(15 - level) chunks below it, and these are as many as an image has bytes.
 abbrev pub is_low_level : ℕ → ℕ → Bool
-is_low_level k level = nat_le 1073741824 (k ^ (16 - level))
+is_low_level k level = nat_le most_bytes (2 * k ^ (16 - level))

@@ -12,9 +12,6 @@ use h5_bytes::{u32_at, u64_at};
 /// Where a key's offsets begin, behind the chunk's size and the filter mask.
 pub const OFFSETS: usize = 8;
 
-/// How many bytes the longest key has: one of 32 dimensions.
-pub(crate) const LONGEST_KEY: usize = 272;
-
 /// How many bytes a key of so many dimensions has.
 pub fn key_length(rank: usize) -> usize
     requires { rank ≤ most_dimensions }

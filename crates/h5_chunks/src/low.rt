@@ -8,10 +8,7 @@ ghost use Rattle.h5_chunks.specs.Edited.{AreChunksApart};
 
 use crate::shape::ChunkShape;
 use h5_btree::tree_node;
-use h5_space::{Image, chunk_k};
-
-/// Half of the bytes that an image can have.
-const HALF: u64 = 1 << 30;
+use h5_space::{Image, MAXIMUM_IMAGE, chunk_k};
 
 /// Whether a tree of chunks whose root is at this level never gets too deep, however many chunks are stored: no image has room
 /// for them.
@@ -25,7 +22,7 @@ pub fn is_low_level(image: &Image, level: u8) -> bool
     ensures { result ≡ is_low_at (k_of image.now.bytes) level }
 {
     let k = u64::from(chunk_k(image.bytes()));
-    k.saturating_pow(16 - u32::from(level)) >= HALF
+    k.saturating_pow(16 - u32::from(level)) >= MAXIMUM_IMAGE / 2
 }
 
 /// Whether the root of a tree of chunks is so low that its tree never gets too deep. Takes no memory.

@@ -21,22 +21,19 @@ ghost use Rattle.h5_chunks.specs.Put.{HasChunkPut, IsBlockBeside, IsKeyBehind, I
 ghost use Rattle.h5_chunks.specs.Told.{chunks_told};
 ghost use Rattle.h5_chunks.specs.Way.{chunk_behind};
 
-use crate::key::{LONGEST_KEY, OFFSETS};
+use crate::key::OFFSETS;
 use crate::offsets::Offsets;
 use crate::search::{SoughtChunk, way_to};
 use crate::shape::ChunkShape;
 use h5_btree::{
-    Follows, NodeKind, Sought, Trees, Way, ends_to_widen, hold_keys, is_full_way, put_at,
-    put_first, tree_node, widen,
+    Follows, LONGEST_KEY, MAX_LEVEL, MOST_STEPS, NodeKind, Sought, Trees, Way, ends_to_widen,
+    hold_keys, is_full_way, put_at, put_first, tree_node, widen,
 };
 use h5_bytes::{put_u64, u64_at};
 use h5_space::Image;
 
-/// The level of the highest root that a tree may have.
-const HIGHEST: u8 = 15;
-
-/// Bytes of the keys that come in along a way: the longest for each of its levels, which are 16 at most.
-const MOST_KEYS: usize = 4352;
+/// Bytes of the keys that come in along a way: the longest for each of its steps.
+const MOST_KEYS: usize = MOST_STEPS * LONGEST_KEY;
 
 /// The same along most ways, which have few levels and short keys.
 const FEW_KEYS: usize = 512;
@@ -51,7 +48,7 @@ pub fn is_full_at(image: &Image, shape: &ChunkShape<'_>, root: u64, key: &[u8]) 
     ensures { IsTrue result
         ↔ IsFullAt image.now.bytes shape.now root (offsets_in (length shape.now.sizes) key.now) }
 {
-    if tree_node(image, shape, root).level() < HIGHEST {
+    if tree_node(image, shape, root).level() < MAX_LEVEL {
         return false;
     }
     // An image has fewer than 2^64 bytes.

@@ -11,4 +11,4 @@ mod way;
 
 pub use put::{is_too_deep, put_link, put_reserved, reserve_link};
 pub(crate) use retire::KeysOf;
-pub use take::remove_link;
+pub use take::{REMOVAL_CALLS, remove_link};

@@ -16,7 +16,7 @@ mod search;
 mod texts;
 mod write;
 
-pub use edit::{is_too_deep, put_link, put_reserved, remove_link, reserve_link};
+pub use edit::{REMOVAL_CALLS, is_too_deep, put_link, put_reserved, remove_link, reserve_link};
 pub use exact::has_exact_keys;
 pub use group::read_group;
 pub use h5_btree::InsertFault;

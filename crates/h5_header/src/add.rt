@@ -14,8 +14,8 @@ use crate::header::Messages;
 use h5_model::message_type::{DATATYPE, SYMBOL_TABLE};
 use h5_space::{Image, SpaceFault};
 
-/// Messages that a header has at most: its total is 16 bits wide.
-const MAX_MESSAGES: usize = 65535;
+/// Messages that a header has at most: its total is 16 bits wide (File Format Specification 3.0, section IV.A.1.a).
+pub const MAX_MESSAGES: usize = 65535;
 
 /// Bytes of a new block beside the body of the message that is added: two heads, and 16 bytes of the message that moves
 /// there.

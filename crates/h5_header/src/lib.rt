@@ -19,7 +19,7 @@ mod message;
 mod put;
 mod read;
 
-pub use add::AddFault;
+pub use add::{AddFault, MAX_MESSAGES};
 pub use find::find_message;
 pub use h5_space::claim;
 pub use header::Messages;

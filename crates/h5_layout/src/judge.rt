@@ -19,7 +19,7 @@ use h5_msg::{
 use h5_shape::{Dims, MAX_CELLS};
 
 /// The most bytes of a chunk.
-const MAX_CHUNK: u128 = 1 << 30;
+pub const MAX_CHUNK: u64 = 1 << 30;
 
 /// What a Dataspace message says.
 pub(crate) fn judge_sizes(body: &[u8]) -> Result<Dataspace<'_>, Cause>
@@ -119,7 +119,7 @@ fn is_chunk_large(fixed: &Fixed, layout: &Layout<'_>) -> bool
         return false;
     };
     let size = fixed.size() as u128;
-    u128::from(cells_from(sizes, 0)) * size > MAX_CHUNK
+    u128::from(cells_from(sizes, 0)) * size > u128::from(MAX_CHUNK)
 }
 
 /// The product of the chunk sizes from dimension `k` on, or `u64::MAX` where it is larger.

@@ -50,6 +50,7 @@ pub use h5_msg::{ChunkSizes, Layout};
 pub use h5_shape::{Dims, MAX_RANK, Slab, SlabFault};
 pub use h5_types::{encode, fits};
 pub use held::{HeldChunks, copy_smaller};
+pub use judge::MAX_CHUNK;
 pub use lacking::{Missing, missing_of};
 pub use named_tree::lacks_tree;
 pub use new_chunks::missing_chunks;

@@ -3,4 +3,5 @@ mod check;
 mod tally;
 
 pub(crate) use check::check_counts;
+pub use tally::MAX_LINKS;
 pub(crate) use tally::{Tally, count_again, push_counted};

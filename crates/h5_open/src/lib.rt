@@ -10,6 +10,7 @@ mod object;
 mod opened;
 mod steps;
 
+pub use counts::MAX_LINKS;
 pub use h5_attr::{AttrRef, get, list, new_body, sorted};
 pub use h5_group::{Links, SymbolTable, group_links, lookup};
 pub use h5_layout::{

@@ -22,9 +22,9 @@ pub use cells::one_cell;
 pub use found::{Found, found_at};
 pub use group::{links_of, tree_links};
 pub use h5_open::{
-    ArrayExtent, ArrayRef, AttrRef, ContentBytes, Dims, Layout, Links, MAX_RANK, ObjectBytes,
-    Opened, OpenedContent, OpenedObject, Piece, Runs, StandingCells, StoredArray, SymbolTable,
-    Values, get, group_links, known_array, new_body, sorted,
+    ArrayExtent, ArrayRef, AttrRef, ContentBytes, Dims, Layout, Links, MAX_LINKS, MAX_RANK,
+    ObjectBytes, Opened, OpenedContent, OpenedObject, Piece, Runs, StandingCells, StoredArray,
+    SymbolTable, Values, get, group_links, known_array, new_body, sorted,
 };
 pub use h5_shape::{HyperRef, Slab, SlabFault};
 pub use kind::Kind;

@@ -7,11 +7,11 @@ ghost use Rattle.h5_query.specs.Opened.Sound.{IsObjectOf};
 ghost use Rattle.h5_edit.specs.Refusals.Allowed.{IsPlaceAllowed, IsLinkPlaced, IsRuledOut};
 ghost use Rattle.h5_edit.specs.Refusals.Rules.{is_text_fault, path_fault, target_rules};
 
-use crate::rules::limits::{MAX_LINKS, MAX_NAME};
+use crate::rules::limits::MAX_NAME;
 use crate::rules::place::{NewPlace, ObjectAt, is_full, lower, new_place, object_at};
 use crate::rules::text::is_no_text;
 use h5_model::EditFault;
-use h5_query::{Opened, OpenedContent, OpenedObject};
+use h5_query::{MAX_LINKS, Opened, OpenedContent, OpenedObject};
 
 /// Where a new group at the path is to stand.
 ///

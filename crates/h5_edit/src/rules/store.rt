@@ -8,9 +8,9 @@ ghost use Rattle.h5_model.specs.Edits.Refusal as rule;
 ghost use Rattle.h5_repack.specs.Bodies.Sound.{IsBound};
 ghost use Rattle.h5_edit.specs.Changed.Cells.{HasChunkSizes};
 
-use crate::rules::limits::{MAX_CHUNK, MAX_COMPACT};
+use crate::rules::limits::MAX_COMPACT;
 use h5_bytes::UNDEF;
-use h5_layout::ChunkSizes;
+use h5_layout::{ChunkSizes, MAX_CHUNK};
 use h5_model::{Items, Store};
 use h5_query::Dims;
 

@@ -33,7 +33,7 @@ use crate::edit::texts::add_text;
 use crate::edit::way::{node_at_end, way_to, widen_for};
 use crate::nodes::group_kind;
 use crate::read::symbol_node;
-use h5_btree::{InsertFault, Way, is_full_way};
+use h5_btree::{InsertFault, MOST_STEPS, Way, is_full_way};
 use h5_heap::{ObjectPlace, segment_at, text_span};
 use h5_model::{Link, LinkTo};
 use h5_msg::SymbolTable;
@@ -42,9 +42,6 @@ use h5_space::{Image, SpaceFault, leaf_k as leaf_of};
 
 /// How many calls of `take` and `give` a link may need: 17 nodes and a symbol node are taken, and a longer segment in place of the old one.
 const CALLS: u64 = 20;
-
-/// How many steps a way has to a root at level 15.
-const MOST_STEPS: usize = 16;
 
 /// Puts a link into a group, in the place of its name. The group has no link of this name.
 ///

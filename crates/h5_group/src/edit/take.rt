@@ -31,7 +31,7 @@ use h5_snod::{SymbolEntry, SymbolTarget};
 use h5_space::{Image, SpaceFault};
 
 /// How many calls of `give` the removal of a link may need: 15 nodes below the root and a symbol node.
-const CALLS: u64 = 16;
+pub const REMOVAL_CALLS: u64 = 16;
 
 /// Takes the link of this name out of a group. All other links stay.
 ///
@@ -70,7 +70,7 @@ pub fn remove_link(
     ensures err { OnErr result (image.new ≡ image.old) }
     ensures covered { 16 ≤ image.old.room_blocks → IsOk result }
 {
-    image.reserve(0, CALLS)?;
+    image.reserve(0, REMOVAL_CALLS)?;
     take_link(image, table, name, exact);
     Ok(())
 }

@@ -15,8 +15,8 @@ use crate::opened::{OpenedContent, OpenedObject};
 use h5_model::{Cause, OpenFault};
 use h5_space::fault;
 
-/// The most links that may lead to a header.
-const MOST: u32 = 65535;
+/// The most hard links that lead to an object.
+pub const MAX_LINKS: u32 = 65535;
 
 /// The objects that a walk has found, and by their numbers how many of the links that it followed lead to each.
 #[derive(Drop)]
@@ -76,7 +76,7 @@ fn count_one(object: &OpenedObject, count: &mut u32) -> Result<(), OpenFault>
 {
     let cause = if is_group(object) {
         Cause::GroupLinkedTwice
-    } else if *count >= MOST {
+    } else if *count >= MAX_LINKS {
         Cause::TooLarge
     } else {
         *count += 1;

@@ -21,7 +21,7 @@ ghost use Rattle.h5_open.specs.Written.{IsArrayThere};
 
 use super::end::write_end;
 use super::{Opened, OpenedObject};
-use h5_header::{AddFault, HeaderRef, Messages};
+use h5_header::{AddFault, HeaderRef, MAX_MESSAGES, Messages};
 use h5_layout::{
     MAX_RANK, Outside, copy_smaller, lacks_maxima, lacks_tree, outside_of, resize_array, sizes_of,
 };
@@ -30,9 +30,6 @@ use std::alloc::{AllocError, Global};
 
 /// Bytes of a Dataspace message with maxima beside its sizes and these, and of a new block beside the message.
 const EXTENT_AND_BLOCK: u64 = 40;
-
-/// The total of messages in a header has two bytes.
-const MAX_MESSAGES: usize = 65535;
 
 /// No memory has as many keys of chunks.
 const MOST_LOST: usize = 1 << 40;

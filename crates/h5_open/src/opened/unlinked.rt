@@ -19,12 +19,9 @@ use super::links::group_table;
 use super::losses::losses_of;
 use super::{Opened, OpenedObject};
 use crate::index::clear_all;
-use h5_group::{SymbolTable, remove_link};
+use h5_group::{REMOVAL_CALLS, SymbolTable, remove_link};
 use h5_space::Image;
 use std::alloc::{AllocError, Global};
-
-/// How many calls of `give` the removal of a link may need.
-const CALLS: u64 = 16;
 
 impl Opened {
     /// Takes a link out of a group. What no path reaches then goes too: the object to which it was the last hard link, and all below it. Its
@@ -91,7 +88,7 @@ fn take_link(
     ensures room { OnOk result (calls ≤ image.new.room_blocks) }
     ensures refused { OnErr result (image.new ≡ image.old) }
 {
-    let Ok(()) = image.reserve(0, CALLS + calls) else {
+    let Ok(()) = image.reserve(0, REMOVAL_CALLS + calls) else {
         return Err(AllocError);
     };
     let Ok(()) = remove_link(image, table, name, exact) else {

@@ -15,7 +15,7 @@ ghost use Rattle.h5_repack.specs.Blocks.StoredChunks.{IsLastKey, chunks_written,
 ghost use Rattle.h5_repack.specs.Blocks.Written.{AreWhole, chunks_of, part_offsets};
 
 use crate::blocks::cells::Cells;
-use h5_btree::{Child, NodeKind, nodes_over, push_tree, root_level};
+use h5_btree::{Child, MAX_LEVEL, NodeKind, nodes_over, push_tree, root_level};
 use h5_chunks::ChunkKey;
 use h5_group::MAXIMUM_IMAGE;
 use h5_layout::HeldChunks;
@@ -63,9 +63,6 @@ fn nodes_length(kind: &NodeKind, count: u64) -> u64
     nodes_over(kind, count) * kind.node_length() as u64
 }
 
-/// How many levels above the lowest the tree over chunks may have.
-const MAXIMUM_LEVEL: u32 = 15;
-
 /// Whether the tree of stored chunks has at most 16 levels.
 pub(crate) fn has_low_chunks(chunk_k: u16, held: &HeldChunks<'_>) -> bool
     requires some { 1 ≤ chunk_k }
@@ -73,7 +70,7 @@ pub(crate) fn has_low_chunks(chunk_k: u16, held: &HeldChunks<'_>) -> bool
     requires few { length (part_offsets held.now) < 2 ^ 32 }
     ensures { result ≡ nat_le (level chunk_k (length (part_offsets held.now))) 15 }
 {
-    root_level(&kind_of(chunk_k, held), held.len() as u64) <= MAXIMUM_LEVEL
+    root_level(&kind_of(chunk_k, held), held.len() as u64) <= u32::from(MAX_LEVEL)
 }
 
 /// How many bytes stored chunks have with their tree; `None` where an image cannot have as many.
