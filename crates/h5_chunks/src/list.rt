@@ -5,8 +5,9 @@ ghost use Rattle.h5_model.specs.Format.Chunks.{offsets_in};
 ghost use Rattle.h5_model.specs.Format.Limits.{most_dimensions};
 ghost use Rattle.h5_chunks.specs.Lists.{IsKeyOf, key_length as length_of_key};
 
-use crate::key::{LONGEST_KEY, OFFSETS, key_length};
+use crate::key::{OFFSETS, key_length};
 use crate::shape::ChunkShape;
+use h5_btree::LONGEST_KEY;
 use h5_bytes::{put_u32, put_u64};
 use std::alloc::{AllocError, Global};
 use std::marker::Model;

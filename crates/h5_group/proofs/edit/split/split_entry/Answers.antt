@@ -22,7 +22,7 @@ use Rattle.h5_group.proofs.EntryKept.{symbols_stand}
 use Rattle.h5_group.proofs.SplitCalls.{ends_behind, full_before, heap_behind, node_apart, segment_behind}
 use Rattle.h5_group.proofs.SplitEntry.{split_all, split_all_exact}
 use Rattle.h5_group.proofs.edit.split.split_entry.Goals as goal
-use Rattle.h5_group.proofs.edit.split.split_entry.Goals.{After-node_at_end-node, After-cut-new, After-put_at}
+use Rattle.h5_group.proofs.edit.split.split_entry.Goals.{After-node_at_end-node, After-cut-new}
 
 -- ---- the symbol node at the end of the way
 
