@@ -87,7 +87,7 @@ returns c =
     let way : List Step = c.in-Some.way in
     let image : List ℕ = c.args.image.now.bytes in
     let level : c.level.result ≡ level_at image (shape_kind image c.args.shape.now) c.args.root = c.level.ensures ∙ ap (λ (n : Node). n.level) c.tree_node.ensures in
-    let long : length way ≡ 16 = all b way c.in-Some.ensures.leads (omega (arith, level, c.if-level-lt-HIGHEST.false)) in (
+    let long : length way ≡ 16 = all b way c.in-Some.ensures.leads (omega (arith, level, c.if-level-lt-MAX_LEVEL.false)) in (
       λ it. is_full b way c.in-Some.ensures.leads long (subst (λ (k : Kind). IsFullWay image k way) c.kind.ensures (c.is_full_way.ensures.0 it)),
       λ f. c.is_full_way.ensures.1 (subst (λ (k : Kind). IsFullWay image k way) (sym c.kind.ensures) (full_is b way c.in-Some.ensures.leads f)),
     )
