@@ -3,6 +3,7 @@
 ghost use Rattle.std.specs.Prelude.{◌≡◌, ◌≤◌, true, false, Some, length, IfOk};
 ghost use Rattle.std.specs.List.{list_all};
 ghost use Rattle.h5_bytes.specs.Texts.{pad8};
+ghost use Rattle.h5_model.specs.Format.Messages.{most_body_bytes};
 ghost use Rattle.h5_model.specs.Edits.Applied.{attribute_from};
 ghost use Rattle.h5_model.specs.Edits.Refusal.{has_zero};
 ghost use Rattle.h5_model.specs.Format.AttributeBody.{attribute_of};
@@ -30,7 +31,7 @@ pub fn new_body(alloc: Global, attr: &AttrSpec) -> Result<Vec<u8>, AllocError>
     requires ranked { length attr.now.dims ≤ most_dimensions }
     requires counted { length attr.now.values ≡ cells attr.now.dims }
     requires of_type { list_all (fits attr.now.fixed) attr.now.values ≡ true }
-    requires room { attribute_size (length attr.now.name) attr.now.dims attr.now.fixed.size ≤ 65528 }
+    requires room { attribute_size (length attr.now.name) attr.now.dims attr.now.fixed.size ≤ most_body_bytes }
     ensures reads { IfOk result (λ body.
         attribute_of body.items ≡ Some (attr.now.name, attribute_from attr.now)) }
     ensures size { IfOk result (λ body. length body.items

@@ -7,6 +7,7 @@ use Rattle.h5_bytes.specs.Bytes.{undefined_address}
 use Rattle.h5_bytes.specs.Blocks.{holds, cover, Inside}
 use Rattle.h5_bytes.specs.declared.Block.{Block}
 use Rattle.h5_bytes.proofs.BlockLaws.{holds_in, holds_past, holds-le}
+use Rattle.h5_model.specs.Format.Limits.{highest_level}
 use Rattle.h5_model.specs.Format.Rows.{Node, next_row, IsRow, leaves, nodes}
 use Rattle.h5_model.specs.Format.Nodes.{Kind, IsNode, HasTree, entries_in, node_at, node_block, node_bytes, node_length, node_of, reading_of, tree_blocks}
 use Rattle.h5_model.proofs.RowLaws.{all_listed, at_listed, equal_number, root_level}
@@ -221,7 +222,7 @@ climb_up s t u kind root m p step way j child q list owned own c t' moves formed
 
 -- the root was split: two nodes more, and the tree is one level higher
 pub climb_raised : (s t u : Space) (kind : Kind) (root m j child p q : ℕ) (list owned own : List ℕ)
-    → IsClimbing s t kind root m root [] j child list owned own → m < 15
+    → IsClimbing s t kind root m root [] j child list owned own → m < highest_level
     → (r : RaisesRoot (reading_of t.bytes kind own) (reading_of u.bytes kind (p ∷ q ∷ own)) root j child) → r.p ≡ p → r.q ≡ q
     → Moves t u (tree_blocks kind own) (tree_blocks kind (p ∷ q ∷ own))
     → AllByRecursion (λ at. IsNode kind (node_bytes u.bytes kind at)) (p ∷ q ∷ own)

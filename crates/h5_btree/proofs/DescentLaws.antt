@@ -5,6 +5,7 @@ use Rattle.std.specs.List.{AllByRecursion, Contains, list_any}
 use Rattle.std.proofs.lemmas.List.Elements.{Contains-append_left, Contains-append_right}
 use Rattle.h5_bytes.specs.Bytes.{undefined_address}
 use Rattle.h5_bytes.specs.Blocks.{Inside}
+use Rattle.h5_model.specs.Format.Limits.{highest_level}
 use Rattle.h5_model.specs.Format.Rows.{Node, Reading, next_row, IsRow, nodes}
 use Rattle.h5_model.specs.Format.Nodes.{Kind, HasTree, IsNode, node_at, node_bytes, node_length, entries_in, reading_of, tree_blocks}
 use Rattle.h5_model.proofs.RowLaws.{at_listed}
@@ -31,7 +32,7 @@ in_next_row V (x ∷ xs) (suc k) at child low is has =
 
 -- ---- a node that a tree reads at a level is one of its own
 
-module _ (image : List ℕ) (kind : Kind) (owned : List ℕ) (level at : ℕ) (low : level ≤ 15) (is : (reading_of image kind owned at).level ≡ level) where
+module _ (image : List ℕ) (kind : Kind) (owned : List ℕ) (level at : ℕ) (low : level ≤ highest_level) (is : (reading_of image kind owned at).level ≡ level) where
   pub owned_here : list_any (λ n. n == at) owned ≡ true
   owned_here = by_test (list_any (λ n. n == at) owned) refl where
     by_test : (b : Bool) → list_any (λ n. n == at) owned ≡ b → b ≡ true

@@ -2,6 +2,7 @@
 use Rattle.std.proofs.Common.{◌≡◌, ℕ, suc, ◌+◌, ◌*◌, ◌<◌, ◌≤◌, List, [], ◌∷◌, length, Bool, true, false, refl, sym, ap, ◌∙◌, subst, arith}
 use Rattle.std.specs.Prelude.{if◌then◌else◌}
 use Rattle.std.specs.List.{insert}
+use Rattle.h5_model.specs.Format.Limits.{highest_level}
 use Rattle.h5_model.specs.Format.Rows.{Node, next_row}
 use Rattle.h5_model.specs.Format.Nodes.{Kind, IsNode, node_at, node_bytes, reading_of, tree_blocks}
 use Rattle.h5_model.proofs.RowLaws.{at_listed}
@@ -44,7 +45,7 @@ module _ (s t : Space) (kind : Kind) (root m p : ℕ) (above : List Step) (j chi
   put_back u put = subst (λ (r : ℕ). IsPut s u kind r list owned) root_is put
 
 pub root_low : (t : Space) (kind : Kind) (p : ℕ) (above : List Step) (j child : ℕ) (h : HasClimbed t kind p above j child) → above ≡ []
-    → length (node_at t.bytes kind p).children ≡ 2 * kind.k → h.level < 15
+    → length (node_at t.bytes kind p).children ≡ 2 * kind.k → h.level < highest_level
 root_low t kind p above j child h none full =
     let low = h.low full (subst (IsFullWay t.bytes kind) (sym none) tt) in
     let short : length above ≡ 0 = ap (λ (ws : List Step). length ws) none in

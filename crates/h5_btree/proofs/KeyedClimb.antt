@@ -6,6 +6,7 @@ use Rattle.std.proofs.lemmas.List.{drop_all}
 use Rattle.std.proofs.Math.Seq.{drop-cons}
 use Rattle.h5_bytes.specs.Bytes.{undefined_address}
 use Rattle.h5_bytes.proofs.BlockLaws.{all_right}
+use Rattle.h5_model.specs.Format.Limits.{highest_level}
 use Rattle.h5_model.specs.Format.Rows.{Node, Reading, IsRow, AreRows}
 use Rattle.h5_model.specs.Format.Nodes.{Kind, IsNode, node_at, node_bytes, reading_of}
 use Rattle.h5_model.proofs.RowLaws.{at_listed}
@@ -29,7 +30,7 @@ use Rattle.h5_btree.proofs.KeyedGrown.{GoesIn, IsWide, wide_same, wide_behind, f
 use Rattle.h5_btree.proofs.HalfLists.{left_bounds}
 
 module _ {B X : Type 0} (sides : Sides (List ℕ) X) (items : B → List X) (Base : B → Type 0) (Puts : B → Grown (List ℕ) B → Type 0) (x : X) (low high : List ℕ)
-    (follows : List ℕ → List ℕ → Bool) (s t : List ℕ) (kind : Kind) (root level : ℕ) (owned : List ℕ) (out : IsNoNode (reading_of s kind owned) undefined_address) (top : level ≤ 15)
+    (follows : List ℕ → List ℕ → Bool) (s t : List ℕ) (kind : Kind) (root level : ℕ) (owned : List ℕ) (out : IsNoNode (reading_of s kind owned) undefined_address) (top : level ≤ highest_level)
     (formed : AllByRecursion (λ at. IsNode kind (node_bytes s kind at)) owned) (some : 1 ≤ kind.k) (was now : AtChild B) where
   abbrev V : Reading
   V = node_at s kind

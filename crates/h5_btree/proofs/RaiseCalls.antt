@@ -6,6 +6,7 @@ use Rattle.std.proofs.lemmas.Option.{get_or_from_slice_get, slice_get_within}
 use Rattle.std.proofs.lemmas.Bool.{or_right}
 use Rattle.h5_bytes.specs.Bytes.{undefined_address}
 use Rattle.h5_bytes.proofs.PartLaws.{length-part}
+use Rattle.h5_model.specs.Format.Limits.{highest_level}
 use Rattle.h5_model.specs.Format.Rows.{Node, first_or_undefined}
 use Rattle.h5_model.specs.Format.Nodes.{Kind, IsNode, node_at, node_block, node_bytes, node_length, node_of, reading_of, tree_blocks}
 use Rattle.h5_model.proofs.RowLaws.{same_number}
@@ -193,7 +194,7 @@ module _ (s t t₁ t₂ t₃ t₄ u : Space) (kind : Kind) (root m j child p q :
   is : Listed own root
   is = own_p s t kind root m root [] j child list owned own c
 
-  pub put_raised : m < 15 → (all : List ℕ) × IsChildPut s u kind root (suc m) list owned all
+  pub put_raised : m < highest_level → (all : List ℕ) × IsChildPut s u kind root (suc m) list owned all
   put_raised low = (
     _,
     climb_raise s t t₁ t₂ t₃ t₄ u kind root m j child p q xs ys list owned own (x ∷ y ∷ z ∷ []) keys_p keys_q c low take_q take_p wp wq wr joined some more,

@@ -4,6 +4,7 @@ use Rattle.std.proofs.Common.{◌≡◌, ◌≢◌, ℕ, zero, suc, ◌+◌, ◌
 use Rattle.std.specs.List.{list_any, insert, AllByRecursion}
 use Rattle.std.proofs.lemmas.Bool.{or_right}
 use Rattle.h5_bytes.specs.Bytes.{undefined_address}
+use Rattle.h5_model.specs.Format.Limits.{highest_level}
 use Rattle.h5_model.specs.Format.Rows.{Node, nodes}
 use Rattle.h5_model.specs.Format.Nodes.{Kind, IsNode, entries_in, node_at, node_block, node_bytes, node_length, node_of, reading_of, tree_blocks}
 use Rattle.h5_model.proofs.RowLaws.{all_listed, at_listed, same_number}
@@ -134,7 +135,7 @@ others_filled s t kind root (suc m) j child list owned own c is n at other =
 
 -- The last step of the climb in an image, by its writes: the root is full.
 pub climb_raise : (s t t₁ t₂ t₃ t₄ u : Space) (kind : Kind) (root m j child p q : ℕ) (xs ys list owned own : List ℕ) (keys keys_p keys_q : List (List ℕ))
-    (c : IsClimbing s t kind root m root [] j child list owned own) → m < 15
+    (c : IsClimbing s t kind root m root [] j child list owned own) → m < highest_level
     → Moves t t₁ [] (node_block kind q ∷ []) → Moves t₁ t₂ [] (node_block kind p ∷ [])
     → IsRewritten t₂ t₃ kind p (record { level = (node_at t.bytes kind root).level; left = undefined_address; right = q; keys = keys_p; children = xs })
     → IsRewritten t₃ t₄ kind q (record { level = (node_at t.bytes kind root).level; left = p; right = undefined_address; keys = keys_q; children = ys })

@@ -6,6 +6,7 @@ use Rattle.std.specs.List.{list_any, insert, AllByRecursion}
 use Rattle.h5_bytes.specs.Bytes.{undefined_address}
 use Rattle.h5_bytes.specs.Blocks.{Inside}
 use Rattle.h5_bytes.proofs.BlockLaws.{all_append}
+use Rattle.h5_model.specs.Format.Limits.{highest_level}
 use Rattle.h5_model.specs.Format.Rows.{Node, Reading, blank, only, next_row, IsRow, AreRows, nodes}
 use Rattle.h5_model.specs.Format.Nodes.{Kind, IsNode, HasTree, entries_in, node_at, node_bytes, reading_of, tree_blocks}
 use Rattle.h5_model.proofs.RowLaws.{Agree, AreRows-same, nodes-same, leaves-same, at_listed, all_listed, equal_number}
@@ -177,7 +178,7 @@ agree_alone f owned part (x ∷ xs) is low = (
   agree_alone f owned part xs is.1 low.1,
 )
 
-pub has_tree_again : (image : List ℕ) (kind : Kind) (root level : ℕ) (own list : List ℕ) → level ≤ 15
+pub has_tree_again : (image : List ℕ) (kind : Kind) (root level : ℕ) (own list : List ℕ) → level ≤ highest_level
     → IsTreeOf (reading_of image kind own) level root list → AllByRecursion (λ at. IsNode kind (node_bytes image kind at)) own
     → (1 ≤ level → AllByRecursion (λ at. 1 ≤ entries_in (node_bytes image kind at)) own)
     → HasTree image kind root level (nodes (reading_of image kind own) level (root ∷ [])) list

@@ -2,6 +2,7 @@
 use Rattle.std.specs.Prelude.{◌≡◌, ℕ, zero, suc, ◌+◌, ◌<◌, ◌≤◌, ◌⊎◌, Bool, true, false, List, [], ◌∷◌, ◌++◌, length, slice_index, slice_index_or}
 use Rattle.std.specs.List.{AllByRecursion, Contains}
 use Rattle.h5_bytes.specs.Blocks.{Inside}
+use Rattle.h5_model.specs.Format.Limits.{highest_level}
 use Rattle.h5_model.specs.Format.Rows.{Node, Reading, AreRows}
 use Rattle.h5_model.specs.Format.Nodes.{Kind, IsNode, entries_in, node_at, node_bytes, reading_of, tree_blocks}
 use Rattle.h5_btree.specs.Form.{IsRefusedAt, MayBeRoot, MayStandAt}
@@ -56,6 +57,6 @@ pub record IsInRow (image : List ℕ) (kind : Kind) (owned : List ℕ) (level : 
   pub formed : AllByRecursion (λ a. IsNode kind (node_bytes image kind a)) owned
   pub filled : AllByRecursion (λ a. 1 ≤ entries_in (node_bytes image kind a)) owned
   pub inside : Inside (length image) (tree_blocks kind owned)
-  pub low : level ≤ 15
+  pub low : level ≤ highest_level
   pub rows : AreRows (reading_of image kind owned) level row
   pub here : Contains row at

@@ -1,6 +1,7 @@
 -- Which rules the bytes of a B-tree node break, and where a node may stand (File Format Specification 3.0, section III.A.1).
 use Rattle.std.specs.Prelude.{◌≡◌, ◌≢◌, ℕ, ◌+◌, ◌*◌, ◌<◌, ◌≤◌, ◌⊎◌, List, length}
 use Rattle.h5_bytes.specs.Bytes.{byte_at, part}
+use Rattle.h5_model.specs.Format.Limits.{highest_level}
 use Rattle.h5_model.specs.Format.Rows.{Node}
 use Rattle.h5_model.specs.Format.Nodes.{Kind, node_signature, entries_in, node_bytes, node_length}
 use Rattle.h5_btree.specs.declared.read.NodeFault.{NodeFault}
@@ -13,7 +14,7 @@ BreaksForm kind bytes =
 
 -- at most level 15, and without children at level 0 alone
 abbrev pub MayBeRoot : Node → Type 0
-MayBeRoot node = (node.level ≤ 15) × (1 ≤ node.level → 1 ≤ length node.children)
+MayBeRoot node = (node.level ≤ highest_level) × (1 ≤ node.level → 1 ≤ length node.children)
 
 -- of this level, with a child
 abbrev pub MayStandAt : ℕ → Node → Type 0

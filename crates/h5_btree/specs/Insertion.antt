@@ -1,6 +1,7 @@
 -- An insertion on its way up a tree, in an image (File Format Specification 3.0, section III.A.1).
 use Rattle.std.specs.Prelude.{◌≡◌, ◌==◌, ◌⊎◌, true, ℕ, ◌+◌, ◌*◌, ◌^◌, ◌<◌, ◌≤◌, List, [], ◌∷◌, suc, length, slice_index_or, take, drop, if◌then◌else◌, nat_lt}
 use Rattle.std.specs.List.{AllByRecursion, insert, list_any}
+use Rattle.h5_model.specs.Format.Limits.{highest_level}
 use Rattle.h5_model.specs.Format.Nodes.{Kind, IsNode, HasTree, entries_in, node_at, node_bytes, reading_of, tree_blocks}
 use Rattle.h5_space.specs.Space.{Space}
 use Rattle.h5_space.specs.Moves.{Moves}
@@ -118,7 +119,7 @@ pub record MayRaise (t : Space) (kind : Kind) (root j child : ℕ) : Type 0 wher
   pub owned : List ℕ
   pub own : List ℕ
   pub climbs : IsClimbing start t kind root level root [] j child list owned own
-  pub low : level < 15
+  pub low : level < highest_level
 
 -- an insertion has come to the node p, which is not the root
 pub record MaySplit (t : Space) (kind : Kind) (p j child : ℕ) : Type 0 where
@@ -149,7 +150,7 @@ pub record HasClimbed (t : Space) (kind : Kind) (p : ℕ) (above : List Step) (j
   pub owned : List ℕ
   pub own : List ℕ
   pub climbs : IsClimbing start t kind root level p above j child list owned own
-  pub low : length (node_at t.bytes kind p).children ≡ 2 * kind.k → IsFullWay t.bytes kind above → length above + level < 15
+  pub low : length (node_at t.bytes kind p).children ≡ 2 * kind.k → IsFullWay t.bytes kind above → length above + level < highest_level
 
 -- what the insertion makes: the child stands at this place among those at the bottom
 pub record IsChildPut (s t : Space) (kind : Kind) (root level : ℕ) (list owned own : List ℕ) : Type 0 where

@@ -2,6 +2,7 @@
 //! III.A.1).
 
 ghost use Rattle.std.specs.Prelude.{◌≡◌, ◌≢◌, ℕ, suc, ◌+◌, ◌*◌, ◌^◌, ◌<◌, ◌≤◌, List, [], ◌∷◌, length, slice_index_or};
+ghost use Rattle.h5_model.specs.Format.Limits.{highest_level};
 ghost use Rattle.h5_model.specs.Format.Nodes.{IsNode, entries_in, node_at, node_bytes, node_length};
 ghost use Rattle.h5_space.specs.Moves.{Spends};
 ghost use Rattle.h5_space.specs.Space.{Space};
@@ -22,7 +23,7 @@ fn stand_over(image: &mut Image, kind: NodeKind, root: u64, left: u64, right: u6
     requires root { root + node_length kind ≤ length image.old.bytes }
     requires root_form { IsNode kind (node_bytes image.old.bytes kind root) }
     requires some { 2 ≤ entries_in (node_bytes image.old.bytes kind root) }
-    requires low { (node_at image.old.bytes kind root).level < 15 }
+    requires low { (node_at image.old.bytes kind root).level < highest_level }
     requires left { left + node_length kind ≤ length image.old.bytes }
     requires left_form { IsNode kind (node_bytes image.old.bytes kind left) }
     requires right { right + node_length kind ≤ length image.old.bytes }
@@ -60,7 +61,7 @@ pub(crate) fn raise(image: &mut Image, kind: NodeKind, root: u64, j: usize, key:
     requires bytes { 2 * node_length kind ≤ image.old.room_bytes }
     requires blocks { 2 ≤ image.old.room_blocks }
     ensures put { (start : Space) (m : ℕ) (list owned own : List ℕ)
-        → IsClimbing start image.old kind root m root [] j child list owned own → m < 15
+        → IsClimbing start image.old kind root m root [] j child list owned own → m < highest_level
         → (all : List ℕ) × IsChildPut start image.new kind root (suc m) list owned all }
     ensures others { (start : Space) (m : ℕ) (list owned own : List ℕ)
         → IsClimbing start image.old kind root m root [] j child list owned own

@@ -2,6 +2,7 @@
 
 ghost use Rattle.std.specs.Prelude.{◌≡◌, ◌+◌, ◌<◌, ◌≤◌, ◌↔◌, ℕ, [], ◌∷◌, ◌++◌, List, None, IfErr, IfOk, IfSome, IsOk, IsTrue, length};
 ghost use Rattle.h5_bytes.specs.Blocks.{Inside};
+ghost use Rattle.h5_model.specs.Format.Limits.{highest_level};
 ghost use Rattle.h5_model.specs.Format.Nodes.{HasTree, node_at, tree_blocks};
 ghost use Rattle.h5_btree.specs.Descent.{IsInRow, IsWayTo, StopsDescent, StopsFromRoot};
 ghost use Rattle.h5_btree.specs.Insertion.{IsFullWay};
@@ -101,7 +102,7 @@ pub fn find_way<S: Sought>(image: &[u8], root: u64, sought: &S) -> Result<Option
 
 /// The way up to a node that is to stand at this level, with children.
 fn way_from<S: Sought>(image: &[u8], at: u64, level: u8, sought: &S) -> Result<Way, NodeFault>
-    requires low { level ≤ 15 }
+    requires low { level ≤ highest_level }
     ensures leads { IfOk result
         (IsWayTo (node_at image.now (S.tree_kind sought.now)) (S.behind sought.now) level at) }
     ensures levels { IfOk result (λ way. length way ≡ level + 1) }

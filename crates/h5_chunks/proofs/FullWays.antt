@@ -4,6 +4,7 @@ use Rattle.std.specs.FinMap.{values}
 use Rattle.std.specs.List.{AllByRecursion}
 use Rattle.h5_bytes.specs.Blocks.{block, cover, holds}
 use Rattle.h5_bytes.proofs.BlockLaws.{all_so, cover-append}
+use Rattle.h5_model.specs.Format.Limits.{highest_level}
 use Rattle.h5_model.specs.Format.Nodes.{Kind, node_at, tree_blocks}
 use Rattle.h5_model.specs.Format.Reached.{Shape, level_at, shape_kind}
 use Rattle.h5_model.specs.Format.Rows.{Reading}
@@ -77,7 +78,7 @@ module _ (s : Space) (shape : Shape) (root : ℕ) (read : AreChunksRead s.bytes 
       pub full_of : length way ≡ 16 → IsFullWay s.bytes (shape_kind s.bytes shape) way → IsFullAt s.bytes shape root offsets
       full_of all full =
           let n = long in
-          let high : level_at s.bytes kind root ≡ 15 = omega (arith, n, all) in
+          let high : level_at s.bytes kind root ≡ highest_level = omega (arith, n, all) in
           record { way = way; high = high; sought = subst (λ (l : ℕ). IsWayTo V (chunk_behind offsets) l root way) high to; nodes = full }
 
       steps_rise : AllByRecursion (IsRisingStep rank V offsets) way

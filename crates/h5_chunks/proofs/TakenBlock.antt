@@ -7,6 +7,7 @@ use Rattle.h5_bytes.specs.Bytes.{part}
 use Rattle.h5_bytes.specs.Blocks.{block, IsKept, Keeps}
 use Rattle.h5_bytes.specs.declared.Block.{Block}
 use Rattle.h5_bytes.proofs.BlockLaws.{all_left, all_right, all_so}
+use Rattle.h5_model.specs.Format.Limits.{highest_level}
 use Rattle.h5_model.specs.Format.Nodes.{HasTree, Kind, node_at, tree_blocks}
 use Rattle.h5_model.specs.Format.Chunks.{Chunks}
 use Rattle.h5_model.specs.Format.Reached.{Shape, shape_kind}
@@ -131,7 +132,7 @@ module _ (s u : Space) (shape : Shape) (root new : ℕ) (stand : AreChunksApart 
         record {
           way = f.way;
           high = level_is s.bytes kind root level owned list (stored_there s.bytes shape root stand.read) ∙ sym (level_is u.bytes kind_u root level owned list tree_own) ∙ f.high;
-          sought = way_moved (node_at u.bytes kind_u) (node_at s.bytes kind) (chunk_behind offsets) 15 root f.way f.sought steps;
+          sought = way_moved (node_at u.bytes kind_u) (node_at s.bytes kind) (chunk_behind offsets) highest_level root f.way f.sought steps;
           nodes = full_steps f.way steps f.nodes;
         }
       where

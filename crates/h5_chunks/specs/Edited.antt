@@ -2,6 +2,7 @@
 use Rattle.std.specs.Prelude.{◌≡◌, ℕ, ◌+◌, ◌*◌, ◌^◌, ◌<◌, ◌≤◌, List, ◌∷◌, length}
 use Rattle.std.specs.List.{AllByRecursion}
 use Rattle.h5_bytes.specs.Blocks.{block}
+use Rattle.h5_model.specs.Format.Limits.{highest_level}
 use Rattle.h5_model.specs.Format.Chunks.{Chunks}
 use Rattle.h5_model.specs.Format.Nodes.{node_at, node_length}
 use Rattle.h5_model.specs.Format.Reached.{Shape, shape_kind}
@@ -50,6 +51,6 @@ store_room image shape = shape.bytes + 17 * chunk_node_length image shape
 -- is room for.
 pub record IsFullAt (image : List ℕ) (shape : Shape) (root : ℕ) (offsets : List ℕ) : Type 0 where
   pub way : List Step
-  pub high : (node_at image (shape_kind image shape) root).level ≡ 15
-  pub sought : IsWayTo (node_at image (shape_kind image shape)) (chunk_behind offsets) 15 root way
+  pub high : (node_at image (shape_kind image shape) root).level ≡ highest_level
+  pub sought : IsWayTo (node_at image (shape_kind image shape)) (chunk_behind offsets) highest_level root way
   pub nodes : IsFullWay image (shape_kind image shape) way

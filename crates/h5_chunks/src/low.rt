@@ -1,6 +1,7 @@
 //! Trees of chunks that can never get too deep (File Format Specification 3.0, section III.A.1).
 
 ghost use Rattle.std.specs.Prelude.{◌≡◌, ◌≤◌, length};
+ghost use Rattle.h5_model.specs.Format.Limits.{highest_level};
 ghost use Rattle.h5_model.specs.Format.Reached.{level_at, shape_kind};
 ghost use Rattle.h5_model.specs.Format.Superblock.{chunk_k as k_of};
 ghost use Rattle.h5_chunks.specs.Bushy.{is_low_level as is_low_at};
@@ -18,7 +19,7 @@ use h5_space::{Image, MAXIMUM_IMAGE, chunk_k};
 /// no memory. That the image has a superblock, and that the level is at most 15, are the caller's conditions.
 pub fn is_low_level(image: &Image, level: u8) -> bool
     requires long { 26 ≤ length image.now.bytes }
-    requires high { level ≤ 15 }
+    requires high { level ≤ highest_level }
     ensures { result ≡ is_low_at (k_of image.now.bytes) level }
 {
     let k = u64::from(chunk_k(image.bytes()));

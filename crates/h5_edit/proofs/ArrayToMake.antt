@@ -23,7 +23,7 @@ use Rattle.h5_model.specs.Format.Fixed.{Fixed, IsFixed}
 use Rattle.h5_model.specs.Format.Layout.{Layout, InMessage, InBlock, InChunks}
 use Rattle.h5_model.specs.Format.Limits.{most_bytes}
 use Rattle.h5_model.specs.Format.MessageTypes.{dataspace_kind, data_layout_kind}
-use Rattle.h5_model.specs.Format.Messages.{Message, HasMessages, prefix_at, reference_count, first_size, continuations}
+use Rattle.h5_model.specs.Format.Messages.{Message, HasMessages, prefix_at, reference_count, first_size, continuations, most_body_bytes}
 use Rattle.h5_model.specs.Format.Nodes.{Kind, chunk_kind, node_block, node_length, reading_of, tree_blocks}
 use Rattle.h5_model.specs.Format.Plain.{header_bytes, messages_bytes, message_bytes, cells_bytes}
 use Rattle.h5_model.specs.Format.Reads.{HasAttributes, HasData, HasDataset, HasObject}
@@ -109,7 +109,7 @@ module _ (d : Dataset) (is : IsPlainArray d 0) (address : Option ℕ) where
       record { kind = omega arith; own = refl; padded = omega (arith, long); low = omega (arith, long, value, high) }
 
   -- a layout is short
-  short_layout : (s : Storage) → d.storage ≡ s → IsPlainStorage d s → layout_size d.sizes s (d.fixed).size ≤ 65528
+  short_layout : (s : Storage) → d.storage ≡ s → IsPlainStorage d s → layout_size d.sizes s (d.fixed).size ≤ most_body_bytes
   short_layout Compact e stored = omega (arith, stored)
   short_layout (Contiguous held) e stored = omega arith
   short_layout (Chunked chunk) e stored = let ranked = (is.sound).boxed chunk e in omega (arith, ranked, is.ranked)

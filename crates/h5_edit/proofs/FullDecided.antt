@@ -2,6 +2,7 @@
 use Rattle.std.proofs.Common.{◌≡◌, ℕ, zero, suc, ◌+◌, ◌*◌, ◌<◌, ◌⊎◌, inl, inr, List, [], ◌∷◌, ◌++◌, Bool, true, false, Some, None, length, refl, subst, arith}
 use Rattle.std.proofs.lemmas.Bool.{cases_order}
 use Rattle.std.specs.Prelude.{slice_index, slice_index_or}
+use Rattle.h5_model.specs.Format.Limits.{highest_level}
 use Rattle.h5_model.specs.Format.Layout.{Layout, InMessage, InBlock, InChunks}
 use Rattle.h5_model.specs.Format.Nodes.{Kind, node_at}
 use Rattle.h5_model.specs.Format.Reached.{Shape, shape_kind}
@@ -115,7 +116,7 @@ module _ (image : List ℕ) (kind : Kind) (behind : List ℕ → Bool) where
 full_at_decided : (image : List ℕ) (shape : Shape) (root : ℕ) (offsets : List ℕ) → IsDecided (IsFullAt image shape root offsets)
 full_at_decided image shape root offsets =
     let kind = shape_kind image shape in
-    elim (decide_both (decide_same (node_at image kind root).level 15) (full_way_decided image kind (chunk_behind offsets) 15 root)) [
+    elim (decide_both (decide_same (node_at image kind root).level highest_level) (full_way_decided image kind (chunk_behind offsets) highest_level root)) [
       | inl is ↦ inl (record { way = is.1.0; high = is.0; sought = is.1.1; nodes = is.1.2 })
       | inr not ↦ inr (λ is. not (is.high, (is.way, is.sought, is.nodes)))
     ]

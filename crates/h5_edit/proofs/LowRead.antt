@@ -13,6 +13,7 @@ use Rattle.std.specs.FinMap.{empty, entries, entries-from_sorted, entries_sorted
 use Rattle.std.specs.FinMap.Entries.{is_sorted-where_key, where_key}
 use Rattle.h5_bytes.specs.Bytes.{part}
 use Rattle.h5_bytes.specs.declared.Block.{Block}
+use Rattle.h5_model.specs.Format.Limits.{highest_level}
 use Rattle.h5_layout.specs.HeldChunks.{held_chunks}
 use Rattle.h5_model.specs.Format.Chunks.{Chunks}
 use Rattle.h5_model.specs.Format.Fixed.{Fixed}
@@ -62,7 +63,7 @@ module _ (image : List ℕ) (leaf k root heap : ℕ) (links : List (List ℕ × 
       let count : length links ≡ length (flat_map S has.symbol_nodes) = ap length (has.listed).all ∙ length-map (flat_map S has.symbol_nodes) (link_of _) in
       omega (arith, few, count)
 
-  pub links_low : 1 ≤ k → root_level k (rows_of (2 * leaf) (length links)) ≤ 15
+  pub links_low : 1 ≤ k → root_level k (rows_of (2 * leaf) (length links)) ≤ highest_level
   links_low some_k =
       let level = level_read image (group_kind k) root has.level has.owned has.symbol_nodes some_k has.tree (rows_of (2 * leaf) (length links)) (rows_fit (2 * leaf) (length links) (length has.symbol_nodes) (omega arith) links_few) in
       let low = (has.tree).low in
@@ -85,14 +86,14 @@ held_few sizes chunks =
 
 module _ (image : List ℕ) (some : 1 ≤ chunk_k image) (n : ℕ) where
   -- no chunk needs a tree of one node
-  none_low : (chunks : Chunks) → chunks ≡ empty → n ≤ length (entries chunks) → root_level (chunk_k image) n ≤ 15
+  none_low : (chunks : Chunks) → chunks ≡ empty → n ≤ length (entries chunks) → root_level (chunk_k image) n ≤ highest_level
   none_low chunks none few =
       let zero_of : length (entries chunks) ≡ 0 = ap (λ (m : Chunks). length (entries m)) none ∙ ap length (entries-empty {X = ℕ} (slice_cmp nat_cmp)) in
       omega (arith, few, zero_of, root_level_is (chunk_k image) n, level_one 64 (2 * chunk_k image) n)
 
   -- as many chunks as are stored, or fewer, need no higher tree than theirs
   pub stored_low : (t : Fixed) (l : Layout) (chunks : Chunks) (blocks : List Block) → HasData image t l chunks blocks → n ≤ length (entries chunks)
-      → root_level (chunk_k image) n ≤ 15
+      → root_level (chunk_k image) n ≤ highest_level
   stored_low t (InMessage bytes) chunks blocks has few = none_low chunks has.0 few
   stored_low t (InBlock None) chunks blocks has few = none_low chunks has.0 few
   stored_low t (InBlock (Some b)) chunks blocks has few = none_low chunks has.0 few
@@ -128,7 +129,7 @@ module _ (f : FileState) (sound : IsSound f) (stored : StoredIn) (are : AreStore
             let low = links_low f.image _ _ _ _ found r.has.content_blocks superblock.leaf_low group.linked superblock.internal_low in
             let count : length found ≡ len links = AllZip-long (IsSame f.table) (entries links) found zip ∙ sym (len-entries links) in
             subst (IsLowContent (k_values f.image) (length (stored number))) (sym e)
-            (subst (λ (n : ℕ). root_level (k_values f.image).internal (rows_of (2 * (k_values f.image).leaf) n) ≤ 15) count low)
+            (subst (λ (n : ℕ). root_level (k_values f.image).internal (rows_of (2 * (k_values f.image).leaf) n) ≤ highest_level) count low)
         | inr (d, e, array) ↦
             subst (IsLowContent (k_values f.image) (length (stored number))) (sym e) (storage_low number r.header o d there r.listed e d.storage refl)
       ]

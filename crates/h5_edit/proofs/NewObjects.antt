@@ -8,6 +8,7 @@ use Rattle.std.specs.Cmp.Lexicographic.{slice_cmp}
 use Rattle.std.specs.FinMap.{empty, entries, len, len-empty}
 use Rattle.std.proofs.lemmas.Bool.Decides.{nat_tests}
 use Rattle.std.proofs.lemmas.List.{take-append-drop}
+use Rattle.h5_model.specs.Format.Limits.{most_numbers}
 use Rattle.h5_model.specs.Edits.Applied.{new_dataset, new_object, new_storage}
 use Rattle.h5_model.specs.Edits.Bounds.{contiguous_data, new_header}
 use Rattle.h5_model.specs.Edits.Refusal.{refusal_of}
@@ -124,8 +125,8 @@ group_length b all header content = ap₂ (λ (x y : List ℕ). length (x ++ y))
 
 -- ---- a number is left for it
 
-pub group_few : (tree : Tree) (next : ℕ) (path : List ℕ) → refusal_of tree next (CreateGroup path) ≡ None → next < 4294967295
+pub group_few : (tree : Tree) (next : ℕ) (path : List ℕ) → refusal_of tree next (CreateGroup path) ≡ None → next < most_numbers
 group_few tree next path accepted = let left = has_number tree next (CreateGroup path) accepted in grind (arith, nat_tests, left)
 
-pub array_few : (tree : Tree) (next : ℕ) (path : List ℕ) (spec : Spec) → refusal_of tree next (CreateDataset path spec) ≡ None → next < 4294967295
+pub array_few : (tree : Tree) (next : ℕ) (path : List ℕ) (spec : Spec) → refusal_of tree next (CreateDataset path spec) ≡ None → next < most_numbers
 array_few tree next path spec accepted = let left = has_number tree next (CreateDataset path spec) accepted in grind (arith, nat_tests, left)

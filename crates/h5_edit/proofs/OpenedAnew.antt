@@ -3,6 +3,7 @@ use Rattle.std.proofs.Common.{◌≡◌, ℕ, ◌<◌, ◌≤◌, List, [], leng
 use Rattle.std.proofs.lemmas.Option.{slice_get_within}
 use Rattle.std.specs.FinMap.{get, len}
 use Rattle.h5_bytes.specs.Blocks.{cover, holds}
+use Rattle.h5_model.specs.Format.Limits.{most_numbers}
 use Rattle.h5_model.specs.Format.Reads.{Reads, ReadsAs, all_blocks}
 use Rattle.h5_model.specs.Format.Superblock.{k_values}
 use Rattle.h5_model.specs.Tree.Objects.{Tree, Object}
@@ -32,7 +33,7 @@ module _ (f : FileState) (tree : Tree) (next : ℕ) (image : List ℕ) (hs : Lis
       slice_get_within hs number (Some x.0.header) (given_header hs number x.0.header at)
 
   -- and there is a header or none for each number that was given out
-  pub anew_few : length hs ≤ 4294967295
+  pub anew_few : length hs ≤ most_numbers
   anew_few = omega (arith, is.numbered, is.few)
 
   -- the image, opened

@@ -18,7 +18,7 @@ use Rattle.h5_laws.proofs.RisingMaps.{searched, rise_push, rise_remove, get_at, 
 use Rattle.h5_laws.proofs.TypesKept.{size-accepted}
 use Rattle.h5_model.specs.Edits.Applied.{State, state_after}
 use Rattle.h5_model.specs.Edits.Refusal.{refusal_of}
-use Rattle.h5_model.specs.Format.Limits.{most_cells, most_views}
+use Rattle.h5_model.specs.Format.Limits.{most_cells, most_views, most_numbers}
 use Rattle.h5_model.specs.Scripts.Answers.{has_many_views}
 use Rattle.h5_model.specs.Scripts.Sessions.{IsView, IsSession}
 use Rattle.h5_model.specs.Tree.Objects.{Tree, Object, Dataset, dataset_in, dataset_of}
@@ -150,18 +150,18 @@ all_fit_edited before after edit accepted is views all =
 
 -- ---- opening
 
-pub full_is : (file : FileState) (views : List KeptView) (next : ℕ) (full : Bool) → AreNumbered views next → full ≡ (nat_le most_views (length views) || nat_le 4294967295 next)
+pub full_is : (file : FileState) (views : List KeptView) (next : ℕ) (full : Bool) → AreNumbered views next → full ≡ (nat_le most_views (length views) || nat_le most_numbers next)
     → full ≡ has_many_views (session_of (session_state file views next))
-full_is file views next full rise is = is ∙ ap (λ n. nat_le most_views n || nat_le 4294967295 next) (sym (many_views views next rise))
+full_is file views next full rise is = is ∙ ap (λ n. nat_le most_views n || nat_le most_numbers next) (sym (many_views views next rise))
 
 pub refused_by : (file : FileState) (views : List KeptView) (next : ℕ) (path : List ℕ) (hyper : Hyper) (full : Bool) (e : ViewFault) → AreNumbered views next
-    → full ≡ (nat_le most_views (length views) || nat_le 4294967295 next) → IsViewRefusedBy file.tree path hyper full e → IsViewRefused (session_state file views next) path hyper e
+    → full ≡ (nat_le most_views (length views) || nat_le most_numbers next) → IsViewRefusedBy file.tree path hyper full e → IsViewRefused (session_state file views next) path hyper e
 refused_by file views next path hyper full e rise is refused =
     subst (λ (b : Bool). IsViewRefusedBy file.tree path hyper b e) (full_is file views next full rise is) refused
 
 module _ (file : FileState) (views : List KeptView) (next : ℕ) (kept : AreViewsKept file views next) (v : KeptView) (full : Bool)
-    (is : full ≡ (nat_le most_views (length views) || nat_le 4294967295 next)) (free : full ≡ false) (new : List KeptView) (more : new ≡ views ++ v ∷ []) (number : v.number ≡ next) where
-  room_left : (nat_le most_views (length views) || nat_le 4294967295 next) ≡ false
+    (is : full ≡ (nat_le most_views (length views) || nat_le most_numbers next)) (free : full ≡ false) (new : List KeptView) (more : new ≡ views ++ v ∷ []) (number : v.number ≡ next) where
+  room_left : (nat_le most_views (length views) || nat_le most_numbers next) ≡ false
   room_left = sym is ∙ free
 
   pub kept_more : IsViewFit file.tree file.next v → IsViewShown file.tree v → AreViewsKept file new (next + 1)

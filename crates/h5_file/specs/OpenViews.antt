@@ -5,7 +5,7 @@ use Rattle.std.specs.FinMap.{from_entries}
 use Rattle.std.specs.List.{AllByRecursion}
 use Rattle.std.specs.Option.{option_map}
 use Rattle.h5_laws.specs.Rising.{RiseWithin}
-use Rattle.h5_model.specs.Format.Limits.{most_views}
+use Rattle.h5_model.specs.Format.Limits.{most_views, most_numbers}
 use Rattle.h5_model.specs.Tree.Objects.{Tree, Dataset, dataset_of}
 use Rattle.h5_model.specs.Views.Selection.{Slab, selected_cells, selects_none}
 use Rattle.h5_model.specs.Views.Shown.{View, Views, box_of, is_lent}
@@ -77,7 +77,7 @@ IsViewShown tree v = (d : Dataset) → dataset_of tree v.object ≡ Some d → I
 -- what every session keeps to
 pub record AreViewsKept (file : FileState) (views : List KeptView) (next : ℕ) : Type 0 where
   pub numbered : AreNumbered views next
-  pub low : next ≤ 4294967295
+  pub low : next ≤ most_numbers
   pub few : length views ≤ most_views
   pub fit : AllByRecursion (IsViewFit file.tree file.next) views
   pub shown : AllByRecursion (IsViewShown file.tree) views

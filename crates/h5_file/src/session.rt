@@ -2,7 +2,7 @@
 
 ghost use Rattle.std.specs.Prelude.{◌≡◌, ◌||◌, nat_le, length, Ok, Err, IfOk, MatchResult};
 ghost use Rattle.std.specs.FinMap.{get};
-ghost use Rattle.h5_model.specs.Format.Limits.{most_views};
+ghost use Rattle.h5_model.specs.Format.Limits.{most_views, most_numbers};
 ghost use Rattle.h5_model.specs.Scripts.Answers.{stored_values, view_is_lent};
 ghost use Rattle.h5_model.specs.Scripts.Sessions.{IsSession};
 ghost use Rattle.h5_model.specs.Views.Shown.{shows};
@@ -192,7 +192,7 @@ impl Session {
 
 /// Whether no more views may be open: so many are, or the numbers of views are used up.
 fn has_many(views: &[KeptView], next: u32) -> bool
-    ensures { result ≡ (nat_le most_views (length views.now) || nat_le 4294967295 next) }
+    ensures { result ≡ (nat_le most_views (length views.now) || nat_le most_numbers next) }
 {
     views.len() >= MAX_VIEWS || next == u32::MAX
 }

@@ -2,6 +2,7 @@
 use Rattle.std.proofs.Common.{◌≡◌, ◌↔◌, ℕ, zero, suc, ◌+◌, ◌*◌, ◌<◌, Bool, true, IsTrue, List, [], ◌∷◌, length, sym, slice_index, ap, ◌∙◌, subst, arith}
 use Rattle.std.proofs.lemmas.List.{length-append}
 use Rattle.h5_bytes.specs.declared.Block.{Block}
+use Rattle.h5_model.specs.Format.Limits.{highest_level}
 use Rattle.h5_model.specs.Format.Addresses.{SymbolTable}
 use Rattle.h5_model.specs.Format.Superblock.{leaf_k}
 use Rattle.h5_model.specs.Format.Nodes.{Kind, node_at}
@@ -35,7 +36,7 @@ module _ (V : Reading) (behind : List ℕ → Bool) where
 -- an empty tree has room
 pub empty_roomy : (image : List ℕ) (table : SymbolTable) (name : List ℕ) → (node_at image (kind_in image) table.tree).children ≡ [] → IsFullFor image table name → ⊥
 empty_roomy image table name none f =
-    let child = root_child (node_at image (kind_in image)) (behind_in image table name) 15 table.tree (f.step ∷ f.above) f.sought in
+    let child = root_child (node_at image (kind_in image)) (behind_in image table name) highest_level table.tree (f.step ∷ f.above) f.sought in
     omega (arith, child.1, ap length none)
 
 module _ (s : Space) (table : SymbolTable) (name : List ℕ) (links : List (List ℕ × Target)) (spare : List ℕ) (blocks : List Block) (g : IsGroupIn s table links spare blocks) (way : List Step) (w : IsWayOf s table name way) where
@@ -50,7 +51,7 @@ module _ (s : Space) (table : SymbolTable) (name : List ℕ) (links : List (List
       → IsFullFor s.bytes table name
   full_of step above is long nodes entries =
       let steps = way_length V (behind_in s.bytes table name) w.level table.tree way w.sought in
-      let top : w.level ≡ 15 = omega (arith, steps, long) in
+      let top : w.level ≡ highest_level = omega (arith, steps, long) in
       record {
         step = step;
         above = above;
@@ -69,7 +70,7 @@ module _ (s : Space) (table : SymbolTable) (name : List ℕ) (links : List (List
         (subst (λ (l : ℕ). IsWayTo V (behind_in s.bytes table name) l table.tree (f.step ∷ f.above)) (sym f.high) f.sought))
 
     pub deep_long : length way ≡ 16
-    deep_long = ap length same_way ∙ way_length V (behind_in s.bytes table name) 15 table.tree (f.step ∷ f.above) f.sought
+    deep_long = ap length same_way ∙ way_length V (behind_in s.bytes table name) highest_level table.tree (f.step ∷ f.above) f.sought
 
     pub deep_nodes : IsFullWay s.bytes kind way
     deep_nodes = subst (IsFullWay s.bytes kind) (sym same_way) f.nodes

@@ -8,6 +8,7 @@ use Rattle.h5_bytes.specs.Blocks.{IsKept, Keeps}
 use Rattle.h5_bytes.specs.declared.Block.{Block}
 use Rattle.h5_bytes.specs.Texts.{text_at}
 use Rattle.h5_bytes.proofs.BlockLaws.{all_append, all_left, all_right, all_so}
+use Rattle.h5_model.specs.Format.Limits.{highest_level}
 use Rattle.h5_laws.proofs.Lists.{In, all_in, in_all, in_flat}
 use Rattle.h5_laws.proofs.Subtrees.{index_in}
 use Rattle.h5_model.specs.Format.Addresses.{SymbolTable}
@@ -102,17 +103,17 @@ module _ (old new : List ℕ) (leaf : leaf_k new ≡ leaf_k old) (internal : int
     abbrev now : List ℕ → Bool
     now = behind_in old t name
 
-    sought : IsWayTo W was 15 t.tree way
-    sought = subst (λ (k : ℕ). IsWayTo (node_at new (group_kind k)) was 15 t.tree way) internal f.sought
+    sought : IsWayTo W was highest_level t.tree way
+    sought = subst (λ (k : ℕ). IsWayTo (node_at new (group_kind k)) was highest_level t.tree way) internal f.sought
 
-    root_high : (V t.tree).level ≡ 15
+    root_high : (V t.tree).level ≡ highest_level
     root_high =
         let same : W t.tree ≡ V t.tree = in_all (IsSameNode V W was) t.tree (nodes_told old t) nodes_same (row_in_nodes V (V t.tree).level t.tree (t.tree ∷ []) (inl refl)) in
-        ap (λ (n : Node). n.level) (sym same) ∙ subst (λ (k : ℕ). (node_at new (group_kind k) t.tree).level ≡ 15) internal f.high
+        ap (λ (n : Node). n.level) (sym same) ∙ subst (λ (k : ℕ). (node_at new (group_kind k) t.tree).level ≡ highest_level) internal f.high
 
     steps_kept : AllByRecursion (λ (step : Step). W step.node ≡ V step.node) way
     steps_kept =
-        steps_same V W was 15 (t.tree ∷ []) t.tree way (inl refl)
+        steps_same V W was highest_level (t.tree ∷ []) t.tree way (inl refl)
         (subst (λ (l : ℕ). AllByRecursion (λ n. W n ≡ V n) (nodes V l (t.tree ∷ []))) root_high nodes_same) sought
 
     step_kept : (step : Step) → W step.node ≡ V step.node → IsSameStep W V was now step
@@ -126,9 +127,9 @@ module _ (old new : List ℕ) (leaf : leaf_k new ≡ leaf_k old) (internal : int
               (λ key at. ap (λ (segment : List ℕ). is_lt (slice_cmp nat_cmp (text_at segment (offset_in key)) name)) (sym segment_same)),
         )
 
-    way_there : IsWayTo V now 15 t.tree way
+    way_there : IsWayTo V now highest_level t.tree way
     way_there =
-        way_kept W V was now 15 t.tree way sought
+        way_kept W V was now highest_level t.tree way sought
         (all_so (λ (step : Step). W step.node ≡ V step.node) (IsSameStep W V was now) way step_kept steps_kept)
 
     abbrev bottom : ℕ
@@ -137,7 +138,7 @@ module _ (old new : List ℕ) (leaf : leaf_k new ≡ leaf_k old) (internal : int
     bottom_told : In bottom (symbol_nodes_told old t)
     bottom_told =
         subst (λ (l : ℕ). In bottom (leaves V l (t.tree ∷ []))) (sym root_high)
-        (way_ends V now 15 t.tree (V f.step.node) f.step.place (first_ends V now 15 t.tree f.step f.above way_there))
+        (way_ends V now highest_level t.tree (V f.step.node) f.step.place (first_ends V now highest_level t.tree f.step f.above way_there))
 
     entries_there : length (symbols_at old (leaf_k old) bottom) ≡ 2 * leaf_k old
     entries_there =

@@ -1,5 +1,6 @@
 -- A link put into a group and taken out of it, where the group stands (File Format Specification 3.0, sections III.A.1, III.B and III.D).
 use Rattle.std.specs.Prelude.{◌≡◌, ℕ, ◌+◌, ◌*◌, ◌≤◌, false, List, ◌∷◌, ⊤, length, slice_index}
+use Rattle.h5_model.specs.Format.Limits.{highest_level}
 use Rattle.h5_model.specs.Edits.Refusal.{has_zero}
 use Rattle.h5_model.specs.Format.Addresses.{SymbolTable}
 use Rattle.h5_model.specs.Format.Heap.{segment_block}
@@ -28,8 +29,8 @@ use Rattle.h5_group.specs.Ways.{behind_in}
 pub record IsFullFor (image : List ℕ) (table : SymbolTable) (name : List ℕ) : Type 0 where
   pub step : Step
   pub above : List Step
-  pub high : (node_at image (kind_in image) table.tree).level ≡ 15
-  pub sought : IsWayTo (node_at image (kind_in image)) (behind_in image table name) 15 table.tree (step ∷ above)
+  pub high : (node_at image (kind_in image) table.tree).level ≡ highest_level
+  pub sought : IsWayTo (node_at image (kind_in image)) (behind_in image table name) highest_level table.tree (step ∷ above)
   pub nodes : IsFullWay image (kind_in image) (step ∷ above)
   pub entries : length (symbols_at image (leaf_k image) (slice_index (node_at image (kind_in image) step.node).children step.place)) ≡ 2 * leaf_k image
 

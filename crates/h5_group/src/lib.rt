@@ -20,6 +20,7 @@ pub use edit::{REMOVAL_CALLS, is_too_deep, put_link, put_reserved, remove_link, 
 pub use exact::has_exact_keys;
 pub use group::read_group;
 pub use h5_btree::InsertFault;
+pub use h5_header::MAX_MESSAGES;
 pub use h5_msg::{SymbolTable, read_symbol_table};
 pub use h5_space::{MAXIMUM_IMAGE, Superblock, length_for, push_superblock};
 pub use link::GroupLink;

@@ -4,6 +4,7 @@ use Rattle.std.proofs.lemmas.Bool.Decides.{nat_tests}
 use Rattle.std.specs.Prelude.{◌==◌, nat_le, if◌then◌else◌}
 use Rattle.std.specs.Ordering.{nat_cmp}
 use Rattle.std.specs.FinMap.{FinMap}
+use Rattle.h5_model.specs.Format.Limits.{highest_level}
 use Rattle.h5_model.specs.Format.MessageTypes.{symbol_table_kind}
 use Rattle.h5_bytes.specs.Bytes.{number_at}
 use Rattle.h5_bytes.specs.Blocks.{Inside}
@@ -120,7 +121,7 @@ module _ (image : List ℕ) (table : FinMap nat_cmp ℕ) (tree : Tree) (placed :
       let i = children_of image kind at c child in
       let node = row_node image kind root g.linked.level g.linked.owned g.linked.symbol_nodes g.linked.tree d l at e row in
       let low : i.0 < 2 * internal_k image = omega (arith, i.1, node.roomy) in
-      let level : l ≤ 15 = omega (arith, g.linked.tree.low, e) in
+      let level : l ≤ highest_level = omega (arith, g.linked.tree.low, e) in
       let whole = node_inside at (row_owned image kind root g.linked.level g.linked.owned g.linked.symbol_nodes g.linked.tree d l at e row) in
       let below = if l == 0 then SymbolNode root heap else GroupNode root heap (l - 1) in
       let place = at + key_place kind i.0 + 8 in

@@ -6,7 +6,7 @@ use Rattle.std.specs.Cmp.{nat_cmp_total}
 use Rattle.std.specs.declared.cmp.Ordering.TheVariants.{Equal}
 use Rattle.std.specs.FinMap.{get, insert, remove, empty, len, contains_key, get-insert, get-remove, get-retain_keys, len-insert, len-remove, len-empty, get-empty, nat_cmp-IsAntisymmetric}
 use Rattle.std.specs.Option.{option_map_or, option_and_then}
-use Rattle.h5_model.specs.Format.Limits.{most_views}
+use Rattle.h5_model.specs.Format.Limits.{most_views, most_numbers}
 use Rattle.h5_model.specs.Tree.Objects.{Tree, Link, ToObject, Soft, Links, Object, Group, Array, Dataset, dataset_in, dataset_of, with_object, only_reached, is_reached}
 use Rattle.h5_model.specs.Tree.Paths.{names_of, location_of, parent_at, object_at, dataset_at}
 use Rattle.h5_model.specs.Views.Selection.{Slab, axes_of, has_rank}
@@ -166,7 +166,7 @@ more : (s : Session) (view : View) → IsSession s → IsView s.state view → h
     → IsSession (record s { views = insert s.views s.next_view view; next_view = s.next_view + 1 })
 more s view is new room =
     let few : len s.views < most_views = grind (arith, nat_tests) in
-    let low : s.next_view < 4294967295 = grind (arith, nat_tests) in
+    let low : s.next_view < most_numbers = grind (arith, nat_tests) in
     record {
       state = is.state;
       each = λ number other there. elim (eq_by_cmp nat_cmp number s.next_view) as (λ b. cond b (Some view) (get s.views number) ≡ Some other → IsView s.state other) [

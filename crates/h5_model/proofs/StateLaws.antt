@@ -6,6 +6,7 @@ use Rattle.std.specs.Cmp.{nat_cmp_total}
 use Rattle.std.specs.declared.cmp.Ordering.TheVariants.{Less, Equal, Greater}
 use Rattle.std.specs.FinMap.{get, insert, remove, empty, get-insert, get_tied, get-retain_keys, nat_cmp-IsAntisymmetric}
 use Rattle.std.specs.Option.{option_map_or, option_and_then}
+use Rattle.h5_model.specs.Format.Limits.{most_numbers}
 use Rattle.h5_model.specs.Tree.Objects.{Tree, Link, ToObject, Soft, Links, Object, Group, Array, Dataset, links_in, with_object, only_reached, is_reached, within_names}
 use Rattle.h5_model.specs.Tree.Paths.{parent_at, object_at}
 use Rattle.h5_model.specs.Edits.Applied.{State, state_after, with_edit, with_link_at, without_link_at, with_hard_link, with_links, with_dataset, with_attributes, with_object_at, new_object, new_dataset, attribute_from, with_selection, with_sizes, makes_object}
@@ -157,7 +158,7 @@ from_IsState s is = record {
   ] h);
 }
 
-to_IsState : (s : State) → IsRooted s.tree s.next → s.next ≤ 4294967295 → IsState s
+to_IsState : (s : State) → IsRooted s.tree s.next → s.next ≤ most_numbers → IsState s
 to_IsState s kept low = record {
   rooted = elim (get s.tree 0) as (λ found. option_map_or is_group found false ≡ true → is_some (option_and_then (λ (o : Object). links_in o.content) found) ≡ true) [
     | None ↦ λ no. absurd (cc)
@@ -174,7 +175,7 @@ to_IsState s kept low = record {
 IsState-alike : (s : State) (tree : Tree) → IsState s → Alike s.tree tree → IsState (record { tree = tree; next = s.next })
 IsState-alike s tree is alike = to_IsState (record { tree = tree; next = s.next }) (IsRooted-alike s.tree tree s.next alike (from_IsState s is)) is.low
 
-IsState-made : (s : State) (path : List ℕ) (o : Object) → IsState s → nat_le 4294967295 s.next ≡ false
+IsState-made : (s : State) (path : List ℕ) (o : Object) → IsState s → nat_le most_numbers s.next ≡ false
     → IsState (record { tree = insert (with_link_at s.tree path (ToObject s.next)) s.next o; next = s.next + 1 })
 IsState-made s path o is room =
     to_IsState (record { tree = insert (with_link_at s.tree path (ToObject s.next)) s.next o; next = s.next + 1 })

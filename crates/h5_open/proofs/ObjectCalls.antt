@@ -10,7 +10,7 @@ use Rattle.std.specs.FinMap.{get, insert}
 use Rattle.std.proofs.lemmas.Option.{slice_get_within}
 use Rattle.h5_model.specs.Edits.Applied.{with_links}
 use Rattle.h5_model.specs.Format.Addresses.{SymbolTable}
-use Rattle.h5_model.specs.Format.Limits.{most_bytes}
+use Rattle.h5_model.specs.Format.Limits.{most_bytes, most_numbers}
 use Rattle.h5_model.specs.Format.Messages.{Message}
 use Rattle.h5_model.specs.Format.Sizes.{text_span}
 use Rattle.h5_model.specs.Tree.Objects.{Tree, Object, Links, Link, ToObject, link_in, links_in}
@@ -129,7 +129,7 @@ module _ (old : Space) (slots : List (Option OpenedObject)) (numbers : BTreeMap 
 
   -- ---- the image then
 
-  module _ (b : ObjectBytes) (at : ℕ) (place : at ≡ object_place f b) (few : f.next < 4294967295) (o : OpenedObject) (kept : IsKeptFor at b o)
+  module _ (b : ObjectBytes) (at : ℕ) (place : at ≡ object_place f b) (few : f.next < most_numbers) (o : OpenedObject) (kept : IsKeptFor at b o)
       (slots' : List (Option OpenedObject)) (grown : slots' ≡ slots ++ Some o ∷ []) (there_at : ℕ) (same : there_at ≡ at) (taken linked new : Space)
       (stored : IsObjectStored old taken linked new t name there_at b) where
     put_there : IsObjectPut old taken linked new slots parent slot.0 o t name at b

@@ -11,6 +11,7 @@ use Rattle.std.proofs.lemmas.Option.{same_Some}
 use Rattle.h5_bytes.specs.Bytes.{byte_at}
 use Rattle.h5_bytes.specs.Blocks.{cover}
 use Rattle.h5_bytes.specs.declared.Block.{Block}
+use Rattle.h5_model.specs.Format.Limits.{most_numbers}
 use Rattle.h5_model.specs.Format.Reads.{Placed, ReadsAs, all_blocks}
 use Rattle.h5_model.specs.Format.Superblock.{end_field}
 use Rattle.h5_model.specs.Tree.Objects.{Tree, Object}
@@ -34,7 +35,7 @@ pub table_same : (slots slots' : List (Option OpenedObject)) (n : ℕ) → optio
 table_same slots slots' n same = get_table slots' n ∙ ap (option_map header_of) same ∙ sym (get_table slots n)
 
 -- a link that is put or taken
-pub slots_stay : (slots : List (Option OpenedObject)) (touched : ℕ → Bool) → length slots ≤ 4294967295 → AreSlotsMoved slots slots touched
+pub slots_stay : (slots : List (Option OpenedObject)) (touched : ℕ → Bool) → length slots ≤ most_numbers → AreSlotsMoved slots slots touched
 slots_stay slots touched few = record {
   same = λ n out. refl;
   remains = λ n o mine low at. (o, at, refl);
@@ -55,7 +56,7 @@ pushed_past (x ∷ slots) s zero other = refl
 pushed_past (x ∷ slots) s (suc n) other = pushed_past slots s n (λ e. other (ap suc e))
 
 -- an object that is made has the next number
-pub slots_pushed : (slots : List (Option OpenedObject)) (o : OpenedObject) (touched : ℕ → Bool) → touched (length slots) ≡ true → length slots < 4294967295
+pub slots_pushed : (slots : List (Option OpenedObject)) (o : OpenedObject) (touched : ℕ → Bool) → touched (length slots) ≡ true → length slots < most_numbers
     → AreSlotsMoved slots (slots ++ Some o ∷ []) touched
 slots_pushed slots o touched mine few = record {
   same = λ n out. ap option_flatten (pushed_past slots (Some o) n (λ e. let never : false ≡ true = sym out ∙ ap touched e ∙ mine in cc));
@@ -65,7 +66,7 @@ slots_pushed slots o touched mine few = record {
 }
 
 -- objects that are no more have their slots cleared
-pub slots_cleared : (slots slots' : List (Option OpenedObject)) (touched : ℕ → Bool) → length slots' ≡ length slots → length slots ≤ 4294967295
+pub slots_cleared : (slots slots' : List (Option OpenedObject)) (touched : ℕ → Bool) → length slots' ≡ length slots → length slots ≤ most_numbers
     → ((n : ℕ) → (slice_get slots' n ≡ slice_get slots n) ⊎ ((touched n ≡ true) × (slice_get slots' n ≡ Some None))) → AreSlotsMoved slots slots' touched
 slots_cleared slots slots' touched long few each = record {
   same = λ n out. elim (each n) [

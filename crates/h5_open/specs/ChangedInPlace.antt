@@ -6,6 +6,7 @@ use Rattle.std.specs.List.{list_any}
 use Rattle.std.specs.FinMap.{get}
 use Rattle.h5_bytes.specs.Bytes.{byte_at}
 use Rattle.h5_bytes.specs.Blocks.{cover}
+use Rattle.h5_model.specs.Format.Limits.{most_numbers}
 use Rattle.h5_model.specs.Format.Reads.{Placed, ReadsAs, all_blocks}
 use Rattle.h5_model.specs.Format.Superblock.{k_values, end_field}
 use Rattle.h5_model.specs.Tree.Objects.{Tree}
@@ -45,4 +46,4 @@ pub record AreSlotsMoved (slots slots' : List (Option OpenedObject)) (touched : 
   pub remains : (n : ℕ) (o' : OpenedObject) → touched n ≡ true → n < length slots → slice_get slots' n ≡ Some (Some o')
       → (o : OpenedObject) × (slice_get slots n ≡ Some (Some o)) × (header_of o' ≡ header_of o)
   pub more : length slots ≤ length slots'
-  pub few : length slots' ≤ 4294967295
+  pub few : length slots' ≤ most_numbers

@@ -5,7 +5,7 @@ use Rattle.std.specs.Option.{option_flatten, option_map_or}
 use Rattle.std.specs.Ordering.{nat_cmp}
 use Rattle.std.specs.FinMap.{FinMap, get}
 use Rattle.std.specs.List.{flat_map}
-use Rattle.h5_model.specs.Format.Limits.{most_bytes}
+use Rattle.h5_model.specs.Format.Limits.{most_bytes, most_numbers}
 use Rattle.h5_bytes.specs.declared.Block.{Block}
 use Rattle.h5_model.specs.Format.Messages.{prefix_at, reference_count}
 use Rattle.h5_model.specs.Format.Superblock.{end_of_file, end_field}
@@ -88,7 +88,7 @@ AreOnce (n ∷ numbers) = (is_among numbers n ≡ false) × AreOnce numbers
 -- the new tree has them. All other objects are what they were. The edit moves the blocks of the group and the end of file address.
 pub record IsObjectMade (old new : Space) (slots : List (Option OpenedObject)) (tree tree' : Tree) (a : ℕ) (p o : OpenedObject) : Type 0 where
   pub group : slice_get slots a ≡ Some (Some p)
-  pub few : length slots < 4294967295
+  pub few : length slots < most_numbers
   pub same : (n : ℕ) → (length slots == n) ≡ false → (a == n) ≡ false → get tree' n ≡ get tree n
   pub counts : (n : ℕ) → (length slots == n) ≡ false → (a == n) ≡ false → hard_links tree' n ≡ hard_links tree n
   pub remade : IsTouchedObject new.bytes (table_of (slots ++ Some o ∷ [])) tree' a p

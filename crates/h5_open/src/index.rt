@@ -4,7 +4,7 @@ ghost use Rattle.std.specs.Prelude.{◌≡◌, ℕ, ◌<◌, [], ◌∷◌, ◌+
 ghost use Rattle.std.specs.BTreeMap.{Updates};
 ghost use Rattle.std.specs.List.{Contains, IsDistinct};
 ghost use Rattle.std.specs.Ordering.{eq_by_cmp, nat_cmp};
-ghost use Rattle.h5_model.specs.Format.Limits.{most_bytes};
+ghost use Rattle.h5_model.specs.Format.Limits.{most_bytes, most_numbers};
 ghost use Rattle.h5_open.specs.declared.opened.object.OpenedObject.{OpenedObject};
 ghost use Rattle.h5_open.specs.LinkTaken.{AreSlotsCleared, IsOwnTable};
 ghost use Rattle.h5_open.specs.Opened.Kept.{IsIndex};
@@ -67,7 +67,7 @@ pub(crate) fn push_object(index: &mut Index, object: OpenedObject) -> Result<(),
 ///
 /// `AllocError` if memory is refused. Then nothing changes.
 pub(crate) fn keep(index: &mut Index, object: OpenedObject) -> Result<(), AllocError>
-    requires few { length index.old.objects.items < 4294967295 }
+    requires few { length index.old.objects.items < most_numbers }
     ensures slots { OnOk result (index.new.objects.items ≡ index.old.objects.items ++ Some object ∷ []) }
     ensures numbers { OnOk result (Updates nat_cmp index.old.numbers index.new.numbers
         object.messages.header (Some (length index.old.objects.items))) }

@@ -13,6 +13,7 @@ mod write;
 
 ghost use Rattle.std.specs.Prelude.{◌≡◌, ◌≤◌, [], IfOk, IfErr, MatchOption, OnErr, OnOk, Some, None, length};
 ghost use Rattle.std.specs.FinMap.{get, len};
+ghost use Rattle.h5_model.specs.Format.Limits.{most_numbers};
 ghost use Rattle.h5_model.specs.Format.Reads.{Reads};
 ghost use Rattle.h5_model.specs.Format.Superblock.{IsSuperblock, end_of_file};
 ghost use Rattle.h5_model.specs.Tree.Objects.{Tree};
@@ -159,7 +160,7 @@ impl Opened {
     pub fn renumber(&mut self, headers: &[Option<u64>]) -> Result<(), AllocError>
         requires read { IsReadAt self.old.image headers.now }
         requires given { self.old.next ≤ length headers.now }
-        requires few { length headers.now ≤ 4294967295 }
+        requires few { length headers.now ≤ most_numbers }
         ensures renumbered { OnOk result ((tree : Tree) → Reads self.old.image (table_with headers.now) tree
             → self.new
             ≡ record self.old { table = table_with headers.now; next = length headers.now; tree = tree }) }

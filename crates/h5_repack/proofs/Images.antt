@@ -8,6 +8,7 @@ use Rattle.std.specs.Prelude.{slice_get, slice_index, unwrap_or}
 use Rattle.std.specs.FinMap.{FinMap, get, entries, len, len-entries}
 use Rattle.std.specs.List.{AllZip, flat_map}
 use Rattle.std.specs.Option.{option_map_or, option_flatten}
+use Rattle.h5_model.specs.Format.Limits.{highest_level}
 use Rattle.h5_model.specs.Format.MessageTypes.{symbol_table_kind}
 use Rattle.h5_model.specs.Format.Bodies.{pair_bytes}
 use Rattle.h5_model.specs.Format.Plain.{header_bytes, superblock_bytes}
@@ -65,7 +66,7 @@ module _ (k : KValues) (g : Links) (p : GroupPlaces) (is : IsExtent k 0 (Group g
   own_tree = (own_places).tree ∙ ap (λ n. nodes_over 64 (2 * k.internal) (rows_of (2 * k.leaf) n) * group_node k.internal) count_is
 
   pub own_low : IsLow k.leaf k.internal g
-  own_low = subst (λ n. root_level k.internal (rows_of (2 * k.leaf) n) ≤ 15) count_is (own_places).low
+  own_low = subst (λ n. root_level k.internal (rows_of (2 * k.leaf) n) ≤ highest_level) count_is (own_places).low
 
 module _ (k : KValues) (l : Layout) (o : StoredObject) (s : Size) (size : IsSize k o s) where
   -- behind the superblock, as its entry for the root says

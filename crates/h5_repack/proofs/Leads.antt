@@ -4,7 +4,7 @@ use Rattle.std.proofs.lemmas.Slice.Zip.{AllZip-long}
 use Rattle.std.specs.Prelude.{slice_get}
 use Rattle.std.specs.List.{AllZip}
 use Rattle.std.specs.Option.{option_map_or}
-use Rattle.h5_model.specs.Format.Limits.{most_bytes}
+use Rattle.h5_model.specs.Format.Limits.{most_bytes, highest_level}
 use Rattle.h5_model.specs.Format.Plain.{segment_bytes}
 use Rattle.h5_model.specs.Format.PlainLength.{nodes_over, rows_of}
 use Rattle.h5_model.specs.Format.Sizes.{group_node, symbol_node}
@@ -81,5 +81,5 @@ same_places leaf internal es xs ys p all_xs all_ys are =
       segment = are.segment ∙ ap (λ (t : List (List ℕ)). length (segment_bytes t)) texts;
       length_is = are.length_is ∙ (λ i. nodes_over 64 (2 * internal) (rows_of (2 * leaf) (count i)) * group_node internal + 32 + length (segment_bytes (texts i)) + rows_of (2 * leaf) (count i) * symbol_node leaf);
       few = are.few;
-      low = subst (λ n. root_level internal (rows_of (2 * leaf) n) ≤ 15) count are.low;
+      low = subst (λ n. root_level internal (rows_of (2 * leaf) n) ≤ highest_level) count are.low;
     }

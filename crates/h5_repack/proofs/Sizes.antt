@@ -5,7 +5,7 @@ use Rattle.std.specs.Prelude.{◌==◌, if◌then◌else◌, slice_get}
 use Rattle.std.specs.List.{AllZip}
 use Rattle.std.specs.FinMap.{entries, len, len-entries}
 use Rattle.h5_model.specs.Edits.Refusal.{are_maxima}
-use Rattle.h5_model.specs.Format.Limits.{most_bytes}
+use Rattle.h5_model.specs.Format.Limits.{most_bytes, highest_level}
 use Rattle.h5_model.specs.Format.Plain.{messages_bytes}
 use Rattle.h5_model.specs.Format.PlainLength.{content_bytes, data_bytes, nodes_over, rows_of}
 use Rattle.h5_model.specs.Format.Sizes.{chunk_node, header_size}
@@ -106,9 +106,9 @@ module _ (links : List (Link ObjectNo)) (others : OthersBytes) (o : StoredObject
     pub group_long : most_bytes < links_length k.leaf k.internal bare → most_bytes < stored_length k o
     group_long long = omega (arith, long, own_length)
 
-    pub group_deep : 15 < tree_level k.leaf k.internal bare → IsLowContent k (length o.chunks) (o.object).content → ⊥
+    pub group_deep : highest_level < tree_level k.leaf k.internal bare → IsLowContent k (length o.chunks) (o.object).content → ⊥
     group_deep deep low =
-        let level : 15 < root_level k.internal (rows_of (2 * k.leaf) (len is.group)) = subst (λ n. 15 < root_level k.internal (rows_of (2 * k.leaf) n)) own_count deep in
+        let level : highest_level < root_level k.internal (rows_of (2 * k.leaf) (len is.group)) = subst (λ n. highest_level < root_level k.internal (rows_of (2 * k.leaf) n)) own_count deep in
         let own : IsLow k.leaf k.internal is.group = subst (IsLowContent k (length o.chunks)) is.content low in
         omega (arith, own, level)
 
@@ -190,17 +190,17 @@ module _ (a : Described) (c : Cells) (others : OthersBytes) (o : StoredObject) (
         few_by (Chunks held) are = chunks_below chunk_k (length (chunks_of (Chunks held))) is.dataset held.chunk are.storage_is own_array
 
   -- the tree of the chunks that are handed over is that of the array's
-  pub tree_low : (chunk_k : ℕ) → IsLowStorage chunk_k (length o.chunks) (is.dataset).storage → root_level chunk_k (length (chunks_of c)) ≤ 15
+  pub tree_low : (chunk_k : ℕ) → IsLowStorage chunk_k (length o.chunks) (is.dataset).storage → root_level chunk_k (length (chunks_of c)) ≤ highest_level
   tree_low chunk_k low = level_by c (is.array_is).cells_are (subst (λ (chunks : List (List ℕ)). IsLowStorage chunk_k (length chunks) (is.dataset).storage) (sym is.chunks_are) low) where
-    level_by : (cs : Cells) → AreCellsToWrite cs is.dataset → IsLowStorage chunk_k (length (chunks_of cs)) (is.dataset).storage → root_level chunk_k (length (chunks_of cs)) ≤ 15
+    level_by : (cs : Cells) → AreCellsToWrite cs is.dataset → IsLowStorage chunk_k (length (chunks_of cs)) (is.dataset).storage → root_level chunk_k (length (chunks_of cs)) ≤ highest_level
     level_by Unset are own = none_level chunk_k
     level_by Filled are own = none_level chunk_k
     level_by (Stored bytes) are own = none_level chunk_k
     level_by (Chunks held) are own = subst (IsLowStorage chunk_k (length (chunks_of (Chunks held)))) are.storage_is own
 
-  low_tree : (chunk_k : ℕ) → root_level chunk_k (length (chunks_of c)) ≤ 15 → IsLowStorage chunk_k (length o.chunks) (is.dataset).storage
-  low_tree chunk_k low = by_storage (is.dataset).storage (subst (λ (chunks : List (List ℕ)). root_level chunk_k (length chunks) ≤ 15) is.chunks_are low) where
-    by_storage : (s : Storage) → root_level chunk_k (length o.chunks) ≤ 15 → IsLowStorage chunk_k (length o.chunks) s
+  low_tree : (chunk_k : ℕ) → root_level chunk_k (length (chunks_of c)) ≤ highest_level → IsLowStorage chunk_k (length o.chunks) (is.dataset).storage
+  low_tree chunk_k low = by_storage (is.dataset).storage (subst (λ (chunks : List (List ℕ)). root_level chunk_k (length chunks) ≤ highest_level) is.chunks_are low) where
+    by_storage : (s : Storage) → root_level chunk_k (length o.chunks) ≤ highest_level → IsLowStorage chunk_k (length o.chunks) s
     by_storage Compact own = tt
     by_storage (Contiguous held) own = tt
     by_storage (Chunked chunk) own = own
@@ -215,14 +215,14 @@ module _ (a : Described) (c : Cells) (others : OthersBytes) (o : StoredObject) (
     array_long long = omega (arith, long 0, array_content 0)
 
     -- a tree of chunks that is too deep
-    pub array_deep : 15 < root_level chunk_k (length (chunks_of c)) → IsLowContent k (length o.chunks) (o.object).content → ⊥
+    pub array_deep : highest_level < root_level chunk_k (length (chunks_of c)) → IsLowContent k (length o.chunks) (o.object).content → ⊥
     array_deep deep low =
         let own : IsLowStorage (chunk_k_of k) (length o.chunks) (is.dataset).storage = subst (IsLowContent k (length o.chunks)) is.content low in
         let level = tree_low chunk_k (subst (λ n. IsLowStorage n (length o.chunks) (is.dataset).storage) (sym k_is) own) in
         omega (arith, deep, level)
 
     pub array_size : (header data_length : ℕ) → header ≡ length (header_written 0 a c others None) → header ≤ most_bytes
-        → ((place : ℕ) → IsLength (Some data_length) (length (data_written chunk_k c a place))) → root_level chunk_k (length (chunks_of c)) ≤ 15
+        → ((place : ℕ) → IsLength (Some data_length) (length (data_written chunk_k c a place))) → root_level chunk_k (length (chunks_of c)) ≤ highest_level
         → IsSize k o (record { header = header; extent = extent.Data data_length })
     array_size header data_length header_is low length_is level =
         let size : header ≡ header_size o.object = header_is ∙ array_header_size 0 None in
@@ -241,7 +241,7 @@ module _ (a : Described) (c : Cells) (others : OthersBytes) (o : StoredObject) (
     pub data_low : (s : Size) → IsSize k o s → (place : ℕ) → length (data_written chunk_k c a place) ≤ most_bytes
     data_low s size place = omega (arith, array_content place, size.whole, size.header, extent_few s.extent (size.low).extent_low)
 
-    pub level_low : (s : Size) → IsSize k o s → root_level chunk_k (length (chunks_of c)) ≤ 15
+    pub level_low : (s : Size) → IsSize k o s → root_level chunk_k (length (chunks_of c)) ≤ highest_level
     level_low s size = tree_low chunk_k (subst (λ n. IsLowStorage n (length o.chunks) (is.dataset).storage) (sym k_is)
         (by_extent s.extent (subst (λ (y : Content). IsExtent k (length o.chunks) y s.extent) is.content size.extent_is))) where
           by_extent : (x : Extent) → IsExtent k (length o.chunks) (Array is.dataset) x → IsLowStorage (chunk_k_of k) (length o.chunks) (is.dataset).storage

@@ -2,7 +2,7 @@
 
 ghost use Rattle.std.specs.Prelude.{◌≡◌, ◌+◌, ◌<◌, ◌≤◌, ◌++◌, List, Option, OnOk, Some, length, map, slice_get};
 ghost use Rattle.std.specs.List.{AllByRecursion, AllZip, flat_map};
-ghost use Rattle.h5_model.specs.Format.Limits.{most_bytes};
+ghost use Rattle.h5_model.specs.Format.Limits.{most_bytes, highest_level};
 ghost use Rattle.h5_model.specs.Format.Superblock.{AreKValues, highest_k};
 ghost use Rattle.h5_group.specs.Writing.Written.{links_bytes};
 ghost use Rattle.h5_btree.specs.Writing.Written.{root_level};
@@ -66,7 +66,7 @@ fn push_array(
     requires some { 1 ≤ chunk_k }
     requires most { chunk_k ≤ highest_k }
     requires held { (o : StoredObject) × IsArrayObject array.now cells.now others.now o }
-    requires level { root_level chunk_k (length (chunks_of cells.now)) ≤ 15 }
+    requires level { root_level chunk_k (length (chunks_of cells.now)) ≤ highest_level }
     requires low { at ≤ most_bytes }
     requires few { length (data_written chunk_k cells.now array.now at) ≤ most_bytes }
     requires header { length others.now.bytes ≤ most_bytes }

@@ -6,6 +6,7 @@ use Rattle.std.proofs.lemmas.Bool.Decides.{nat_tests}
 use Rattle.std.proofs.lemmas.List.{take-take}
 use Rattle.std.proofs.KnownBytes.{Appends-kept, Consumes-nil, Consumes-trans, Consumes-kept}
 use Rattle.std.proofs.Math.Seq.{take-append_seam}
+use Rattle.h5_model.specs.Format.Limits.{most_script_bytes}
 use Rattle.h5_dump.specs.Session.{SessionState}
 use Rattle.h5_model.specs.Scripts.Lines.{Command, commands_of, finished_lines, within_limit}
 use Rattle.h5_script.specs.Pieces.{AreWholeLines, HasRunLines, HasBegunLines, IsUnderway, commands_of_line}
@@ -23,7 +24,7 @@ abbrev Known : Type 0
 Known = Option (List ℕ)
 
 abbrev limit : ℕ
-limit = 16777216
+limit = most_script_bytes
 
 -- a run that ends early by a writer or by memory
 pub cut_off : (s t : SessionState) (input left old new : Known) (f : RunFault) → IsRunCut f → IsCutOff s t input left old new → IsStopped s t input left old new f

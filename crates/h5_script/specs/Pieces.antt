@@ -3,6 +3,7 @@ use Rattle.std.specs.Prelude.{◌≡◌, ◌⊎◌, ◌==◌, ℕ, ◌+◌, fals
 use Rattle.std.specs.List.{All}
 use Rattle.std.specs.Option.{option_map_or}
 use Rattle.std.specs.Io.KnownBytes.{Consumes}
+use Rattle.h5_model.specs.Format.Limits.{most_script_bytes}
 use Rattle.h5_dump.specs.Session.{SessionState}
 use Rattle.h5_model.specs.Scripts.Lines.{Command, line_asks, commands_of}
 use Rattle.h5_script.specs.Runs.{HasCounted, HasBegun, IsRunCut}
@@ -52,5 +53,5 @@ RunsLinesTo result bytes held before after old new counted counts =
 pub record IsUnderway (before now : SessionState) (input left old new : Option (List ℕ)) (held : List ℕ) (room : ℕ) (ran : Ran) : Type 0 where
   pub script : List ℕ
   pub read : Consumes input left script
-  pub limit : length script + room ≡ 16777216
+  pub limit : length script + room ≡ most_script_bytes
   pub run : HasRunLines script held before now old new none_ran ran

@@ -1,6 +1,7 @@
 -- What a run of a script reads, does to a file, and writes.
 use Rattle.std.specs.Prelude.{◌⊎◌, ℕ, ◌<◌, ◌≤◌, Option, List, length}
 use Rattle.std.specs.Io.KnownBytes.{Consumes, IsAtEnd}
+use Rattle.h5_model.specs.Format.Limits.{most_script_bytes}
 use Rattle.h5_dump.specs.Session.{SessionState}
 use Rattle.h5_model.specs.Scripts.Lines.{commands_of, finished_lines, within_limit}
 use Rattle.h5_script.specs.Runs.{HasRun, HasCounted, HasBegun}
@@ -17,21 +18,21 @@ pub record IsDone (before after : SessionState) (input left old new : Option (Li
   pub script : List ℕ
   pub read : Consumes input left script
   pub ended : IsAtEnd left
-  pub short : length script ≤ 16777216
+  pub short : length script ≤ most_script_bytes
   pub run : HasCounted (commands_of script) before after old new none_ran ran
 
 -- the reader failed behind these bytes: the lines that they finish were run
 pub record IsUnread (before after : SessionState) (input left old new : Option (List ℕ)) : Type 0 where
   pub script : List ℕ
   pub read : Consumes input left script
-  pub short : length script ≤ 16777216
+  pub short : length script ≤ most_script_bytes
   pub run : HasRun (commands_of (finished_lines script)) before after old new
 
 -- more bytes were read than a script has: the lines that the others finish were run
 pub record IsTooLong (before after : SessionState) (input left old new : Option (List ℕ)) : Type 0 where
   pub script : List ℕ
   pub read : Consumes input left script
-  pub long : 16777216 < length script
+  pub long : most_script_bytes < length script
   pub run : HasRun (commands_of (within_limit script)) before after old new
 
 -- the writer failed, or memory was refused: the first lines were run, an unfinished one only at the end

@@ -6,6 +6,7 @@ use Rattle.std.proofs.lemmas.List.Elements.{recursion_from_All, All-from_get_or}
 use Rattle.h5_bytes.specs.Blocks.{Inside}
 use Rattle.h5_bytes.specs.declared.Block.{Block}
 use Rattle.h5_bytes.proofs.BlockLaws.{all_append}
+use Rattle.h5_model.specs.Format.Limits.{highest_level}
 use Rattle.h5_model.specs.Format.Rows.{Node, blank, next_row, leaves, nodes}
 use Rattle.h5_model.specs.Format.Nodes.{IsNode, node_block, node_bytes, node_length, entries_in, child_in, reading_of, tree_blocks}
 use Rattle.h5_model.specs.Format.Reached.{Role, naming_of, Reached}
@@ -51,7 +52,7 @@ module _ (image : List ℕ) (form : TreeForm) (root heap depth : ℕ) where
   abbrev IsReachedAs : Role → ℕ → Type 0
   IsReachedAs role at = (field : ℕ) × Reached image (naming_of field role at depth)
 
-  children_reached : (level at : ℕ) → level ≤ 15 → IsStanding image form level at → IsReachedAs (node_role form root heap level) at
+  children_reached : (level at : ℕ) → level ≤ highest_level → IsStanding image form level at → IsReachedAs (node_role form root heap level) at
       → AllByRecursion (IsReachedAs (child_role form root heap level)) (reading_in image form at).children
   children_reached level at high stands (field, reached) =
       let cs = (reading_in image form at).children in
@@ -60,14 +61,14 @@ module _ (image : List ℕ) (form : TreeForm) (root heap depth : ℕ) where
       (child_is (kind_of image form) (node_bytes image (kind_of image form) at) (reading_in image form at) refl j low) in
       subst (IsReachedAs (child_role form root heap level)) (sym is) (_, child_reached image form root heap depth level at field stands high reached j low)))
 
-  next_reached : (level : ℕ) (row : List ℕ) → level ≤ 15 → AllByRecursion (IsStanding image form level) row → AllByRecursion (IsReachedAs (node_role form root heap level)) row
+  next_reached : (level : ℕ) (row : List ℕ) → level ≤ highest_level → AllByRecursion (IsStanding image form level) row → AllByRecursion (IsReachedAs (node_role form root heap level)) row
       → AllByRecursion (IsReachedAs (child_role form root heap level)) (next_row (reading_in image form) row)
   next_reached level [] high stands reached = tt
   next_reached level (x ∷ xs) high stands reached =
       all_append (IsReachedAs (child_role form root heap level)) (reading_in image form x).children (next_row (reading_in image form) xs)
       (children_reached level x high stands.0 reached.0) (next_reached level xs high stands.1 reached.1)
 
-  pub nodes_reached : (level : ℕ) (row : List ℕ) → level ≤ 15 → IsLevel image form level row → AllByRecursion (IsReachedAs (node_role form root heap level)) row
+  pub nodes_reached : (level : ℕ) (row : List ℕ) → level ≤ highest_level → IsLevel image form level row → AllByRecursion (IsReachedAs (node_role form root heap level)) row
       → AllByRecursion (IsNodeReached image form root heap depth) (nodes (reading_in image form) level row)
   nodes_reached zero row high read reached =
       all_weaker (IsReachedAs (node_role form root heap 0)) (IsNodeReached image form root heap depth) row (λ at r. (r.0, 0, r.1)) reached
@@ -76,7 +77,7 @@ module _ (image : List ℕ) (form : TreeForm) (root heap depth : ℕ) where
       (all_weaker (IsReachedAs (node_role form root heap (suc level))) (IsNodeReached image form root heap depth) row (λ at r. (r.0, suc level, r.1)) reached)
       (nodes_reached level (next_row (reading_in image form) row) (omega (arith, high)) (level_below image form level row read) (next_reached (suc level) row high read.here reached))
 
-  pub leaves_reached : (level : ℕ) (row : List ℕ) → level ≤ 15 → IsLevel image form level row → AllByRecursion (IsReachedAs (node_role form root heap level)) row
+  pub leaves_reached : (level : ℕ) (row : List ℕ) → level ≤ highest_level → IsLevel image form level row → AllByRecursion (IsReachedAs (node_role form root heap level)) row
       → AllByRecursion (AreLeavesReached image form root heap depth) (leaves (reading_in image form) level row)
   leaves_reached zero row high read reached = next_reached 0 row high read.here reached
   leaves_reached (suc level) row high read reached =
@@ -88,7 +89,7 @@ inside_map : (f : ℕ → Block) (end : ℕ) (xs : List ℕ) → AllByRecursion 
 inside_map f end [] all = tt
 inside_map f end (x ∷ xs) all = (all.0, inside_map f end xs all.1)
 
-module _ (image : List ℕ) (form : TreeForm) (root level : ℕ) (low : level ≤ 15) (read : IsLevel image form level (root ∷ []))
+module _ (image : List ℕ) (form : TreeForm) (root level : ℕ) (low : level ≤ highest_level) (read : IsLevel image form level (root ∷ []))
     (filled : 1 ≤ level → 1 ≤ entries_in (node_bytes image (kind_of image form) root)) (all symbols : List ℕ)
     (keyed : AreKeyedBelow image form level (reading_in image form root)) (rows : AreAllRows image form root level all symbols) where
   abbrev V : ℕ → Node

@@ -3,6 +3,7 @@ use Rattle.std.proofs.Common.{◌≡◌, ℕ, suc, ◌+◌, ◌-◌, ◌*◌, �
 use Rattle.std.specs.Prelude.{false, ◌==◌, if◌then◌else◌, slice_index_or}
 use Rattle.std.proofs.Math.Nat.{mul-le-mul_right}
 use Rattle.h5_bytes.specs.Bytes.{part}
+use Rattle.h5_model.specs.Format.Limits.{highest_level}
 use Rattle.h5_model.specs.Format.Superblock.{IsSuperblock, leaf_k, highest_k}
 use Rattle.h5_model.specs.Format.Symbols.{IsEntry, entry_of, symbol_bytes, symbols_at, symbols_in}
 use Rattle.h5_model.specs.Format.Nodes.{node_at, node_bytes, node_length, key_in, entries_in}
@@ -41,7 +42,7 @@ leaf_inner OfGroup root heap = refl
 leaf_inner (OfChunks shape) root heap = refl
 
 -- a child of a node is named by it
-pub names_child : (image : List ℕ) (form : TreeForm) (root heap level node depth : ℕ) (y : Named) → level ≤ 15
+pub names_child : (image : List ℕ) (form : TreeForm) (root heap level node depth : ℕ) (y : Named) → level ≤ highest_level
     → FromNode image (kind_of image form) (if level == 0 then leaf_role form root heap else node_role form root heap (level - 1)) node depth y
     → Names image (node_role form root heap level) node depth y
 names_child image OfGroup root heap level node depth y high from = (high, from)

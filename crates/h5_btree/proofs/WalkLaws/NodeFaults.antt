@@ -5,6 +5,7 @@ use Rattle.std.proofs.lemmas.Bool.Decides.{nat_tests}
 use Rattle.std.proofs.lemmas.Bool.{cases_lt}
 use Rattle.h5_bytes.specs.Blocks.{cover}
 use Rattle.h5_bytes.specs.declared.Block.{Block}
+use Rattle.h5_model.specs.Format.Limits.{highest_level}
 use Rattle.h5_model.specs.Format.Nodes.{Kind, node_bytes, node_of, entries_in}
 use Rattle.h5_model.specs.Format.Reached.{level_at}
 use Rattle.h5_model.specs.Faults.TreeFaults.{NodeBreach}
@@ -41,7 +42,7 @@ module _ (image : List ℕ) (kind : Kind) where
       let bytes = node_bytes image kind at in
       let node = node_of kind bytes in
       let count : entries_in bytes ≡ length node.children = length-children kind bytes node refl in
-      elim (cases_lt 15 node.level) [
+      elim (cases_lt highest_level node.level) [
         | inl high ↦ inr (inr (inr (inl high)))
         | inr low ↦ elim (cases_lt 0 node.level) [
           | inr ground_level ↦ absurd (never (omega (arith, low), λ some. absurd (omega (arith, some, ground_level))))

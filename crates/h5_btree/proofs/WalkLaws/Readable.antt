@@ -5,6 +5,7 @@ use Rattle.std.specs.List.{AllByRecursion}
 use Rattle.h5_bytes.specs.Blocks.{holds, cover}
 use Rattle.h5_bytes.specs.declared.Block.{Block}
 use Rattle.h5_bytes.proofs.BlockLaws.{all_left, all_right, holds_in}
+use Rattle.h5_model.specs.Format.Limits.{highest_level}
 use Rattle.h5_model.specs.Format.Rows.{Node, IsRow, AreRows, next_row, leaves, nodes}
 use Rattle.h5_model.specs.Format.Nodes.{node_block, node_bytes, node_length, entries_in}
 use Rattle.h5_model.specs.Faults.TreeFaults.{NodeBreach, SiblingBreach}
@@ -58,7 +59,7 @@ module _ (image : List ℕ) (form : TreeForm) where
 
   -- ---- one block
 
-  inner_formed : (root level at : ℕ) → level ≤ 15 → IsInner image form level at → NodeBreach image (kind_of image form) root level at → ⊥
+  inner_formed : (root level at : ℕ) → level ≤ highest_level → IsInner image form level at → NodeBreach image (kind_of image form) root level at → ⊥
   inner_formed root level at low inner (inl signature) = signature ((inner.stands).formed).signed
   inner_formed root level at low inner (inr (inl type_byte)) = type_byte ((inner.stands).formed).type_byte
   inner_formed root level at low inner (inr (inr (inl other))) = other (inner.stands).high

@@ -4,6 +4,7 @@ use Rattle.std.specs.Prelude.{false}
 use Rattle.h5_bytes.specs.Blocks.{holds, cover, Separate}
 use Rattle.h5_bytes.specs.declared.Block.{Block}
 use Rattle.h5_bytes.proofs.BlockLaws.{all_append, holds_in}
+use Rattle.h5_model.specs.Format.Limits.{highest_level}
 use Rattle.h5_model.specs.Format.Rows.{leaves, nodes}
 use Rattle.h5_model.specs.Format.Nodes.{node_block, node_length, tree_blocks}
 use Rattle.h5_model.specs.Format.Reached.{Named, naming_of}
@@ -35,7 +36,7 @@ module _ (image : List ℕ) (form : TreeForm) (root : ℕ) (old : List Block) wh
   root_refused cause address e refused = λ followed field heap depth met.
       node_fault image form old followed met.walked field root heap root depth level met.met cause address e refused
 
-  module _ (here : List Block) (stands : IsStanding image form level root) (low : level ≤ 15)
+  module _ (here : List Block) (stands : IsStanding image form level root) (low : level ≤ highest_level)
       (claimed : (p : ℕ) → cover p here ≡ cover p old + holds p root (node_length (kind_of image form))) (apart : Separate here) where
     rooted : 1 ≤ cover root here
     rooted =

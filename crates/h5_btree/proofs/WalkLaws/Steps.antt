@@ -4,6 +4,7 @@ use Rattle.std.proofs.lemmas.Bool.Decides.{nat_tests}
 use Rattle.std.specs.Prelude.{Bool, true, false, ◌==◌, if◌then◌else◌}
 use Rattle.h5_bytes.specs.Blocks.{holds, cover, Separate}
 use Rattle.h5_bytes.specs.declared.Block.{Block}
+use Rattle.h5_model.specs.Format.Limits.{highest_level}
 use Rattle.h5_model.specs.Format.Rows.{Node}
 use Rattle.h5_model.specs.Format.Nodes.{node_block, node_bytes, node_length, entries_in, child_in}
 use Rattle.h5_model.specs.Format.Reached.{Named, Role, naming_of, Reached, by_block, length_of}
@@ -70,7 +71,7 @@ child_within image form level at j stands low =
     let ends = child_room kind.key_length (2 * kind.k) j room in
     (omega arith, omega (arith, ends), omega (arith, ends))
 
-module _ (image : List ℕ) (form : TreeForm) (root heap depth level at field : ℕ) (stands : IsStanding image form level at) (high : level ≤ 15)
+module _ (image : List ℕ) (form : TreeForm) (root heap depth level at field : ℕ) (stands : IsStanding image form level at) (high : level ≤ highest_level)
     (reached : Reached image (naming_of field (node_role form root heap level) at depth)) where
   pub child_reached : (j : ℕ) → j < length (reading_in image form at).children → Reached image (child_field image form root heap depth level at j)
   child_reached j low =
@@ -88,7 +89,7 @@ module _ (image : List ℕ) (form : TreeForm) (root heap depth level at field : 
 -- the fields of a node that was just claimed
 module _ (image : List ℕ) (form : TreeForm) (held : List Block) (followed : List Named) (walked : IsWalked image held followed) (field root heap depth level at : ℕ)
     (met : IsMet image held followed (naming_of field (node_role form root heap level) at depth))
-    (stands : IsStanding image form level at) (high : level ≤ 15) (now : List Block)
+    (stands : IsStanding image form level at) (high : level ≤ highest_level) (now : List Block)
     (claimed : (p : ℕ) → cover p now ≡ cover p held + holds p at (node_length (kind_of image form))) (apart : Separate now) (rooted : 1 ≤ cover root now) where
   long_claimed : (p : ℕ) → cover p now ≡ cover p held + holds p at (length_of image (naming_of field (node_role form root heap level) at depth))
   long_claimed p = rw (node_long image form field root heap level at depth) (claimed p)

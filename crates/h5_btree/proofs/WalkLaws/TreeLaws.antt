@@ -3,6 +3,7 @@ use Rattle.std.proofs.Common.{◌≡◌, ℕ, zero, suc, ◌+◌, ◌≤◌, ◌
 use Rattle.std.specs.List.{AllByRecursion}
 use Rattle.h5_bytes.specs.declared.Block.{Block}
 use Rattle.h5_bytes.proofs.BlockLaws.{all_left, all_right}
+use Rattle.h5_model.specs.Format.Limits.{highest_level}
 use Rattle.h5_model.specs.Format.Rows.{Reading, next_row, row_below, leaves, nodes}
 use Rattle.h5_model.specs.Format.Nodes.{node_length}
 use Rattle.h5_model.specs.Format.Reached.{Named, naming_of, Reached}
@@ -26,7 +27,7 @@ row_all V P (suc level) row zero low all = all_left P row (nodes V level (next_r
 row_all V P (suc level) row (suc depth) low all =
     row_all V P level (next_row V row) depth (omega (arith, low)) (all_right P row (nodes V level (next_row V row)) all)
 
-module _ (image : List ℕ) (form : TreeForm) (root level : ℕ) (low : level ≤ 15) (read : IsLevel image form level (root ∷ [])) where
+module _ (image : List ℕ) (form : TreeForm) (root level : ℕ) (low : level ≤ highest_level) (read : IsLevel image form level (root ∷ [])) where
   module _ (held : List Block) (followed : List Named) (field heap depth : ℕ) (met : IsTreeMet image form held followed field root heap depth) where
     root_reached : Reached image (naming_of field (node_role form root heap level) root depth)
     root_reached = subst (λ (l : ℕ). Reached image (naming_of field (node_role form root heap l) root depth)) read.here.0.high met.met.reached

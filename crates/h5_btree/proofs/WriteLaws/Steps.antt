@@ -5,6 +5,7 @@ use Rattle.std.proofs.lemmas.Bool.Decides.{nat_tests}
 use Rattle.std.proofs.lemmas.List.{take_all, drop_all, length-drop, take-append-drop}
 use Rattle.h5_bytes.specs.Bytes.{undefined_address}
 use Rattle.h5_bytes.proofs.BlockLaws.{all_left, all_right}
+use Rattle.h5_model.specs.Format.Limits.{highest_level}
 use Rattle.h5_model.specs.Format.Nodes.{Kind, node_length}
 use Rattle.h5_model.specs.Format.PlainLength.{rows_of, nodes_over}
 use Rattle.h5_btree.specs.Writing.Steps.{levels_from, rows_from}
@@ -149,7 +150,7 @@ unfolding root_level levels_from
 level_is k n = refl
 
 -- one node is the root
-pub from_top : {K : Type 0} (kind : Kind) (bytes : K → List ℕ) (first : K) (level at : ℕ) (children : List (Child K)) → level ≤ 15 → length children ≤ 2 * kind.k
+pub from_top : {K : Type 0} (kind : Kind) (bytes : K → List ℕ) (first : K) (level at : ℕ) (children : List (Child K)) → level ≤ highest_level → length children ≤ 2 * kind.k
     → rows_from kind bytes first level at children ≡ bytes_over kind bytes level undefined_address undefined_address first children
 unfolding rows_from
 from_top kind bytes first level at children low few =
@@ -158,7 +159,7 @@ from_top kind bytes first level at children low few =
     ∙ append-nil (bytes_over kind bytes level undefined_address undefined_address first children)
 
 -- a row of more than one node, and those above it
-module _ {K : Type 0} (kind : Kind) (bytes : K → List ℕ) (first : K) (level at : ℕ) (children : List (Child K)) (low : level ≤ 15) (some : 1 ≤ kind.k)
+module _ {K : Type 0} (kind : Kind) (bytes : K → List ℕ) (first : K) (level at : ℕ) (children : List (Child K)) (low : level ≤ highest_level) (some : 1 ≤ kind.k)
     (fits : FitsKind kind bytes first) (fit : AllFit kind bytes children) (many : 2 * kind.k < length children) where
   abbrev width : ℕ
   width = rows_of (2 * kind.k) (length children)
@@ -216,7 +217,7 @@ module _ {K : Type 0} (kind : Kind) (bytes : K → List ℕ) (first : K) (level 
   pub above_few : length children < 2 ^ 32 → length upper < 2 ^ 32
   above_few few = omega (arith, raised_wide, rows_few (2 * kind.k) (length children) (omega arith))
 
-  pub above_low : level + levels_from kind.k level (length children) ≤ 15 → level + 1 + levels_from kind.k (level + 1) (length upper) ≤ 15
+  pub above_low : level + levels_from kind.k level (length children) ≤ highest_level → level + 1 + levels_from kind.k (level + 1) (length upper) ≤ highest_level
   unfolding levels_from
   above_low deep =
       let more : 1 ≤ 64 - level = omega arith in

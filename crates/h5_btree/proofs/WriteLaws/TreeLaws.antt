@@ -4,6 +4,7 @@ use Rattle.std.specs.List.{AllByRecursion, Contains}
 use Rattle.std.proofs.lemmas.Bool.{cases_lt}
 use Rattle.h5_bytes.specs.Bytes.{part, undefined_address}
 use Rattle.h5_bytes.proofs.BlockLaws.{all_left, all_right, all_so}
+use Rattle.h5_model.specs.Format.Limits.{highest_level}
 use Rattle.h5_model.specs.Format.Superblock.{highest_k}
 use Rattle.h5_model.specs.Format.Nodes.{HasTree, Kind, node_at, node_length, reading_of, tree_blocks}
 use Rattle.h5_bytes.specs.Blocks.{Run}
@@ -177,7 +178,7 @@ module _ {K : Type 0} (image : List ℕ) (kind : Kind) (bytes : K → List ℕ) 
       lasts = raised_lasts (λ (key : K). Q (bytes key)) kind place first cs holds cs_lasts;
     }
 
-    pub upper_low : level + level_over (suc levels) most (length children) ≤ 15 → level + 1 + level_over levels most (length upper) ≤ 15
+    pub upper_low : level + level_over (suc levels) most (length children) ≤ highest_level → level + 1 + level_over levels most (length upper) ≤ highest_level
     upper_low low = rw upper_wide (omega (arith, deep))
 
     pub more_grown : Grown levels (level + 1) at upper → Grown (suc levels) level at children
@@ -192,7 +193,7 @@ module _ {K : Type 0} (image : List ℕ) (kind : Kind) (bytes : K → List ℕ) 
         (subst (λ c. Tree level (suc (level_over levels most width)) at c (nodes_at at (nodes_over levels most width) ++ nodes_at place (length cs)))
         (flat-chunks kind children) all))
 
-  pub grown : (levels level at : ℕ) (children : List (Child K)) → level + level_over levels most (length children) ≤ 15 → 16 ≤ level + levels
+  pub grown : (levels level at : ℕ) (children : List (Child K)) → level + level_over levels most (length children) ≤ highest_level → 16 ≤ level + levels
       → IsGrown levels level at children → Grown levels level at children
   grown zero level at children low enough is = absurd (omega arith)
   grown (suc levels) level at children low enough is = elim (cases_lt most (length children)) [

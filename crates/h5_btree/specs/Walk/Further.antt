@@ -3,6 +3,7 @@ use Rattle.std.specs.Prelude.{◌≡◌, ℕ, ◌+◌, ◌-◌, ◌<◌, ◌≤�
 use Rattle.std.specs.List.{AllByRecursion}
 use Rattle.h5_bytes.specs.Blocks.{cover}
 use Rattle.h5_bytes.specs.declared.Block.{Block}
+use Rattle.h5_model.specs.Format.Limits.{highest_level}
 use Rattle.h5_model.specs.Format.Rows.{Node, nodes}
 use Rattle.h5_model.specs.Format.Nodes.{node_bytes, key_place, child_in, tree_blocks, node_length}
 use Rattle.h5_model.specs.Format.Reached.{Named, naming_of, Reached}
@@ -31,7 +32,7 @@ pub record AreChildrenMet (image : List ℕ) (form : TreeForm) (held : List Bloc
   pub walked : IsWalked image held followed
   pub met : (j : ℕ) → j < length node.children → IsMet image held followed (child_field image form root heap depth level at j)
   pub rooted : 1 ≤ cover root held
-  pub low : level ≤ 15
+  pub low : level ≤ highest_level
 
 -- a field at this place names one of these children of a node of this level, or stands in a node below them
 abbrev pub IsPlaceBelow : List ℕ → TreeForm → ℕ → ℕ → List ℕ → ℕ → Type 0

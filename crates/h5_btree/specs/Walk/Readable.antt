@@ -2,6 +2,7 @@
 use Rattle.std.specs.Prelude.{ℕ, ◌+◌, ◌≤◌, List, length}
 use Rattle.h5_bytes.specs.Blocks.{cover, Inside}
 use Rattle.h5_bytes.specs.declared.Block.{Block}
+use Rattle.h5_model.specs.Format.Limits.{highest_level}
 use Rattle.h5_model.specs.Format.Rows.{Node}
 use Rattle.h5_btree.specs.Walk.Forms.{TreeForm}
 use Rattle.h5_btree.specs.Walk.Trees.{IsTree, nodes_blocks}
@@ -20,7 +21,7 @@ pub record IsTreeReadable (image : List ℕ) (form : TreeForm) (root : ℕ) (hel
 pub record AreReadableBelow (image : List ℕ) (form : TreeForm) (level : ℕ) (node : Node) (held : List Block) : Type 0 where
   pub root : ℕ
   pub rooted : 1 ≤ cover root held
-  pub low : level ≤ 15
+  pub low : level ≤ highest_level
   pub below : AreBelow image form level node.children
   pub keyed : AreKeyedBelow image form level node
   pub separate : (p : ℕ) → cover p held

@@ -4,6 +4,7 @@ use Rattle.std.specs.Prelude.{◌≡◌, ℕ, ◌+◌, ◌*◌, ◌^◌, ◌<◌
 use Rattle.std.specs.List.{AllByRecursion, Contains}
 use Rattle.h5_bytes.specs.Bytes.{part}
 use Rattle.h5_bytes.specs.Blocks.{Run}
+use Rattle.h5_model.specs.Format.Limits.{highest_level}
 use Rattle.h5_model.specs.Format.Superblock.{highest_k}
 use Rattle.h5_model.specs.Format.Nodes.{Kind, HasTree, node_length, reading_of, tree_blocks}
 use Rattle.h5_model.specs.Format.PlainLength.{nodes_over}
@@ -42,7 +43,7 @@ module _ {K : Type 0} (image : List ℕ) (kind : Kind) (bytes : K → List ℕ) 
 abbrev pub TreeReads : Type 1
 TreeReads = (K : Type 0) (image : List ℕ) (kind : Kind) (bytes : K → List ℕ) (first : K) (at : ℕ) (children : List (Child K))
     → 1 ≤ kind.k → kind.k ≤ highest_k → FitsKind kind bytes first → AllFit kind bytes children → AllByRecursion (λ n. n < 2 ^ 64) (places_of children)
-    → root_level kind.k (length children) ≤ 15 → at + length (tree_bytes kind bytes first at children) < 2 ^ 63
+    → root_level kind.k (length children) ≤ highest_level → at + length (tree_bytes kind bytes first at children) < 2 ^ 63
     → part at (length (tree_bytes kind bytes first at children)) image ≡ tree_bytes kind bytes first at children
     → HasPlainNodes image kind bytes first at children
 

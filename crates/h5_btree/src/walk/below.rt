@@ -3,6 +3,7 @@
 ghost use Rattle.std.specs.Prelude.{◌≡◌, ℕ, ◌≤◌, List, [], ◌∷◌, length, IfOk, IfErr, OnOk};
 ghost use Rattle.std.specs.List.{AllByRecursion};
 ghost use Rattle.h5_bytes.specs.Blocks.{Separate};
+ghost use Rattle.h5_model.specs.Format.Limits.{highest_level};
 ghost use Rattle.h5_model.specs.Format.Rows.{leaves, nodes};
 ghost use Rattle.h5_model.specs.Format.Nodes.{entries_in, node_bytes};
 ghost use Rattle.h5_model.specs.Format.Superblock.{IsSuperblock};
@@ -33,7 +34,7 @@ pub(crate) fn claim_tree<L: Leaves>(
 ) -> Result<u8, OpenFault>
     requires end { claims.old.end ≡ length image.now.bytes }
     requires superblock { IsSuperblock image.now.bytes }
-    ensures low { IfOk result (λ level. level ≤ 15) }
+    ensures low { IfOk result (λ level. level ≤ highest_level) }
     ensures read { IfOk result (λ level. IsLevel image.now.bytes (L.form over.now) level (root ∷ [])) }
     ensures keyed { IfOk result (λ level. AreKeyedBelow image.now.bytes (L.form over.now) level
         (reading_in image.now.bytes (L.form over.now) root)) }

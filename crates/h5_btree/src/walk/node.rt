@@ -3,6 +3,7 @@
 ghost use Rattle.std.specs.Prelude.{◌≡◌, ℕ, ◌+◌, ◌≤◌, List, length, IfOk, IfErr, OnOk};
 ghost use Rattle.std.specs.List.{AllByRecursion};
 ghost use Rattle.h5_bytes.specs.Blocks.{holds, cover, Separate};
+ghost use Rattle.h5_model.specs.Format.Limits.{highest_level};
 ghost use Rattle.h5_model.specs.Format.Superblock.{IsSuperblock};
 ghost use Rattle.h5_model.specs.Format.Nodes.{IsNode, entries_in, node_block, node_bytes, node_length};
 ghost use Rattle.h5_model.specs.Faults.TreeFaults.{NodeBreach};
@@ -32,7 +33,7 @@ pub(crate) fn claim_root<'a, T: Trees>(
     ensures node { IfOk result (λ node. node ≡ reading_in image.now.bytes (T.form over.now) at) }
     ensures keys { IfOk result (λ node. AllByRecursion (λ (key : List ℕ).
         length key ≡ (kind_of image.now.bytes (T.form over.now)).key_length) node.keys) }
-    ensures low { IfOk result (λ node. node.level ≤ 15) }
+    ensures low { IfOk result (λ node. node.level ≤ highest_level) }
     ensures stands { IfOk result (λ node. IsStanding image.now.bytes (T.form over.now) node.level at) }
     ensures filled { IfOk result (λ node. 1 ≤ node.level → 1 ≤ entries_in
         (node_bytes image.now.bytes (kind_of image.now.bytes (T.form over.now)) at)) }

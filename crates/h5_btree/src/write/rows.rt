@@ -1,5 +1,6 @@
 //! The rows of a tree, the root first (File Format Specification 3.0, section III.A.1).
 ghost use Rattle.std.specs.Prelude.{◌≡◌, ◌+◌, ◌^◌, ◌<◌, ◌≤◌, ◌++◌, OnOk, length};
+ghost use Rattle.h5_model.specs.Format.Limits.{highest_level};
 ghost use Rattle.h5_btree.specs.Writing.Steps.{levels_from, rows_from};
 ghost use Rattle.h5_btree.specs.Writing.Written.{FitsKind, AllFit, root_level, tree_bytes};
 
@@ -24,7 +25,7 @@ fn push_rows<K: TreeKey>(
 ) -> Result<(), AllocError>
     requires low { 1 ≤ kind.now.k }
     requires few { length children.now < 2 ^ 32 }
-    requires level { level + levels_from kind.now.k level (length children.now) ≤ 15 }
+    requires level { level + levels_from kind.now.k level (length children.now) ≤ highest_level }
     requires first { FitsKind kind.now K.bytes first }
     requires keys { AllFit kind.now K.bytes children.now }
     requires room { at + length (rows_from kind.now K.bytes first level at children.now) < 2 ^ 63 }
@@ -61,7 +62,7 @@ pub fn push_tree<K: TreeKey>(
 ) -> Result<(), AllocError>
     requires low { 1 ≤ kind.now.k }
     requires few { length children.now < 2 ^ 32 }
-    requires level { root_level kind.now.k (length children.now) ≤ 15 }
+    requires level { root_level kind.now.k (length children.now) ≤ highest_level }
     requires first { FitsKind kind.now K.bytes first }
     requires keys { AllFit kind.now K.bytes children.now }
     requires room { at + length (tree_bytes kind.now K.bytes first at children.now) < 2 ^ 63 }

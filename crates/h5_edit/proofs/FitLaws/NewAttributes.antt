@@ -4,6 +4,7 @@ use Rattle.std.specs.Prelude.{nat_lt, ◌==◌}
 use Rattle.std.specs.List.{list_all}
 use Rattle.std.proofs.lemmas.Bool.Decides.{nat_tests}
 use Rattle.std.proofs.lemmas.Bool.{or_parts, not-false}
+use Rattle.h5_model.specs.Format.Messages.{most_body_bytes}
 use Rattle.h5_model.specs.Format.Fixed.{fits}
 use Rattle.h5_model.specs.Format.Limits.{most_cells, most_dimensions}
 use Rattle.h5_model.specs.Format.Sizes.{attribute_size}
@@ -22,7 +23,7 @@ pub record IsNewAttribute (a : AttrSpec) : Type 0 where
   pub counted : length a.values ≡ cells a.dims
   pub of_type : list_all (fits a.fixed) a.values ≡ true
   pub few : extent_cells a.dims ≤ most_cells
-  pub room : attribute_size (length a.name) a.dims (a.fixed).size ≤ 65528
+  pub room : attribute_size (length a.name) a.dims (a.fixed).size ≤ most_body_bytes
 
 pub accepted_attribute : (tree : Tree) (next : ℕ) (path : List ℕ) (a : AttrSpec) → refusal_of tree next (SetAttr path a) ≡ None → IsNewAttribute a
 unfolding refusal_of

@@ -15,7 +15,7 @@ use Rattle.h5_bytes.specs.declared.Block.{Block}
 use Rattle.h5_bytes.proofs.PartLaws.{length-part}
 use Rattle.h5_bytes.proofs.BlockLaws.{all_append}
 use Rattle.h5_model.specs.Format.Limits.{most_cells, most_dimensions}
-use Rattle.h5_model.specs.Format.Messages.{Message, IsMessage, Fills, FillBlocks, HasMessages, continuations, total_in, prefix_at, first_block, most_messages}
+use Rattle.h5_model.specs.Format.Messages.{Message, IsMessage, Fills, FillBlocks, HasMessages, continuations, total_in, prefix_at, first_block, most_messages, most_body_bytes}
 use Rattle.h5_model.specs.Format.Fixed.{Fixed, IsFixed, fixed_from, raw_at, value_at}
 use Rattle.h5_model.specs.Tree.Places.{cells, extent_cells}
 use Rattle.h5_model.specs.Format.Extent.{Extent, extent_of, extent_in, is_dataspace, rank_in, size_in}
@@ -130,7 +130,7 @@ parts_long body first =
 
 module _ (body : List ℕ) (short : length body < 65536) (padded : length body % 8 ≡ 0) where
   -- an attribute of version 1 fits in a message as it is written, one of version 2 or 3 is written as its body
-  by_version : (name : List ℕ) (a : Attribute) (b : Bool) → (byte_at body 0 == 1) ≡ b → ((byte_at body 0 == 1) ≡ true → attribute_size (length name) a.sizes (a.fixed).size ≤ 65528)
+  by_version : (name : List ℕ) (a : Attribute) (b : Bool) → (byte_at body 0 == 1) ≡ b → ((byte_at body 0 == 1) ≡ true → attribute_size (length name) a.sizes (a.fixed).size ≤ most_body_bytes)
       → attribute_of body ≡ Some (name, a) → IsKeptBody name a (if b then None else Some body)
   by_version name a true first room said = room first
   by_version name a false later room said = (said, padded, short)
@@ -150,7 +150,7 @@ module _ (body : List ℕ) (low : AreBytes body) (short : length body < 65536) (
       let there : data_place body + cells x.sizes * t.size ≤ length body = grind (arith, nat_tests, p.0) in
       let sound : IsFixed t = type_sound _ t type_is in
       let a : Attribute = record { fixed = t; sizes = x.sizes; values = values_at t body (data_place body) (cells x.sizes); body = kept_body body } in
-      let room : (byte_at body 0 == 1) ≡ true → attribute_size (length (name_in body)) x.sizes t.size ≤ 65528
+      let room : (byte_at body 0 == 1) ≡ true → attribute_size (length (name_in body)) x.sizes t.size ≤ most_body_bytes
       = λ first. omega (arith, parts_long body first, named, ended, type_room, space_room, there, short, padded) in
       let plain : extent_cells x.sizes ≤ most_cells → IsPlainAttribute (name_in body, a)
       = λ small. record {

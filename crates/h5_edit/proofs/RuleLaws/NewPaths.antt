@@ -3,6 +3,7 @@ use Rattle.std.proofs.Common.{◌≡◌, ℕ, ◌≤◌, ◌<◌, List, [], ◌�
 use Rattle.std.specs.Prelude.{nat_lt, ◌==◌, is_none, if◌then◌else◌}
 use Rattle.std.specs.Option.{option_map_or, option_and_then}
 use Rattle.std.proofs.lemmas.Bool.Decides.{nat_tests}
+use Rattle.h5_model.specs.Format.Limits.{most_name_bytes}
 use Rattle.h5_model.specs.Tree.Objects.{Tree, Link, ToObject}
 use Rattle.h5_model.specs.Tree.Paths.{Located, Here, Missing, NoParent, NoGroup, NoPath, names_of, locate, location_of, parent_from, parent_at}
 use Rattle.h5_model.specs.Edits.Refusal.{first_holding, has_no_parent, has_no_group, is_deep, is_here, is_root, last_is_long}
@@ -86,24 +87,24 @@ module _ (tree : Tree) (path : List ℕ) where
             by_names [] is = absurd (cc)
             by_names (x ∷ names) is = grind (arith, nat_tests)
 
-      long_is : long ≡ nat_lt 1023 (length name)
+      long_is : long ≡ nat_lt most_name_bytes (length name)
       long_is = elim (names_of path) as (λ o. option_and_then (parent_from tree (ToObject 0)) o ≡ Some (parent, name)
-          → option_map_or last_is_long o false ≡ nat_lt 1023 (length name)) [
+          → option_map_or last_is_long o false ≡ nat_lt most_name_bytes (length name)) [
             | None ↦ λ no. absurd (cc)
-            | Some names ↦ λ is. ap (λ (last : List ℕ). nat_lt 1023 (length last)) (last-parent tree (ToObject 0) names parent name is)
+            | Some names ↦ λ is. ap (λ (last : List ℕ). nat_lt most_name_bytes (length last)) (last-parent tree (ToObject 0) names parent name is)
           ] there
 
       pub taken_refused : (link : Link) → location_of tree path ≡ Here link → IsNotFree tree path fault.AlreadyThere
       taken_refused link here = left ∙ (λ i. new_rest (below_root i) (here i) long)
 
       module _ (missing : location_of tree path ≡ Missing) where
-        by_length : (b : Bool) → nat_lt 1023 (length name) ≡ b → path_fault (is_new_fault tree path) ≡ new_rest false Missing b
+        by_length : (b : Bool) → nat_lt most_name_bytes (length name) ≡ b → path_fault (is_new_fault tree path) ≡ new_rest false Missing b
         by_length b is = left ∙ (λ i. new_rest (below_root i) (missing i) ((long_is ∙ is) i))
 
-        pub long_refused : 1023 < length name → IsNotFree tree path fault.NameTooLong
+        pub long_refused : most_name_bytes < length name → IsNotFree tree path fault.NameTooLong
         long_refused over = by_length true (grind (arith, nat_tests))
 
-        pub free_there : (p : NewPlace) → p.parent ≡ parent → p.name.now ≡ name → length name ≤ 1023 → IsFreePlace tree path p
+        pub free_there : (p : NewPlace) → p.parent ≡ parent → p.name.now ≡ name → length name ≤ most_name_bytes → IsFreePlace tree path p
         free_there p number named short = record {
           allowed = by_length false (grind (arith, nat_tests));
           parent = there ∙ (λ i. Some (sym number i, sym named i));

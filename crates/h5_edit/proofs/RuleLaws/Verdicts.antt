@@ -2,6 +2,7 @@
 use Rattle.std.proofs.Common.{◌≡◌, ℕ, List, [], ◌∷◌, ◌++◌, refl, sym, ap, ◌∙◌, Bool, not, true, false, Option, Some, None, Result, Ok, Err}
 use Rattle.std.specs.Prelude.{MatchResult, nat_le, is_some, if◌then◌else◌}
 use Rattle.std.specs.FinMap.{get}
+use Rattle.h5_model.specs.Format.Limits.{most_numbers}
 use Rattle.h5_model.specs.Tree.Objects.{Tree, Object, Attribute, ToObject}
 use Rattle.h5_model.specs.Tree.Paths.{location_of, object_at}
 use Rattle.h5_model.specs.Scripts.Reading as reading
@@ -22,10 +23,10 @@ use Rattle.h5_edit.proofs.RuleLaws.TableLaws.{group_table, array_table, hard_tab
 -- ---- what comes behind the paths
 
 -- all numbers of objects are given out, or not
-used_up : (next : ℕ) → nat_le 4294967295 next ≡ true → first_holding (number_rules next) ≡ Some fault.TooManyObjects
+used_up : (next : ℕ) → nat_le most_numbers next ≡ true → first_holding (number_rules next) ≡ Some fault.TooManyObjects
 used_up next many = rw many refl
 
-left_over : (next : ℕ) → nat_le 4294967295 next ≡ false → first_holding (number_rules next) ≡ None
+left_over : (next : ℕ) → nat_le most_numbers next ≡ false → first_holding (number_rules next) ≡ None
 left_over next few = rw few refl
 
 module _ (tree : Tree) (next : ℕ) (path : List ℕ) where
@@ -38,10 +39,10 @@ module _ (tree : Tree) (next : ℕ) (path : List ℕ) where
     group_behind : refusal_of tree next (CreateGroup path) ≡ first_holding (number_rules next)
     group_behind = group_table tree next path ∙ ap (λ o. behind o (first_holding (number_rules next))) free.allowed
 
-    pub no_group_left : nat_le 4294967295 next ≡ true → IsRuledOut tree next (CreateGroup path) fault.TooManyObjects
+    pub no_group_left : nat_le most_numbers next ≡ true → IsRuledOut tree next (CreateGroup path) fault.TooManyObjects
     no_group_left many = group_behind ∙ used_up next many
 
-    pub group_placed : nat_le 4294967295 next ≡ false → IsPlaceAllowed tree next path (CreateGroup path) p
+    pub group_placed : nat_le most_numbers next ≡ false → IsPlaceAllowed tree next path (CreateGroup path) p
     group_placed few = record { allowed = group_behind ∙ left_over next few; parent = free.parent }
 
   -- ---- new arrays
@@ -64,10 +65,10 @@ module _ (tree : Tree) (next : ℕ) (path : List ℕ) where
         numbered : refusal_of tree next (CreateDataset path spec) ≡ first_holding (number_rules next)
         numbered = array_behind ∙ first-behind (spec_rules spec) (number_rules next) allowed
 
-        pub no_array_left : nat_le 4294967295 next ≡ true → IsRuledOut tree next (CreateDataset path spec) fault.TooManyObjects
+        pub no_array_left : nat_le most_numbers next ≡ true → IsRuledOut tree next (CreateDataset path spec) fault.TooManyObjects
         no_array_left many = numbered ∙ used_up next many
 
-        pub array_placed : nat_le 4294967295 next ≡ false → IsPlaceAllowed tree next path (CreateDataset path spec) p
+        pub array_placed : nat_le most_numbers next ≡ false → IsPlaceAllowed tree next path (CreateDataset path spec) p
         array_placed few = record { allowed = numbered ∙ left_over next few; parent = free.parent }
 
   -- ---- new soft links

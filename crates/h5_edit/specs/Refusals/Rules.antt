@@ -2,9 +2,10 @@
 use Rattle.std.specs.Prelude.{◌≡◌, ℕ, ℤ, ◌*◌, ◌==◌, ◌&&◌, ◌||◌, Bool, false, not, nat_lt, nat_le, if◌then◌else◌, is_none, is_some, Option, Some, None, List, [], ◌∷◌, length}
 use Rattle.std.specs.List.{list_all}
 use Rattle.std.specs.Option.{option_map_or}
+use Rattle.h5_model.specs.Format.Messages.{most_body_bytes}
 use Rattle.h5_model.specs.Edits.EditFaults.{fault_number}
 use Rattle.h5_model.specs.Format.Fixed.{Fixed, fits}
-use Rattle.h5_model.specs.Format.Limits.{most_cells, most_dimensions, most_hard_links}
+use Rattle.h5_model.specs.Format.Limits.{most_cells, most_dimensions, most_hard_links, most_name_bytes, most_numbers}
 use Rattle.h5_model.specs.Tree.Places.{cells, extent_cells}
 use Rattle.h5_model.specs.Format.Sizes.{attribute_size}
 use Rattle.h5_model.specs.Tree.Objects.{Tree, ToObject, links_of, hard_links}
@@ -59,7 +60,7 @@ is_object_fault tree path _ = false
 -- the rules of the text of a soft link
 abbrev pub is_text_fault : List ℕ → EditFault → Bool
 is_text_fault text fault.BadPath = is_no_text text
-is_text_fault text fault.NameTooLong = nat_lt 1023 (length text)
+is_text_fault text fault.NameTooLong = nat_lt most_name_bytes (length text)
 is_text_fault text _ = false
 
 -- the fault with the lower number
@@ -97,12 +98,12 @@ target_rules tree number =
 -- a new attribute (section IV.A.2.m)
 abbrev pub own_rules : AttrSpec → List (EditFault × Bool)
 own_rules a =
-    (fault.NameTooLong, nat_lt 1023 (length a.name))
+    (fault.NameTooLong, nat_lt most_name_bytes (length a.name))
     ∷ (fault.BadSpec, nat_lt most_dimensions (length a.dims) || is_no_text a.name)
     ∷ (fault.TooManyCells, nat_lt most_cells (extent_cells a.dims))
     ∷ (fault.ValueCount, not (length a.values == cells a.dims))
     ∷ (fault.ValueRange, not (list_all (fits a.fixed) a.values))
-    ∷ (fault.AttributeTooLarge, nat_lt 65528 (attribute_size (length a.name) a.dims (a.fixed).size))
+    ∷ (fault.AttributeTooLarge, nat_lt most_body_bytes (attribute_size (length a.name) a.dims (a.fixed).size))
     ∷ []
 
 -- a new array
@@ -128,4 +129,4 @@ value_rules fixed hyper values = counted_rules fixed (selected_cells (axes_of hy
 
 -- a new object
 abbrev pub number_rules : ℕ → List (EditFault × Bool)
-number_rules next = (fault.TooManyObjects, nat_le 4294967295 next) ∷ []
+number_rules next = (fault.TooManyObjects, nat_le most_numbers next) ∷ []

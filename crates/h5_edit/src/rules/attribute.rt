@@ -1,7 +1,7 @@
 //! Attributes to be set and removed (File Format Specification 3.0, section IV.A.2.m).
 
 ghost use Rattle.std.specs.Prelude.{◌≡◌, ◌≤◌, ◌^◌, Some, None, IfOk, MatchResult};
-ghost use Rattle.h5_model.specs.Format.Limits.{most_cells};
+ghost use Rattle.h5_model.specs.Format.Limits.{most_cells, most_name_bytes};
 ghost use Rattle.h5_model.specs.declared.edits.Edit.TheVariants.{SetAttr, RemoveAttr};
 ghost use Rattle.h5_model.specs.Format.Fixed.{IsFixed};
 ghost use Rattle.h5_model.specs.Tree.Places.{cells};
@@ -113,7 +113,7 @@ fn check_own(attr: &AttrSpec) -> Result<(), EditFault>
 
 /// How many bytes the body of an attribute's message has, with a name of so many bytes and values of so many.
 fn body_length(name: usize, dims: &Dims, size: usize) -> u64
-    requires name { name ≤ 1023 }
+    requires name { name ≤ most_name_bytes }
     requires few { cells dims.now ≤ most_cells }
     requires size { size ≤ 8 }
     ensures { result ≡ attribute_size name dims.now size }

@@ -1,6 +1,7 @@
 //! Where a new link is to stand, and the object at a path.
 
 ghost use Rattle.std.specs.Prelude.{◌≡◌, nat_le, MatchResult};
+ghost use Rattle.h5_model.specs.Format.Limits.{most_numbers};
 ghost use Rattle.h5_query.specs.Opened.Sound.{IsSound};
 ghost use Rattle.h5_query.specs.Place.{IsNoObject};
 ghost use Rattle.h5_edit.specs.Refusals.Rules.{IsFreePlace, IsNotFree, IsObject, lower_fault};
@@ -59,7 +60,7 @@ pub(crate) fn object_at<'a>(opened: &'a Opened, path: &[u8]) -> Result<ObjectAt<
 
 /// Whether all numbers of objects are given out.
 pub(crate) fn is_full(opened: &Opened) -> bool
-    ensures { result ≡ nat_le 4294967295 opened.now.next }
+    ensures { result ≡ nat_le most_numbers opened.now.next }
 {
     opened.next() == MAX_OBJECTS
 }

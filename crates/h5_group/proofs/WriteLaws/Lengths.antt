@@ -5,6 +5,7 @@ use Rattle.std.specs.List.{AllZip}
 use Rattle.std.specs.FinMap.{entries, len-entries}
 use Rattle.std.proofs.lemmas.List.Sums.{sum_by-cons}
 use Rattle.h5_bytes.specs.Numbers.{word}
+use Rattle.h5_model.specs.Format.Limits.{highest_level}
 use Rattle.h5_model.specs.Format.Nodes.{group_kind, node_length}
 use Rattle.h5_model.specs.Format.PlainLength.{rows_of, nodes_over}
 use Rattle.h5_model.specs.Format.PlainLength as plain
@@ -36,7 +37,7 @@ module _ (leaf internal at : ℕ) (links : List (List ℕ × Leads)) where
   abbrev pub the_children : List (Child ℕ)
   the_children = children_of leaf (symbols_place leaf internal at links) the_runs
 
-  module _ (k : AreK leaf internal) (low : tree_level leaf internal links ≤ 15) where
+  module _ (k : AreK leaf internal) (low : tree_level leaf internal links ≤ highest_level) where
     -- as many runs as symbol nodes
     pub runs_counted : length the_runs ≡ symbol_nodes leaf links
     runs_counted = nodes_end leaf links k.leaf_low
@@ -44,8 +45,8 @@ module _ (leaf internal at : ℕ) (links : List (List ℕ × Leads)) where
     pub children_counted : length the_children ≡ symbol_nodes leaf links
     children_counted = length-children leaf (symbols_place leaf internal at links) the_runs ∙ runs_counted
 
-    pub level_low : root_level internal (length the_children) ≤ 15
-    level_low = subst (λ n. root_level internal n ≤ 15) (sym children_counted) low
+    pub level_low : root_level internal (length the_children) ≤ highest_level
+    level_low = subst (λ n. root_level internal n ≤ highest_level) (sym children_counted) low
 
     pub nodes_long : length (nodes_bytes leaf the_runs) ≡ symbol_nodes leaf links * symbol_node leaf
     nodes_long = length-nodes leaf the_runs (runs_pieces leaf k.leaf_low (placed_links links)) ∙ ap (λ n. n * symbol_node leaf) runs_counted

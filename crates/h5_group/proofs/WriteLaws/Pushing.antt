@@ -2,7 +2,7 @@
 use Rattle.std.proofs.Common.{◌≡◌, ℕ, ◌+◌, ◌*◌, ◌^◌, ◌<◌, ◌≤◌, List, ◌++◌, length, map, sym, ap, ◌∙◌, subst, arith}
 use Rattle.std.specs.List.{flat_map, sum_by}
 use Rattle.h5_bytes.specs.Numbers.{word}
-use Rattle.h5_model.specs.Format.Limits.{most_bytes}
+use Rattle.h5_model.specs.Format.Limits.{most_bytes, highest_level}
 use Rattle.h5_model.specs.Format.Nodes.{group_kind}
 use Rattle.h5_model.specs.Format.Superblock.{AreK}
 use Rattle.h5_model.specs.Format.Sizes.{symbol_node}
@@ -47,8 +47,8 @@ module _ (leaf internal : ℕ) (links : List (Link ObjectPlace)) (k : AreK leaf 
     pub children_few : length children < 2 ^ 32
     children_few = subst (λ n. n < 2 ^ 32) (sym (ap length children_are ∙ children_counted leaf internal at those k are.low)) nodes_few
 
-    pub children_level : root_level internal (length children) ≤ 15
-    children_level = subst (λ (cs : List (Child ℕ)). root_level internal (length cs) ≤ 15) (sym children_are) (level_low leaf internal at those k are.low)
+    pub children_level : root_level internal (length children) ≤ highest_level
+    children_level = subst (λ (cs : List (Child ℕ)). root_level internal (length cs) ≤ highest_level) (sym children_are) (level_low leaf internal at those k are.low)
 
     tree_is : length (tree_bytes (group_kind internal) word 0 at children) ≡ p.tree
     tree_is = ap (λ cs. length (tree_bytes (group_kind internal) word 0 at cs)) children_are ∙ tree_long leaf internal at those k are.low ∙ sym are.tree

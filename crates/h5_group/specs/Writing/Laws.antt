@@ -6,7 +6,7 @@ use Rattle.std.specs.FinMap.{entries}
 use Rattle.h5_bytes.specs.Bytes.{part}
 use Rattle.h5_bytes.specs.Blocks.{Inside, cover, holds}
 use Rattle.h5_bytes.specs.declared.Block.{Block}
-use Rattle.h5_model.specs.Format.Limits.{most_bytes}
+use Rattle.h5_model.specs.Format.Limits.{most_bytes, highest_level}
 use Rattle.h5_model.specs.Format.Links.{HasLinks, Ascend}
 use Rattle.h5_model.specs.Tree.Paths.{is_name}
 use Rattle.h5_model.specs.Format.PlainLength.{group_bytes}
@@ -22,7 +22,7 @@ pub record ArePlainLinks (leaf internal : ℕ) (links : List (List ℕ × Leads)
   pub ascending : Ascend (map target_link links)
   pub named : AllByRecursion (λ (l : List ℕ × Leads). is_name l.0 ≡ true) links
   pub spelled : AllByRecursion IsSpelled links
-  pub low : tree_level leaf internal links ≤ 15
+  pub low : tree_level leaf internal links ≤ highest_level
 
 -- the group has these links, in blocks that hold each of its bytes once
 pub record IsPlainGroup (image : List ℕ) (leaf internal at : ℕ) (links : List (List ℕ × Leads)) : Type 0 where

@@ -4,7 +4,7 @@ ghost use Rattle.h5_model.specs.Format.Superblock.{AreK};
 ghost use Rattle.h5_heap.specs.Writing.Links.{name_and_leads};
 ghost use Rattle.h5_group.specs.Writing.Places.{IsTooLarge, ArePlaces};
 
-use h5_btree::{NodeKind, nodes_over, root_level, rows_of};
+use h5_btree::{MAX_LEVEL, NodeKind, nodes_over, root_level, rows_of};
 use h5_heap::{ObjectPlace, segment_length};
 use h5_model::{KValues, Link};
 use h5_space::MAXIMUM_IMAGE;
@@ -63,7 +63,7 @@ pub fn group_places(k: &KValues, links: &[Link<'_, ObjectPlace>]) -> Result<Grou
     if length > MAXIMUM_IMAGE {
         return Err(GroupFault::TooLong);
     }
-    if root_level(&kind, nodes) > 15 {
+    if root_level(&kind, nodes) > MAX_LEVEL as u32 {
         return Err(GroupFault::TooDeep);
     }
     Ok(GroupPlaces {

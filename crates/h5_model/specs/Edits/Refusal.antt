@@ -4,7 +4,8 @@ use Rattle.std.specs.FinMap.{get, contains_key}
 use Rattle.std.specs.List.{list_any, list_all}
 use Rattle.std.specs.Option.{option_map_or, option_and_then}
 use Rattle.h5_bytes.specs.Bytes.{undefined_address}
-use Rattle.h5_model.specs.Format.Limits.{most_cells, most_chunk_bytes, most_dimensions, most_hard_links, most_names}
+use Rattle.h5_model.specs.Format.Messages.{most_body_bytes}
+use Rattle.h5_model.specs.Format.Limits.{most_cells, most_chunk_bytes, most_dimensions, most_hard_links, most_names, most_name_bytes, most_numbers}
 use Rattle.h5_model.specs.Format.Fixed.{fits}
 use Rattle.h5_model.specs.Format.Layout.{most_compact_bytes}
 use Rattle.h5_model.specs.Tree.Places.{cells, extent_cells}
@@ -94,12 +95,12 @@ abbrev pub not_found : Tree → Edit → Bool
 not_found tree edit = list_any (λ p. is_missing (location_of tree p) || (needs_object edit && is_soft (location_of tree p))) (old_path edit)
 
 abbrev pub last_is_long : List (List ℕ) → Bool
-last_is_long names = nat_lt 1023 (length (last_of names))
+last_is_long names = nat_lt most_name_bytes (length (last_of names))
 
 -- the new name, the attribute's name, or the soft link's text is too long
 abbrev pub is_long : Edit → Bool
-is_long (SoftLink text path) = nat_lt 1023 (length text) || option_map_or last_is_long (names_of path) false
-is_long (SetAttr path attr) = nat_lt 1023 (length attr.name)
+is_long (SoftLink text path) = nat_lt most_name_bytes (length text) || option_map_or last_is_long (names_of path) false
+is_long (SetAttr path attr) = nat_lt most_name_bytes (length attr.name)
 is_long edit = list_any (λ p. option_map_or last_is_long (names_of p) false) (new_path edit)
 
 -- ---- objects
@@ -222,7 +223,7 @@ some_value_outside tree (Write path hyper values) = option_map_or (λ (d : Datas
 some_value_outside tree _ = false
 
 abbrev pub has_large_body : Edit → Bool
-has_large_body (SetAttr path attr) = nat_lt 65528 (attribute_size (length attr.name) attr.dims (attr.fixed).size)
+has_large_body (SetAttr path attr) = nat_lt most_body_bytes (attribute_size (length attr.name) attr.dims (attr.fixed).size)
 has_large_body _ = false
 
 abbrev pub has_no_attribute : Tree → Edit → Bool
@@ -236,8 +237,8 @@ has_many_links tree _ = false
 
 -- the next object's number is past the last
 abbrev pub has_many_objects : ℕ → Edit → Bool
-has_many_objects next (CreateGroup path) = nat_le 4294967295 next
-has_many_objects next (CreateDataset path spec) = nat_le 4294967295 next
+has_many_objects next (CreateGroup path) = nat_le most_numbers next
+has_many_objects next (CreateDataset path spec) = nat_le most_numbers next
 has_many_objects next _ = false
 
 -- ---- the table

@@ -6,6 +6,7 @@ use Rattle.std.specs.List.{flat_map, Contains}
 use Rattle.h5_bytes.specs.Bytes.{byte_at, part, undefined_address}
 use Rattle.h5_bytes.specs.Texts.{text_at}
 use Rattle.h5_bytes.specs.declared.Block.{Block}
+use Rattle.h5_model.specs.Format.Limits.{highest_level}
 use Rattle.h5_model.specs.Format.Superblock.{leaf_k, internal_k}
 use Rattle.h5_model.specs.Format.Heap.{heap_header, segment_of, IsHeap, HasNames}
 use Rattle.h5_model.specs.Format.Rows.{first_or_undefined, row_below, nodes}
@@ -20,7 +21,7 @@ use Rattle.h5_model.specs.Format.Reached.{Shape, shape_kind, level_at, entry_in}
 abbrev pub NodeBreach : List ℕ → Kind → ℕ → ℕ → ℕ → Type 0
 NodeBreach image kind root level at =
     (part 0 4 (node_bytes image kind at) ≢ node_signature) ⊎ ((byte_at (node_bytes image kind at) 4 ≢ kind.type_byte)
-    ⊎ ((level_at image kind at ≢ level) ⊎ ((15 < level) ⊎ ((2 * kind.k < entries_in (node_bytes image kind at))
+    ⊎ ((level_at image kind at ≢ level) ⊎ ((highest_level < level) ⊎ ((2 * kind.k < entries_in (node_bytes image kind at))
     ⊎ ((entries_in (node_bytes image kind at) ≡ 0) × IsTrue (not (at == root && level == 0)))))))
 
 -- a symbol node is not of its form, or has an entry of another cache type than the three

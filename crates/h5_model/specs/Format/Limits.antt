@@ -28,3 +28,23 @@ most_bytes = 2 ^ 31
 -- the views that a session has open
 abbrev pub most_views : ℕ
 most_views = 1024
+
+-- the numbers that are given out to objects while a file is open, and those that are given out to views
+abbrev pub most_numbers : ℕ
+most_numbers = 4294967295
+
+-- the bytes of a link's or an attribute's name, and of the text of a soft link
+abbrev pub most_name_bytes : ℕ
+most_name_bytes = 1023
+
+-- the level of a tree's root
+abbrev pub highest_level : ℕ
+highest_level = 15
+
+-- the bytes of a line of a script
+abbrev pub most_line_bytes : ℕ
+most_line_bytes = 2 ^ 20
+
+-- the bytes of a script
+abbrev pub most_script_bytes : ℕ
+most_script_bytes = 2 ^ 24

@@ -27,6 +27,10 @@ pub record IsMessage (block_at : ℕ) (bytes : List ℕ) (at : ℕ) (m : Message
 abbrev pub most_messages : ℕ
 most_messages = 65535
 
+-- the most bytes of a message's body: two bytes count them, and they are a multiple of 8
+abbrev pub most_body_bytes : ℕ
+most_body_bytes = 65528
+
 -- these messages fill a block's bytes, one after another from this place on
 abbrev pub Fills : ℕ → List ℕ → ℕ → List Message → Type 0
 Fills block_at bytes at [] = at ≡ length bytes

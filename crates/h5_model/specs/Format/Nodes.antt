@@ -6,6 +6,7 @@ use Rattle.h5_bytes.specs.Bytes.{number_at, byte_at, part}
 use Rattle.h5_bytes.specs.Blocks.{block}
 use Rattle.h5_bytes.specs.declared.Block.{Block}
 use Rattle.h5_bytes.specs.Tables.{table}
+use Rattle.h5_model.specs.Format.Limits.{highest_level}
 use Rattle.h5_model.specs.Format.Rows.{Node, Reading, blank, only, AreRows, leaves, nodes}
 
 abbrev pub node_signature : List ℕ
@@ -76,7 +77,7 @@ reading_of image kind owned = only blank (node_at image kind) owned
 -- The tree of this kind at this root has this level, owns these nodes, and has these children at the bottom, in order. Only a root
 -- at level 0 has no children.
 pub record HasTree (image : List ℕ) (kind : Kind) (root level : ℕ) (owned children : List ℕ) : Type 0 where
-  pub low : level ≤ 15
+  pub low : level ≤ highest_level
   pub formed : AllByRecursion (λ at. IsNode kind (node_bytes image kind at)) owned
   pub filled : 1 ≤ level → AllByRecursion (λ at. 1 ≤ entries_in (node_bytes image kind at)) owned
   pub rows : AreRows (reading_of image kind owned) level (root ∷ [])

@@ -5,6 +5,7 @@ use Rattle.std.specs.List.{flat_map, find}
 use Rattle.h5_bytes.specs.Bytes.{number_at, part}
 use Rattle.h5_bytes.specs.Blocks.{block, Inside}
 use Rattle.h5_bytes.specs.declared.Block.{Block}
+use Rattle.h5_model.specs.Format.Limits.{highest_level}
 use Rattle.h5_model.specs.Format.Superblock.{superblock_length, leaf_k, internal_k, chunk_k, root_header, root_header_place}
 use Rattle.h5_model.specs.Format.MessageTypes.{dataspace_kind, datatype_kind, data_layout_kind, continuation_kind, symbol_table_kind}
 use Rattle.h5_model.specs.Format.Messages.{Message, FillBlocks, continuations, prefix_at, first_size, first_block, first_body}
@@ -148,13 +149,13 @@ FromSymbols image node depth y = (i : ℕ) × (i < symbols_in (symbol_bytes imag
 abbrev pub Names : List ℕ → Role → ℕ → ℕ → Named → Type 0
 Names image ObjectHeader header depth y = FromHeader image header depth y
 Names image (Continuation header) at depth y = ⊥
-Names image (GroupNode root heap level) node depth y = (level ≤ 15)
+Names image (GroupNode root heap level) node depth y = (level ≤ highest_level)
     × FromNode image (group_kind (internal_k image)) (if level == 0 then SymbolNode root heap else GroupNode root heap (level - 1)) node depth y
 Names image (SymbolNode root heap) node depth y = FromSymbols image node depth y
 Names image (HeapHeader root) heap depth y = y ≡ naming_of (heap + 24) Segment (segment_place (heap_header image heap)) depth
 Names image Segment at depth y = ⊥
 Names image Data at depth y = ⊥
-Names image (ChunkNode shape root level) node depth y = (level ≤ 15)
+Names image (ChunkNode shape root level) node depth y = (level ≤ highest_level)
     × FromNode image (shape_kind image shape) (if level == 0 then Chunk shape.bytes else ChunkNode shape root (level - 1)) node depth y
 Names image (Chunk bytes) at depth y = ⊥
 

@@ -4,7 +4,7 @@ use Rattle.std.specs.Fmt.{decimal}
 use Rattle.std.specs.List.{range_with_len}
 use Rattle.std.specs.FinMap.{get, insert, remove, contains_key, len}
 use Rattle.std.specs.Option.{option_map_or}
-use Rattle.h5_model.specs.Format.Limits.{most_views}
+use Rattle.h5_model.specs.Format.Limits.{most_views, most_numbers}
 use Rattle.h5_model.specs.Format.Fixed.{Fixed, value_at}
 use Rattle.h5_model.specs.Views.Selection.{axes_of}
 use Rattle.h5_model.specs.Tree.Objects.{Tree, ToObject, Soft, dataset_of}
@@ -65,9 +65,9 @@ with_new_view s number hyper = record s {
   next_view = s.next_view + 1;
 }
 
--- `most_views` are open, or the numbers of views are used up: they are those below 4294967295
+-- `most_views` are open, or the numbers of views are used up: they are those below `most_numbers`
 abbrev pub has_many_views : Session → Bool
-has_many_views s = nat_le most_views (len s.views) || nat_le 4294967295 s.next_view
+has_many_views s = nat_le most_views (len s.views) || nat_le most_numbers s.next_view
 
 -- the rules of the path and the selection, then TooManyViews, then NoMemory; a view that is opened takes the next number
 abbrev pub view_decided : Session → Hyper → Given → Option EditFault → Option ℕ → Answer

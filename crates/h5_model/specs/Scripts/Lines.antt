@@ -3,6 +3,7 @@
 use Rattle.std.specs.Prelude.{ℕ, zero, suc, ◌+◌, ◌-◌, ◌*◌, ◌^◌, ◌==◌, ◌&&◌, ◌||◌, Bool, true, false, not, nat_le, nat_lt, if◌then◌else◌, ℤ, pos, neg_ℤ, Option, Some, None, List, [], ◌∷◌, ◌++◌, map, filter_map, length, drop, take, slice_index, codes, find, option_map, option_and_then, unwrap_or}
 use Rattle.std.specs.Str.{bytes_eq}
 use Rattle.std.specs.List.{list_any, list_all, slice_split, suffix_len}
+use Rattle.h5_model.specs.Format.Limits.{most_line_bytes, most_script_bytes}
 use Rattle.h5_model.specs.Format.Fixed.{Fixed}
 use Rattle.h5_model.specs.Scripts.Text.{is_plain, type_text}
 use Rattle.h5_model.specs.declared.hyperslab.Hyper.{Hyper}
@@ -174,7 +175,7 @@ command_in words = if list_any is_empty_word words then Unread else unwrap_or (w
 -- what a line asks for; None of a line that is passed over
 unfoldable pub line_asks : List ℕ → Option Command
 line_asks line =
-    if nat_lt 1048576 (length line) then Some Unread
+    if nat_lt most_line_bytes (length line) then Some Unread
     else (if length line == 0 || slice_index line 0 == 35 then None else Some (command_in (slice_split (λ c. c == 32) line)))
 
 -- what the lines of a script ask for; behind the last LF an empty line is passed over
@@ -187,4 +188,4 @@ finished_lines script = take (length script - suffix_len (λ c. not (c == 10)) s
 
 -- the longest part of a script that is run
 abbrev pub within_limit : List ℕ → List ℕ
-within_limit script = if nat_lt 16777216 (length script) then finished_lines (take 16777216 script) else script
+within_limit script = if nat_lt most_script_bytes (length script) then finished_lines (take most_script_bytes script) else script

@@ -6,6 +6,7 @@ use Rattle.std.specs.Ordering.{nat_cmp}
 use Rattle.std.specs.BTreeMap.{BTreeMap}
 use Rattle.std.specs.FinMap.{FinMap, from_entries}
 use Rattle.std.proofs.lemmas.List.{length-replicate}
+use Rattle.h5_model.specs.Format.Limits.{most_numbers}
 use Rattle.h5_model.specs.Format.Reads.{Reads}
 use Rattle.h5_model.specs.Tree.Objects.{Object}
 use Rattle.h5_space.specs.Space.{Space}
@@ -55,7 +56,7 @@ module _ (image : Space) (slots : List (Option OpenedObject)) (k : ℕ) where
       ap (λ (table : FinMap nat_cmp ℕ). from_entries (standing 0 (map (option_map (object_in image.bytes table)) grown))) table_grown
       ∙ ap (λ (es : List (ℕ × Object)). from_entries es) (told_grown (object_in image.bytes (table_of slots)))
 
-  pub opened_grown : (numbers : BTreeMap ℕ ℕ) → IsOpened image slots numbers → length slots + k ≤ 4294967295 → IsOpened image grown numbers
+  pub opened_grown : (numbers : BTreeMap ℕ ℕ) → IsOpened image slots numbers → length slots + k ≤ most_numbers → IsOpened image grown numbers
   opened_grown numbers opened low = record {
     reads = subst (Reads image.bytes (table_of grown)) (sym tree_grown)
         (subst (λ table. Reads image.bytes table (tree_of image.bytes slots)) (sym table_grown) opened.reads);

@@ -5,6 +5,7 @@ use Rattle.std.specs.List.{AllByRecursion}
 use Rattle.std.specs.Ordering.{nat_cmp}
 use Rattle.std.specs.BTreeMap.{BTreeMap, get as lookup}
 use Rattle.std.specs.FinMap.{FinMap, get}
+use Rattle.h5_model.specs.Format.Limits.{most_numbers}
 use Rattle.h5_model.specs.Edits.Refusal.{is_chunked}
 use Rattle.h5_model.specs.Format.Addresses.{symbol_table_of}
 use Rattle.h5_model.specs.Format.MessageTypes.{symbol_table_kind}
@@ -60,5 +61,5 @@ pub record IsOpened (image : Space) (slots : List (Option OpenedObject)) (number
   pub reads : Reads image.bytes (table_of slots) (tree_of image.bytes slots)
   pub each : AllByRecursion (IsObjectKept image.bytes) (objects_of slots)
   pub index : IsIndex (table_of slots) numbers
-  pub low : length slots ≤ 4294967295
+  pub low : length slots ≤ most_numbers
   pub apart : IsApart (opened_blocks image.bytes (objects_of slots)) image.free (length image.bytes)

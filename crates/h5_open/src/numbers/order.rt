@@ -1,6 +1,7 @@
 //! Objects of an opened image in another order.
 
 ghost use Rattle.std.specs.Prelude.{◌≡◌, ◌+◌, ◌-◌, ◌<◌, ◌≤◌, ◌++◌, None, OnErr, OnOk, length, replicate};
+ghost use Rattle.h5_model.specs.Format.Limits.{most_numbers};
 ghost use Rattle.h5_open.specs.Opened.Kept.{IsOpened, IsIndex};
 ghost use Rattle.h5_open.specs.Opened.Objects.{table_of};
 ghost use Rattle.h5_open.specs.Opened.Sound.{IsHeaderIn};
@@ -24,7 +25,7 @@ pub(crate) fn renumber(
     requires opened { IsOpened image.now index.old.objects.items index.old.numbers }
     requires read { IsReadAt image.now.bytes headers.now }
     requires given { length index.old.objects.items ≤ length headers.now }
-    requires few { length headers.now ≤ 4294967295 }
+    requires few { length headers.now ≤ most_numbers }
     ensures opened { OnOk result (IsOpened image.now index.new.objects.items index.new.numbers) }
     ensures table { OnOk result (table_of index.new.objects.items ≡ table_with headers.now) }
     ensures length { OnOk result (length index.new.objects.items ≡ length headers.now) }

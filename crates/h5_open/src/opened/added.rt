@@ -6,7 +6,7 @@ ghost use Rattle.std.specs.Ordering.{nat_cmp};
 ghost use Rattle.h5_bytes.specs.Blocks.{block};
 ghost use Rattle.h5_bytes.specs.Bytes.{part};
 ghost use Rattle.h5_model.specs.Format.Addresses.{SymbolTable};
-ghost use Rattle.h5_model.specs.Format.Limits.{most_bytes};
+ghost use Rattle.h5_model.specs.Format.Limits.{most_bytes, most_numbers};
 ghost use Rattle.h5_model.specs.Format.Messages.{Message};
 ghost use Rattle.h5_model.specs.Format.Sizes.{text_span};
 ghost use Rattle.h5_model.specs.Tree.Objects.{Object, link_in, links_of};
@@ -114,7 +114,7 @@ impl Opened {
     ) -> Result<(), InsertFault>
         requires group { IsSome (links_of self.old.tree parent) }
         requires free { link_in self.old.tree parent name.now ≡ None }
-        requires few { self.old.next < 4294967295 }
+        requires few { self.old.next < most_numbers }
         requires good { (o : Object) × IsToBeMade self.old object.now o
             × IsSoundTree (tree_with self.old.tree parent name.now self.old.next o) }
         ensures changed { OnOk result ((table : SymbolTable) (o : Object) → IsGroupOf self.old parent table
@@ -185,7 +185,7 @@ fn keep_laid(
     at: u64,
     object: &ObjectBytes<'_>,
 ) -> Result<(), AllocError>
-    requires few { length index.old.objects.items < 4294967295 }
+    requires few { length index.old.objects.items < most_numbers }
     requires header { (ms : List Message) × IsHeaderBytes object.now.header.now at ms }
     requires low { at + length object.now.header.now ≤ most_bytes }
     ensures kept { OnOk result ((o : Kept) × IsKeptFor at object.now o

@@ -7,7 +7,7 @@ use Rattle.std.proofs.lemmas.Option.{slice_get-get_or}
 use Rattle.std.specs.Prelude.{slice_get}
 use Rattle.std.specs.List.{AllByRecursion, flat_map}
 use Rattle.h5_model.specs.Format.Fixed.{Fixed}
-use Rattle.h5_model.specs.Format.Limits.{most_chunk_bytes}
+use Rattle.h5_model.specs.Format.Limits.{most_chunk_bytes, highest_level}
 use Rattle.h5_model.specs.Format.Superblock.{highest_k}
 use Rattle.h5_model.specs.Format.Nodes.{Kind, chunk_kind, node_length}
 use Rattle.h5_model.specs.Format.PlainLength.{nodes_over}
@@ -191,9 +191,9 @@ module _ (k : ℕ) (some_k : 1 ≤ k) (h : HeldCells) (ranked : AreRankedParts h
           (subst (λ (cs : List (Child (List ℕ))). AllFit (chunk_kind k (length h.chunk)) (λ (key : List ℕ). key) cs) (sym are)
           (fit_to (chunk_kind k (length h.chunk)) chunk_key own (keys_fit k some_k h.chunk size begin (part_offsets h) (ranked_offsets h.chunk h.parts ranked)))))
 
-      pub level_low : root_level k (length h.parts) ≤ 15 → root_level kind.k (length children) ≤ 15
+      pub level_low : root_level k (length h.parts) ≤ highest_level → root_level kind.k (length children) ≤ highest_level
       level_low low =
-          subst (λ (x : Kind). root_level x.k (length children) ≤ 15) (sym kind_is) (subst (λ n. root_level k n ≤ 15) (sym as_many_children) low)
+          subst (λ (x : Kind). root_level x.k (length children) ≤ highest_level) (sym kind_is) (subst (λ n. root_level k n ≤ highest_level) (sym as_many_children) low)
 
       module _ (place nodes : ℕ) (nodes_are : nodes ≡ nodes_over 64 (2 * kind.k) (length h.parts) * node_length kind) where
         pub tree_long : length (tree_bytes kind key_bytes first place children) ≡ nodes

@@ -25,7 +25,7 @@ use Rattle.h5_model.specs.Format.Fill.{fill_value, old_fill_value, chosen_fill}
 use Rattle.h5_model.specs.Format.Fixed.{Fixed, IsFixed, fits}
 use Rattle.h5_model.specs.Edits.Refusal.{is_chunked}
 use Rattle.h5_model.specs.Format.Layout.{Layout, InMessage, InBlock, InChunks, layout_of, most_compact_bytes}
-use Rattle.h5_model.specs.Format.Messages.{Message, HasMessages, prefix_at, reference_count, count_of, first_body, most_messages}
+use Rattle.h5_model.specs.Format.Messages.{Message, HasMessages, prefix_at, reference_count, count_of, first_body, most_messages, most_body_bytes}
 use Rattle.h5_model.specs.Tree.Places.{cells, extent_cells, index_of, place_of}
 use Rattle.h5_model.specs.Format.Bodies.{padded_body, datatype_bytes, fill_bytes, compact_bytes, contiguous_bytes, chunked_bytes}
 use Rattle.h5_model.specs.Format.Plain.{header_bytes, cells_bytes}
@@ -59,7 +59,7 @@ other_in_dataset kind is = grind (arith, nat_tests)
 
 -- a body that a layout message may have
 abbrev pub IsLayoutBody : List ℕ → Type 0
-IsLayoutBody body = length body ≤ 65528
+IsLayoutBody body = length body ≤ most_body_bytes
 
 -- ---- any array, whatever its layout
 

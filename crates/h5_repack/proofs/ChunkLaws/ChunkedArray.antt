@@ -15,7 +15,7 @@ use Rattle.h5_model.specs.Format.Bodies.{chunked_bytes, padded_body}
 use Rattle.h5_model.specs.Format.Chunks.{HasChunks, IsOffset}
 use Rattle.h5_model.specs.Format.Fixed.{IsFixed}
 use Rattle.h5_model.specs.Format.Layout.{InChunks, layout_of}
-use Rattle.h5_model.specs.Format.Limits.{most_bytes, most_dimensions}
+use Rattle.h5_model.specs.Format.Limits.{most_bytes, most_dimensions, highest_level}
 use Rattle.h5_model.specs.Format.Messages.{prefix_at, reference_count, most_messages}
 use Rattle.h5_model.specs.Format.Plain.{cells_bytes}
 use Rattle.h5_model.specs.Format.PlainLength.{data_bytes}
@@ -69,7 +69,7 @@ module _ (d : Dataset) (chunk : List ℕ) (e : d.storage ≡ Chunked chunk) (fix
         let any : (length stored == 0) ≡ false = grind (arith, nat_tests) in
         rw (e, any) (sym (length-chunked k some_k chunk d first others place (ranked_of [] d chunk grid stored held)))
 
-    module _ (image : List ℕ) (k_is : chunk_k image ≡ k) (few_k : k ≤ highest_k) (low_tree : root_level k (length (first ∷ others)) ≤ 15) (few : length d.sizes ≤ most_dimensions) (room : place + length bytes < 2 ^ 63)
+    module _ (image : List ℕ) (k_is : chunk_k image ≡ k) (few_k : k ≤ highest_k) (low_tree : root_level k (length (first ∷ others)) ≤ highest_level) (few : length d.sizes ≤ most_dimensions) (room : place + length bytes < 2 ^ 63)
         (there : part place (length bytes) image ≡ bytes) where
       says : layout_of d.sizes (d.fixed).size (padded_body (array_layout d (Some place))) ≡ Some (InChunks chunk (Some place))
       says =

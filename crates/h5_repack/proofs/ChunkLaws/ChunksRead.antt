@@ -8,6 +8,7 @@ use Rattle.h5_bytes.specs.Bytes.{part}
 use Rattle.h5_bytes.specs.Blocks.{Run, block}
 use Rattle.h5_bytes.specs.declared.Block.{Block}
 use Rattle.h5_bytes.proofs.BlockLaws.{all_so}
+use Rattle.h5_model.specs.Format.Limits.{highest_level}
 use Rattle.h5_model.specs.Format.Superblock.{highest_k}
 use Rattle.h5_model.specs.Format.Chunks.{Chunks, HasChunks, IsOffset}
 use Rattle.h5_model.specs.Format.Nodes.{Kind, chunk_kind, node_length, tree_blocks}
@@ -81,7 +82,7 @@ module _ (image : List ℕ) (d : Dataset) (chunk : List ℕ) where
 
   -- in a tree of nodes of this K
   module _ (k : ℕ) (some_k : 1 ≤ k) (few_k : k ≤ highest_k) (grid : IsGridOf chunk) (some : 1 ≤ size) (small : size < 2 ^ 32) (at : ℕ) (first : List ℕ)
-      (others : List (List ℕ)) (are : AreStoredChunks d chunk (first ∷ others)) (low_tree : root_level k (length (first ∷ others)) ≤ 15)
+      (others : List (List ℕ)) (are : AreStoredChunks d chunk (first ∷ others)) (low_tree : root_level k (length (first ∷ others)) ≤ highest_level)
       (room : at + length (chunked_data k d chunk (first ∷ others) at) < 2 ^ 63)
       (there : part at (length (chunked_data k d chunk (first ∷ others) at)) image ≡ chunked_data k d chunk (first ∷ others) at) where
     abbrev stored : List (List ℕ)
@@ -127,7 +128,7 @@ module _ (image : List ℕ) (d : Dataset) (chunk : List ℕ) where
     plain = tree_reads OffsetKey image kind chunk_key (record { bytes = size; offsets = first }) at children some_k few_k
         (key_fits k some_k chunk size first ranked.0) (keys_fit k some_k chunk size place stored ranked)
         (all_so (λ n. n < 2 ^ 63) (λ n. n < 2 ^ 64) (places_of children) (λ n low. omega (arith, low)) (places_low chunk size place (2 ^ 63) stored (omega (arith, end_is, room)) some))
-        (subst (λ n. root_level k n ≤ 15) (sym (length-children chunk size place stored)) low_tree)
+        (subst (λ n. root_level k n ≤ highest_level) (sym (length-children chunk size place stored)) low_tree)
         (let whole = length-append nodes_part chunks_part in omega (arith, whole, room)) both.0
 
     abbrev pub chunks : Chunks

@@ -9,7 +9,7 @@ use Rattle.std.specs.FinMap.{FinMap, get, entries, len, len-entries, is_sorted, 
 use Rattle.std.specs.FinMap.Entries.{below_all}
 use Rattle.std.specs.List.{AllByRecursion, AllZip}
 use Rattle.std.specs.Option.{option_map_or, option_and_then}
-use Rattle.h5_model.specs.Format.Limits.{most_bytes}
+use Rattle.h5_model.specs.Format.Limits.{most_bytes, highest_level}
 use Rattle.h5_model.specs.Format.Links.{Before, Ascend}
 use Rattle.h5_model.specs.Tree.Paths.{is_name}
 use Rattle.h5_model.specs.Format.PlainLength.{content_bytes, group_bytes, nodes_over, rows_of, plain_segment_size}
@@ -183,18 +183,18 @@ module _ (k : KValues) (tree : Tree) (table : FinMap nat_cmp ℕ) (sound : IsSou
     abbrev bare_links : List (List ℕ × Leads)
     bare_links = map (λ (e : List ℕ × Link). bare (as_written e)) (entries links)
 
-    plain_bare_links : AreK k.leaf k.internal → root_level k.internal (rows_of (2 * k.leaf) (len links)) ≤ 15 → ArePlainLinks k.leaf k.internal bare_links
+    plain_bare_links : AreK k.leaf k.internal → root_level k.internal (rows_of (2 * k.leaf) (len links)) ≤ highest_level → ArePlainLinks k.leaf k.internal bare_links
     plain_bare_links range low = record {
       k = range;
       ascending = subst Ascend (sym (map-map target_link (λ (e : List ℕ × Link). bare (as_written e)) (entries links)))
           (ascend_made (λ (e : List ℕ × Link). target_link (bare (as_written e))) bare_same_name (entries links) (entries_sorted links));
       named = all_made (λ (l : List ℕ × Leads). is_name l.0 ≡ true) (λ (e : List ℕ × Link). bare (as_written e)) (entries links) bare_named;
       spelled = all_made IsSpelled (λ (e : List ℕ × Link). bare (as_written e)) (entries links) bare_spelled;
-      low = subst (λ (n : ℕ). root_level k.internal (rows_of (2 * k.leaf) n) ≤ 15) (sym (length-map (entries links) (λ (e : List ℕ × Link). bare (as_written e)) ∙ sym (len-entries links))) low;
+      low = subst (λ (n : ℕ). root_level k.internal (rows_of (2 * k.leaf) n) ≤ highest_level) (sym (length-map (entries links) (λ (e : List ℕ × Link). bare (as_written e)) ∙ sym (len-entries links))) low;
     }
 
     -- so they are as long as the group's links, wherever they lead
-    pub length-links : LinksLength → GroupLength → (at : ℕ) → AreK k.leaf k.internal → root_level k.internal (rows_of (2 * k.leaf) (len links)) ≤ 15
+    pub length-links : LinksLength → GroupLength → (at : ℕ) → AreK k.leaf k.internal → root_level k.internal (rows_of (2 * k.leaf) (len links)) ≤ highest_level
         → length (links_bytes k.leaf k.internal at written) ≡ group_bytes k.leaf k.internal links
     length-links links_length_is group_length at range low =
         sym (length-bare k.leaf k.internal at written)
@@ -235,13 +235,13 @@ module _ (k : KValues) (tree : Tree) (table : FinMap nat_cmp ℕ) (sound : IsSou
           subst (λ (t : Target). IsSame table (name, ToObject n) (name, t)) (sym lead.1) (refl, lead.2)
       each_same (name, Soft text) at = (refl, refl)
 
-      pub plain_links : AreK k.leaf k.internal → root_level k.internal (rows_of (2 * k.leaf) (len links)) ≤ 15 → ArePlainLinks k.leaf k.internal (written_links k tree table links)
+      pub plain_links : AreK k.leaf k.internal → root_level k.internal (rows_of (2 * k.leaf) (len links)) ≤ highest_level → ArePlainLinks k.leaf k.internal (written_links k tree table links)
       plain_links range low = record {
         k = range;
         ascending = subst Ascend (sym (map-map target_link as_written (entries links))) (ascend_made (λ (e : List ℕ × Link). target_link (as_written e)) same_name (entries links) (entries_sorted links));
         named = all_made (λ (l : List ℕ × Leads). is_name l.0 ≡ true) as_written (entries links) (each_named number o links is group);
         spelled = all_made IsSpelled as_written (entries links) each_spelled;
-        low = subst (λ (n : ℕ). root_level k.internal (rows_of (2 * k.leaf) n) ≤ 15) (sym (length-written number o links is group)) low;
+        low = subst (λ (n : ℕ). root_level k.internal (rows_of (2 * k.leaf) n) ≤ highest_level) (sym (length-written number o links is group)) low;
       }
 
       pub same_links : AllZip (IsSame table) (entries links) (map target_link (written_links k tree table links))

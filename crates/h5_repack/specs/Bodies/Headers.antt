@@ -1,6 +1,7 @@
 -- The header of a group in the plain layout, and what stands behind the header of an array (File Format Specification 3.0, sections
 -- IV.A.1.a, IV.A.2.i and IV.A.2.r).
 use Rattle.std.specs.Prelude.{ℕ, ◌≤◌, Bool, true, false, if◌then◌else◌, List, [], ◌∷◌}
+use Rattle.h5_model.specs.Format.Limits.{highest_level}
 use Rattle.h5_model.specs.Format.Bodies.{pair_bytes}
 use Rattle.h5_model.specs.Format.MessageTypes.{symbol_table_kind}
 use Rattle.h5_model.specs.Format.Plain.{header_bytes, cells_bytes}
@@ -23,7 +24,7 @@ AreStoredFor stored d = by_storage d.storage where
 abbrev pub IsLowStorage : ℕ → ℕ → Storage → Type 0
 IsLowStorage chunk_k count Compact = Unit {0}
 IsLowStorage chunk_k count (Contiguous held) = Unit {0}
-IsLowStorage chunk_k count (Chunked chunk) = root_level chunk_k count ≤ 15
+IsLowStorage chunk_k count (Chunked chunk) = root_level chunk_k count ≤ highest_level
 
 -- whether cells, or a tree of chunks, stand behind the header
 abbrev pub is_stored : List (List ℕ) → Storage → Bool

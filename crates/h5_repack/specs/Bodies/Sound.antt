@@ -5,7 +5,7 @@ use Rattle.std.specs.FinMap.{entries}
 use Rattle.h5_bytes.specs.Bytes.{undefined_address}
 use Rattle.h5_model.specs.Format.Layout.{most_compact_bytes}
 use Rattle.h5_model.specs.Format.Limits.{most_cells, most_chunk_bytes, most_dimensions}
-use Rattle.h5_model.specs.Format.Messages.{most_messages}
+use Rattle.h5_model.specs.Format.Messages.{most_messages, most_body_bytes}
 use Rattle.h5_model.specs.Format.AttributeBody.{attribute_of}
 use Rattle.h5_model.specs.Format.Fixed.{Fixed, IsFixed}
 use Rattle.h5_model.specs.Tree.Places.{cells, extent_cells}
@@ -23,7 +23,7 @@ pub record IsPlainKept (k : Kept) : Type 0 where
 
 -- the body that is kept says the attribute, and a message may have it; a body of version 1 fits in one
 abbrev pub IsPlainBody : List ℕ → Attribute → Option (List ℕ) → Type 0
-IsPlainBody name a None = attribute_size (length name) a.sizes (a.fixed).size ≤ 65528
+IsPlainBody name a None = attribute_size (length name) a.sizes (a.fixed).size ≤ most_body_bytes
 IsPlainBody name a (Some body) = (attribute_of body ≡ Some (name, a)) × (length body % 8 ≡ 0) × (length body < 65536)
 
 -- a name and values that fit in one message

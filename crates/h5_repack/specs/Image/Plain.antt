@@ -1,6 +1,7 @@
 -- Which trees the plain layout can hold: those that an image reads as, or that an accepted edit gives.
 use Rattle.std.specs.Prelude.{◌≡◌, ℕ, ◌+◌, ◌*◌, ◌≤◌, Some, length}
 use Rattle.std.specs.FinMap.{get, len}
+use Rattle.h5_model.specs.Format.Limits.{highest_level}
 use Rattle.h5_model.specs.Format.Messages.{most_messages}
 use Rattle.h5_model.specs.Format.PlainLength.{rows_of}
 use Rattle.h5_model.specs.Tree.Objects.{Tree, Object, Content, Group, Array, Dataset, Links}
@@ -27,7 +28,7 @@ ArePlain tree = (number : ℕ) (o : Object) → get tree number ≡ Some o → I
 
 -- the tree of a group has at most 16 levels
 abbrev pub IsLow : ℕ → ℕ → Links → Type 0
-IsLow leaf internal links = root_level internal (rows_of (2 * leaf) (len links)) ≤ 15
+IsLow leaf internal links = root_level internal (rows_of (2 * leaf) (len links)) ≤ highest_level
 
 -- so has that of a group, or of so many stored chunks
 abbrev pub IsLowContent : KValues → ℕ → Content → Type 0

@@ -2,7 +2,7 @@
 ghost use Rattle.std.specs.Prelude.{◌≡◌, ℕ, ◌-◌, ◌*◌, ◌^◌, ◌<◌, ◌≤◌, ◌++◌, OnOk, nat_le, true, length, replicate};
 ghost use Rattle.h5_model.specs.Format.Fixed.{bytes_of, fits};
 ghost use Rattle.h5_bytes.specs.Numbers.{zeros};
-ghost use Rattle.h5_model.specs.Format.Limits.{most_bytes};
+ghost use Rattle.h5_model.specs.Format.Limits.{most_bytes, highest_level};
 ghost use Rattle.h5_model.specs.Format.Superblock.{highest_k};
 ghost use Rattle.h5_model.specs.Format.Plain.{cells_bytes};
 ghost use Rattle.h5_model.specs.Tree.Places.{cells as cells_of};
@@ -132,7 +132,7 @@ pub(crate) fn has_low_tree(chunk_k: u16, cells: &Cells<'_>) -> bool
     requires some { 1 ≤ chunk_k }
     requires most { chunk_k ≤ highest_k }
     requires few { length (chunks_of cells.now) < 2 ^ 32 }
-    ensures { result ≡ nat_le (root_level chunk_k (length (chunks_of cells.now))) 15 }
+    ensures { result ≡ nat_le (root_level chunk_k (length (chunks_of cells.now))) highest_level }
 {
     match cells {
         Cells::Unset => true,
@@ -171,7 +171,7 @@ pub fn push_data(
     requires some { 1 ≤ chunk_k }
     requires most { chunk_k ≤ highest_k }
     requires array { IsArrayToWrite array.now cells.now }
-    requires level { root_level chunk_k (length (chunks_of cells.now)) ≤ 15 }
+    requires level { root_level chunk_k (length (chunks_of cells.now)) ≤ highest_level }
     requires low { place ≤ most_bytes }
     requires few { length (data_written chunk_k cells.now array.now place) ≤ most_bytes }
     ensures { OnOk result (out.new.items ≡ out.old.items ++ data_written chunk_k cells.now array.now place) }

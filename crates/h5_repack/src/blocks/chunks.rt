@@ -1,7 +1,7 @@
 //! Chunks that are stored behind their tree, as they are appended (File Format Specification 3.0, sections III.A.1 and IV.A.2.i).
 ghost use Rattle.std.specs.Prelude.{◌≡◌, ℕ, ℤ, ◌+◌, ◌-◌, ◌*◌, ◌^◌, ◌<◌, ◌≤◌, ◌++◌, ◌∷◌, IfOk, List, OnOk, Some, drop, length, map, nat_le, slice_get};
 ghost use Rattle.std.specs.List.{AllByRecursion};
-ghost use Rattle.h5_model.specs.Format.Limits.{most_bytes, most_chunk_bytes};
+ghost use Rattle.h5_model.specs.Format.Limits.{most_bytes, most_chunk_bytes, highest_level};
 ghost use Rattle.h5_model.specs.Format.Superblock.{highest_k};
 ghost use Rattle.h5_model.specs.Format.Nodes.{chunk_kind, node_length};
 ghost use Rattle.h5_model.specs.Format.PlainLength.{nodes_over as nodes};
@@ -68,7 +68,7 @@ pub(crate) fn has_low_chunks(chunk_k: u16, held: &HeldChunks<'_>) -> bool
     requires some { 1 ≤ chunk_k }
     requires most { chunk_k ≤ highest_k }
     requires few { length (part_offsets held.now) < 2 ^ 32 }
-    ensures { result ≡ nat_le (level chunk_k (length (part_offsets held.now))) 15 }
+    ensures { result ≡ nat_le (level chunk_k (length (part_offsets held.now))) highest_level }
 {
     root_level(&kind_of(chunk_k, held), held.len() as u64) <= u32::from(MAX_LEVEL)
 }
@@ -149,7 +149,7 @@ fn push_chunk_tree(
     requires some { 1 ≤ length held.now.parts }
     requires low_k { 1 ≤ chunk_k }
     requires high_k { chunk_k ≤ highest_k }
-    requires level { level chunk_k (length held.now.parts) ≤ 15 }
+    requires level { level chunk_k (length held.now.parts) ≤ highest_level }
     requires whole { AreWhole held.now }
     requires low { place ≤ most_bytes }
     requires few { length (chunks_written chunk_k held.now place) ≤ most_bytes }
@@ -192,7 +192,7 @@ pub(crate) fn push_chunks(
 ) -> Result<(), AllocError>
     requires some { 1 ≤ chunk_k }
     requires most { chunk_k ≤ highest_k }
-    requires level { level chunk_k (length (part_offsets held.now)) ≤ 15 }
+    requires level { level chunk_k (length (part_offsets held.now)) ≤ highest_level }
     requires whole { AreWhole held.now }
     requires low { place ≤ most_bytes }
     requires few { length (chunks_written chunk_k held.now place) ≤ most_bytes }

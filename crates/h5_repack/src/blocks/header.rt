@@ -6,7 +6,7 @@ ghost use Rattle.h5_bytes.specs.Texts.{pad8};
 ghost use Rattle.h5_model.specs.Format.Bodies.{pair_bytes};
 ghost use Rattle.h5_model.specs.Format.Fixed.{fits};
 ghost use Rattle.h5_model.specs.Format.Limits.{most_bytes};
-ghost use Rattle.h5_model.specs.Format.Messages.{most_messages};
+ghost use Rattle.h5_model.specs.Format.Messages.{most_messages, most_body_bytes};
 ghost use Rattle.h5_model.specs.Format.Plain.{message_bytes, messages_bytes};
 ghost use Rattle.h5_model.specs.Format.Sizes.{message_size};
 ghost use Rattle.h5_model.specs.Tree.Places.{cells as cells_of};
@@ -23,6 +23,7 @@ use crate::blocks::layout::{is_in_chunks, layout_length, push_layout};
 use crate::blocks::others::Others;
 use crate::blocks::space::{push_space, space_length};
 use h5_bytes::{push_bytes, push_middle, push_short, push_zeros};
+use h5_group::MAX_MESSAGES;
 use h5_layout::ArrayRef;
 use h5_model::Fixed;
 use h5_model::message_type::{DATATYPE, FILL_VALUE, SYMBOL_TABLE};
@@ -73,16 +74,16 @@ pub(crate) fn push_message(out: &mut Vec<u8>, kind: u16, body: &[u8]) -> Result<
 
 /// How many bytes a body of so many has in a message: a multiple of 8.
 fn body_length(size: usize) -> usize
-    requires { size ≤ 65528 }
+    requires { size ≤ most_body_bytes }
     ensures value { result ≡ pad8 size }
-    ensures few { result ≤ 65528 }
+    ensures few { result ≤ most_body_bytes }
 {
     (size + 7) / 8 * 8
 }
 
 /// How many bytes a message has with a body of so many.
 pub(crate) fn message_length(size: usize) -> u64
-    requires { size ≤ 65528 }
+    requires { size ≤ most_body_bytes }
     ensures { result ≡ message_size size }
 {
     8 + body_length(size) as u64
@@ -95,7 +96,7 @@ pub(crate) fn push_message_room(
     kind: u16,
     size: usize,
 ) -> Result<usize, AllocError>
-    requires { size ≤ 65528 }
+    requires { size ≤ most_body_bytes }
     ensures room { OnOk result (out.new.items ≡ out.old.items ++ message_room kind size) }
     ensures place { IfOk result (λ at. at ≡ length out.old.items + 8) }
 {
@@ -184,7 +185,7 @@ fn has_fill(others: &Others) -> bool
     requires { others.now.count ≤ most_messages }
     ensures { result ≡ not (nat_lt most_messages (4 + others.now.count)) }
 {
-    4 + others.count() <= 65535
+    4 + others.count() <= MAX_MESSAGES
 }
 
 /// How many bytes the fill value message of an array has, where there is one.

@@ -2,6 +2,7 @@
 ghost use Rattle.std.specs.Prelude.{◌≡◌, ℕ, ◌+◌, ◌*◌, ◌-◌, ◌^◌, ◌<◌, ◌≤◌, ◌==◌, ◌++◌, OnOk, Option, false, length, replicate};
 ghost use Rattle.std.specs.List.{list_any};
 ghost use Rattle.std.specs.Option.{ForSome};
+ghost use Rattle.h5_model.specs.Format.Messages.{most_body_bytes};
 ghost use Rattle.h5_model.specs.Format.Bodies.{chunked_bytes, compact_bytes, contiguous_bytes, padded_body};
 ghost use Rattle.h5_model.specs.Format.Layout.{most_compact_bytes};
 ghost use Rattle.h5_model.specs.Format.Plain.{cells_bytes, message_bytes};
@@ -39,7 +40,7 @@ fn layout_body_length(array: &ArrayRef<'_>) -> usize
     requires { FitsLayout (cells_of array.now.sizes * array.now.fixed.size) array.now.layout }
     ensures exact { (c : NewCells)
         → result ≡ layout_size array.now.sizes (storage_written array.now c) array.now.fixed.size }
-    ensures few { result ≤ 65528 }
+    ensures few { result ≤ most_body_bytes }
 {
     match array.layout() {
         Layout::Compact(_) => compact_length(cells_length(array) as usize),

@@ -1,4 +1,5 @@
 use Rattle.std.proofs.Common.{ap, arith, length}
+use Rattle.h5_model.specs.Format.Messages.{most_body_bytes}
 use Rattle.h5_model.specs.Tree.Places.{cells}
 use Rattle.h5_model.proofs.PlainValues.{size-low}
 use Rattle.h5_msg.proofs.AttributeLaws.{cells_few}
@@ -11,5 +12,5 @@ attribute_length-size-requires-clause-values c =
       arith,
       ap length c.as_slice-values.ensures,
       c.requires.counted,
-      cells_few 0 (cells attr.dims) (attr.fixed).size 65528 (size-low attr.fixed c.requires.typed) (omega (arith, c.requires.room)),
+      cells_few 0 (cells attr.dims) (attr.fixed).size most_body_bytes (size-low attr.fixed c.requires.typed) (omega (arith, c.requires.room)),
     )

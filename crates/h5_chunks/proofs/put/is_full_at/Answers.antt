@@ -1,5 +1,6 @@
 use Rattle.std.proofs.Common.{◌≡◌, ℕ, ◌^◌, ◌<◌, ◌≤◌, List, length, sym, ap, ◌∙◌, subst, arith}
 use Rattle.std.specs.FinMap.{values}
+use Rattle.h5_model.specs.Format.Limits.{highest_level}
 use Rattle.h5_model.specs.Format.Chunks.{offsets_in}
 use Rattle.h5_model.specs.Format.Nodes.{Kind, node_at}
 use Rattle.h5_model.specs.Format.Reached.{Shape, level_at, shape_kind}
@@ -58,7 +59,7 @@ module _ (c : After-way_to) where
         (c.args.root, (read.stored).level, (read.stored).owned, values (chunks_told s.bytes shape c.args.root), w.0, w.1)
 
     -- it has 16 steps, where the root is at level 15
-    all : 15 ≤ level_at s.bytes kind c.args.root → length way ≡ 16
+    all : highest_level ≤ level_at s.bytes kind c.args.root → length way ≡ 16
     all high =
         let few = few_steps s shape c.args.root c.requires.chunks.read (λ p. omega (arith, c.requires.chunks.apart p)) short offsets same way (found way to) in
         let long = way_long (node_at s.bytes kind) (chunk_behind offsets) (level_at s.bytes kind c.args.root) c.args.root way (found way to) in

@@ -1,4 +1,5 @@
 use Rattle.std.proofs.Common.{◌≤◌, ◌<◌, arith, length, None}
+use Rattle.h5_model.specs.Format.Limits.{highest_level}
 use Rattle.h5_model.proofs.EditLaws.{length-are_maxima}
 use Rattle.std.proofs.lemmas.Bool.Decides.{nat_tests}
 use Rattle.h5_btree.specs.Writing.Written.{root_level}
@@ -46,13 +47,13 @@ returns-in_default-clause-refused c o is =
 
 pub returns-then-not-has_low_tree-clause-refused : goal.returns-then-not-has_low_tree-clause-refused
 returns-then-not-has_low_tree-clause-refused c o is =
-    let deep : 15 < root_level c.chunk_k-chunk_k.result (length (chunks_of c.args.cells.now)) = grind (arith, nat_tests, c.has_low_tree.ensures, c.if-not-has_low_tree.true) in
+    let deep : highest_level < root_level c.chunk_k-chunk_k.result (length (chunks_of c.args.cells.now)) = grind (arith, nat_tests, c.has_low_tree.ensures, c.if-not-has_low_tree.true) in
     array_deep c.args.array.now c.args.cells.now c.args.others.now o is c.args.k.now c.chunk_k-chunk_k.result c.chunk_k-chunk_k.ensures
     (rw c.chunk_k-chunk_k.ensures c.requires.k.chunk_low) deep
 
 pub returns-clause-size : goal.returns-clause-size
 returns-clause-size c o is =
-    let level : root_level c.chunk_k-chunk_k.result (length (chunks_of c.args.cells.now)) ≤ 15 = grind (arith, nat_tests, c.has_low_tree.ensures, c.if-not-has_low_tree.false) in
+    let level : root_level c.chunk_k-chunk_k.result (length (chunks_of c.args.cells.now)) ≤ highest_level = grind (arith, nat_tests, c.has_low_tree.ensures, c.if-not-has_low_tree.false) in
     array_size c.args.array.now c.args.cells.now c.args.others.now o is c.args.k.now c.chunk_k-chunk_k.result c.chunk_k-chunk_k.ensures
     (rw c.chunk_k-chunk_k.ensures c.requires.k.chunk_low) c.array_header_length-header.result c.in-Some.length
     (c.array_header_length-header.ensures.exact c.args.cells.now 0 None (array_room c.args.array.now c.args.cells.now c.args.others.now c.requires.held.0 c.requires.held.1))

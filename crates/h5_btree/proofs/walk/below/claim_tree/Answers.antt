@@ -1,6 +1,7 @@
 use Rattle.std.proofs.Common.{◌≡◌, ◌+◌, ℕ, ◌≤◌, List, [], ◌∷◌, sym, ap, ◌∙◌, subst}
 use Rattle.std.proofs.lemmas.Result.{err_from_is_err_and}
 use Rattle.h5_bytes.specs.Blocks.{cover}
+use Rattle.h5_model.specs.Format.Limits.{highest_level}
 use Rattle.h5_model.specs.Format.Rows.{Node, leaves, nodes}
 use Rattle.h5_model.specs.Format.Reached.{Named}
 use Rattle.h5_model.specs.declared.open_fault.Cause.TheVariants.{NoMemory}
@@ -33,7 +34,7 @@ returns-in_err-claim_below-clause-refused g c =
     = subst (λ (l : ℕ). IsFaultBelow image form here l c.args.root root cause address) high
     (subst (λ (n : Node). IsFaultBelow image form here c.level-level.result c.args.root n cause address) is c.in_err-claim_below.ensures.refused) in
     let stands : IsStanding image form root.level c.args.root = subst (λ (n : Node). IsStanding image form n.level c.args.root) is c.in_ok-node.ensures.stands in
-    let low : root.level ≤ 15 = subst (λ (n : Node). n.level ≤ 15) is c.in_ok-node.ensures.low in
+    let low : root.level ≤ highest_level = subst (λ (n : Node). n.level ≤ highest_level) is c.in_ok-node.ensures.low in
     let p = err_from_is_err_and c.from_residual-in_err-claim_below.result c.from_residual-in_err-claim_below.ensures.1 in
     rw (p.1, p.2) (below_refused image form c.args.root c.args.claims.now.held here stands low c.in_ok-node.ensures.claimed c.in_ok-node.ensures.separate cause address below)
 
@@ -51,7 +52,7 @@ returns-clause-claimed g c =
     = subst (λ (l : ℕ). IsTakenBelow image form l root.children here now) high
     (subst (λ (n : Node). IsTakenBelow image form c.level-level.result n.children here now) is c.in_ok-claim_below.ensures.taken) in
     let stands : IsStanding image form root.level c.args.root = subst (λ (n : Node). IsStanding image form n.level c.args.root) is c.in_ok-node.ensures.stands in
-    let low : root.level ≤ 15 = subst (λ (n : Node). n.level ≤ 15) is c.in_ok-node.ensures.low in
+    let low : root.level ≤ highest_level = subst (λ (n : Node). n.level ≤ highest_level) is c.in_ok-node.ensures.low in
     record {
       covered = subst (λ (l : ℕ). (p : ℕ) → cover p now ≡ cover p old + cover p (nodes_blocks image form (nodes (reading_in image form) l (c.args.root ∷ [])) (leaves (reading_in image form) l (c.args.root ∷ [])))) (sym high)
           (tree_claimed image form c.args.root old here stands low c.in_ok-node.ensures.claimed c.in_ok-node.ensures.separate now taken);
@@ -82,7 +83,7 @@ returns-clause-walked g c =
     = subst (λ (l : ℕ). WalksTo image form here now l c.args.root root root.children) high
     (subst (λ (n : Node). WalksTo image form here now c.level-level.result c.args.root n n.children) is c.in_ok-claim_below.ensures.walked) in
     let stands : IsStanding image form root.level c.args.root = subst (λ (n : Node). IsStanding image form n.level c.args.root) is c.in_ok-node.ensures.stands in
-    let low : root.level ≤ 15 = subst (λ (n : Node). n.level ≤ 15) is c.in_ok-node.ensures.low in
+    let low : root.level ≤ highest_level = subst (λ (n : Node). n.level ≤ highest_level) is c.in_ok-node.ensures.low in
     subst (λ (l : ℕ). (followed : List Named) (field heap depth : ℕ) → IsTreeMet image form old followed field c.args.root heap depth
     → IsFurther image now followed (IsPlaceIn image form field (nodes (reading_in image form) l (c.args.root ∷ [])))) (sym high)
     (tree_walked image form c.args.root old here stands low c.in_ok-node.ensures.claimed c.in_ok-node.ensures.separate now taken walks)

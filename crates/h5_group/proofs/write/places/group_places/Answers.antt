@@ -1,5 +1,5 @@
 use Rattle.std.proofs.Common.{◌≤◌, ◌<◌, ap, ◌∙◌, arith, subst}
-use Rattle.h5_model.specs.Format.Limits.{most_bytes}
+use Rattle.h5_model.specs.Format.Limits.{most_bytes, highest_level}
 use Rattle.h5_model.specs.Format.Nodes.{Kind}
 use Rattle.h5_btree.specs.Writing.Written.{root_level}
 use Rattle.h5_group.proofs.WriteLaws.Counts.{links_few, counted}
@@ -20,13 +20,13 @@ returns-then-length-gt-MAXIMUM_IMAGE c =
     c.nodes_over.ensures.exact c.node_length.ensures.length c.bytes_of-tree.ensures.exact c.in-Some.ensures.0 c.from-2.ensures c.bytes_of.ensures.exact in
     subst (λ n. most_bytes < n) all.whole_is c.if-length-gt-MAXIMUM_IMAGE.true
 
-pub returns-then-root_level-gt15 : goal.returns-then-root_level-gt15
-returns-then-root_level-gt15 c =
+pub returns-then-root_level : goal.returns-then-root_level
+returns-then-root_level c =
     let all = counted _ _ _ _ _ _ _ _ _ _ c.group-kind.result c.args.links.now c.from.ensures c.rows_of-nodes.ensures.exact c.group-kind.ensures
     c.nodes_over.ensures.exact c.node_length.ensures.length c.bytes_of-tree.ensures.exact c.in-Some.ensures.0 c.from-2.ensures c.bytes_of.ensures.exact in
     let level = c.root_level.ensures ∙ ap (λ (kind : Kind). root_level kind.k c.rows_of-nodes.result) c.group-kind.ensures in (
       subst (λ n. n ≤ most_bytes) all.whole_is c.if-length-gt-MAXIMUM_IMAGE.false,
-      subst (λ n. 15 < root_level (c.args.k.now).internal n) all.nodes_are (subst (λ n. 15 < n) level c.if-root_level-gt15.true),
+      subst (λ n. highest_level < root_level (c.args.k.now).internal n) all.nodes_are (subst (λ n. highest_level < n) level c.if-root_level.true),
     )
 
 pub returns : goal.returns
@@ -39,5 +39,5 @@ returns c =
       segment = c.in-Some.ensures.0;
       length_is = all.whole_is;
       few = c.if-length-gt-MAXIMUM_IMAGE.false;
-      low = subst (λ n. root_level (c.args.k.now).internal n ≤ 15) all.nodes_are (subst (λ n. n ≤ 15) level c.if-root_level-gt15.false);
+      low = subst (λ n. root_level (c.args.k.now).internal n ≤ highest_level) all.nodes_are (subst (λ n. n ≤ highest_level) level c.if-root_level.false);
     }

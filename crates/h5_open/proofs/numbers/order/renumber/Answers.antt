@@ -3,6 +3,7 @@ use Rattle.std.proofs.lemmas.List.{length-replicate}
 use Rattle.std.proofs.lemmas.Option.{slice_get-get_or}
 use Rattle.std.specs.BTreeMap.{BTreeMap}
 use Rattle.std.specs.Prelude.{slice_get}
+use Rattle.h5_model.specs.Format.Limits.{most_numbers}
 use Rattle.h5_laws.proofs.Lists.{in_at}
 use Rattle.h5_space.specs.Space.{Space}
 use Rattle.h5_open.specs.declared.index.Index.{Index}
@@ -20,7 +21,7 @@ left_long slots more count given left =
     let both = ap (λ (s : List (Option OpenedObject)). length s) left ∙ length-append slots (replicate (count - length slots) None) in
     omega (arith, both, length-replicate {A = Option OpenedObject} (count - length slots) None, given)
 
-left_opened : (image : Space) (slots more : List (Option OpenedObject)) (numbers numbers' : BTreeMap ℕ ℕ) (count : ℕ) → IsOpened image slots numbers → length slots ≤ count → count ≤ 4294967295
+left_opened : (image : Space) (slots more : List (Option OpenedObject)) (numbers numbers' : BTreeMap ℕ ℕ) (count : ℕ) → IsOpened image slots numbers → length slots ≤ count → count ≤ most_numbers
     → more ≡ slots ++ replicate (count - length slots) None → numbers' ≡ numbers → IsOpened image more numbers'
 left_opened image slots more numbers numbers' count opened given few left same =
     subst (IsOpened image more) (sym same)

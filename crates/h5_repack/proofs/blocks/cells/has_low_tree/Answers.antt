@@ -1,6 +1,7 @@
 use Rattle.std.proofs.Common.{◌≡◌, ◌≤◌, ℕ, ap, length, true, arith}
 use Rattle.std.proofs.lemmas.Bool.Decides.{nat_tests}
 use Rattle.std.specs.Prelude.{nat_le}
+use Rattle.h5_model.specs.Format.Limits.{highest_level}
 use Rattle.h5_btree.specs.Writing.Written.{root_level}
 use Rattle.h5_repack.specs.Blocks.Written.{chunks_of}
 use Rattle.h5_repack.specs.declared.blocks.cells.Cells.{Cells}
@@ -8,9 +9,9 @@ use Rattle.h5_repack.proofs.ChunkLaws.ChunkLevels.{none_level}
 use Rattle.h5_repack.proofs.blocks.cells.has_low_tree.Goals as goal
 
 -- where no chunk is handed over
-none_low : (k : ℕ) (c : Cells) → length (chunks_of c) ≡ 0 → true ≡ nat_le (root_level k (length (chunks_of c))) 15
+none_low : (k : ℕ) (c : Cells) → length (chunks_of c) ≡ 0 → true ≡ nat_le (root_level k (length (chunks_of c))) highest_level
 none_low k c none =
-    let low : root_level k (length (chunks_of c)) ≤ 15 = rw none (none_level k) in
+    let low : root_level k (length (chunks_of c)) ≤ highest_level = rw none (none_level k) in
     grind (arith, nat_tests, low)
 
 pub returns-in-Unset : goal.returns-in-Unset
