@@ -31,7 +31,8 @@ pub fn new_body(alloc: Global, attr: &AttrSpec) -> Result<Vec<u8>, AllocError>
     requires ranked { length attr.now.dims ≤ most_dimensions }
     requires counted { length attr.now.values ≡ cells attr.now.dims }
     requires of_type { list_all (fits attr.now.fixed) attr.now.values ≡ true }
-    requires room { attribute_size (length attr.now.name) attr.now.dims attr.now.fixed.size ≤ most_body_bytes }
+    requires room { attribute_size (length attr.now.name) attr.now.dims attr.now.fixed.size
+        ≤ most_body_bytes }
     ensures reads { IfOk result (λ body.
         attribute_of body.items ≡ Some (attr.now.name, attribute_from attr.now)) }
     ensures size { IfOk result (λ body. length body.items
