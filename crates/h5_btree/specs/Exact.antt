@@ -1,6 +1,6 @@
 -- Exact keys of a group's tree, as its nodes are read: the key behind a child is that of the last item below it (File Format Specification
 -- 3.0, section III.A.1).
-use Rattle.std.specs.Prelude.{◌≡◌, ◌⊎◌, ◌==◌, ◌&&◌, ℕ, zero, suc, Bool, true, false, List, Option, None, Some, ⊤, if◌then◌else◌}
+use Rattle.std.specs.Prelude.{◌≡◌, ◌⊎◌, ℕ, zero, suc, List, Option, None, Some, ⊤}
 use Rattle.h5_model.specs.Format.Rows.{Reading}
 use Rattle.h5_laws.specs.ExactKeys.{IsExact, on_edge}
 use Rattle.h5_laws.specs.KeyTrees.{KeyTree}

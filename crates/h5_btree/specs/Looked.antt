@@ -1,5 +1,5 @@
 -- Where keys of a group's tree that give way are looked for (File Format Specification 3.0, section III.A.1).
-use Rattle.std.specs.Prelude.{◌≡◌, ◌==◌, ◌&&◌, ◌||◌, ◌⊎◌, ℕ, zero, suc, Bool, true, false, List, ◌∷◌, Option, None, Some, slice_get, slice_index_or, [], ⊤}
+use Rattle.std.specs.Prelude.{◌≡◌, ◌==◌, ◌&&◌, ◌||◌, ◌⊎◌, ℕ, zero, suc, Bool, true, false, List, Option, None, Some, slice_get, slice_index_or, [], ⊤}
 use Rattle.std.specs.List.{AllByRecursion}
 use Rattle.h5_model.specs.Format.Rows.{Reading}
 use Rattle.h5_model.specs.Format.Nodes.{Kind, node_at}

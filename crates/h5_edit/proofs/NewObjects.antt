@@ -1,30 +1,26 @@
 -- New groups and arrays as they are added to an opened image: how many bytes they have, and what has to hold before (File Format
 -- Specification 3.0, sections III.A.1, III.D and IV.A).
 use Rattle.std.proofs.Common.{◌≡◌, ℕ, ◌+◌, ◌*◌, ◌<◌, Bool, true, false, List, [], ◌++◌, length, replicate, take, drop, Option, None, refl, sym, ap, ap₂, ◌∙◌, subst, arith, length-append}
-use Rattle.std.specs.Prelude.{nat_lt, if◌then◌else◌, sum_by}
+use Rattle.std.specs.Prelude.{nat_lt, if◌then◌else◌}
 use Rattle.std.specs.List.{AllZip}
-use Rattle.std.specs.Ordering.{nat_cmp}
-use Rattle.std.specs.Cmp.Lexicographic.{slice_cmp}
-use Rattle.std.specs.FinMap.{empty, entries, len, len-empty}
+use Rattle.std.specs.FinMap.{empty}
 use Rattle.std.proofs.lemmas.Bool.Decides.{nat_tests}
 use Rattle.std.proofs.lemmas.List.{take-append-drop}
 use Rattle.h5_model.specs.Format.Limits.{most_numbers}
-use Rattle.h5_model.specs.Edits.Applied.{new_dataset, new_object, new_storage}
+use Rattle.h5_model.specs.Edits.Applied.{new_dataset, new_object}
 use Rattle.h5_model.specs.Edits.Bounds.{contiguous_data, new_header}
 use Rattle.h5_model.specs.Edits.Refusal.{refusal_of}
 use Rattle.h5_model.specs.Format.Fixed.{IsFixed}
 use Rattle.h5_model.specs.Format.Layout.{Layout, InMessage, InBlock, InChunks}
 use Rattle.h5_model.specs.Format.Plain.{cells_bytes}
 use Rattle.h5_model.specs.Format.PlainLength.{data_bytes}
-use Rattle.h5_model.specs.Format.Sizes.{array_messages_size, attribute_message_size, header_size}
 use Rattle.h5_model.specs.Format.Described.{Described}
-use Rattle.h5_model.specs.Tree.Objects.{Tree, Attribute, Array}
+use Rattle.h5_model.specs.Tree.Objects.{Tree, Array}
 use Rattle.h5_model.specs.Tree.Places.{cells}
 use Rattle.h5_model.specs.declared.dataset.Spec.{Spec}
 use Rattle.h5_model.specs.declared.dataset.Store.{Store}
 use Rattle.h5_model.specs.declared.dataset.Store.TheVariants as store
 use Rattle.h5_model.specs.declared.edits.Edit.TheVariants.{CreateGroup, CreateDataset}
-use Rattle.h5_model.proofs.MapSteps.{entries-empty}
 use Rattle.h5_model.proofs.RefusalLaws.{has_number}
 use Rattle.h5_model.proofs.SizeLaws.{header_size-new_dataset}
 use Rattle.h5_query.specs.ContentBytesType.{ContentBytes}

@@ -1,23 +1,18 @@
 -- The runs of a selection whose cells are stored.
-use Rattle.std.proofs.Common.{◌≡◌, ℕ, ℤ, ◌<◌, ◌≤◌, true, Some, None, List, [], ◌∷◌, length, sym, ap, ◌∙◌, subst}
+use Rattle.std.proofs.Common.{◌≡◌, ℕ, ℤ, ◌<◌, ◌≤◌, true, Some, List, [], ◌∷◌, length, sym, ap, ◌∙◌, subst}
 use Rattle.std.specs.List.{AllByRecursion, Contains, list_all}
 use Rattle.h5_laws.proofs.Lists.{all_in, contains_in}
-use Rattle.h5_model.specs.Edits.Refusal.{first_holding}
 use Rattle.h5_model.specs.Format.Fixed.{fits}
-use Rattle.h5_model.specs.Format.Described.{Described}
 use Rattle.h5_model.specs.Format.Limits.{most_cells}
 use Rattle.h5_model.specs.Tree.Objects.{Dataset, dataset_of}
 use Rattle.h5_model.specs.Tree.Places.{cells}
 use Rattle.h5_model.specs.Views.Selection.{Slab, axes_of, selection_of}
-use Rattle.h5_model.specs.declared.edit_fault.EditFault.{EditFault}
 use Rattle.h5_model.specs.declared.hyperslab.Hyper.{Hyper}
 use Rattle.h5_query.specs.Opened.State.{FileState}
-use Rattle.h5_query.specs.Selected.{hyper_rules}
-use Rattle.h5_query.specs.Written.{AreRunsStored, IsArrayThere}
+use Rattle.h5_query.specs.Written.{AreRunsStored}
 use Rattle.h5_shape.specs.Runs.{AreMaximal, places_in}
 use Rattle.h5_shape.specs.declared.runs.CellRun.{CellRun}
 use Rattle.h5_edit.specs.Stored.{AreSelectedReady, AreSelectedRuns, AreSelectedStored}
-use Rattle.h5_edit.proofs.WrittenTrees.{sizes_are}
 use Rattle.h5_layout.proofs.ChosenPlaces.{place_low}
 
 each_some : (runs : List CellRun) → AreMaximal runs → AllByRecursion (λ (r : CellRun). 0 < r.length) runs

@@ -1,14 +1,10 @@
 -- The selected cells of an array are stored where none lacks it.
-use Rattle.std.proofs.Common.{◌≡◌, inl, inr, ℕ, zero, suc, ◌+◌, ◌<◌, ◌||◌, List, [], ◌∷◌, Bool, true, false, cond, not, refl, sym, ap, ◌∙◌, subst, arith}
-use Rattle.std.specs.Prelude.{filter}
-use Rattle.std.specs.List.{Contains, list_any, range_with_len}
+use Rattle.std.proofs.Common.{◌≡◌, ℕ, List, true, false, not, sym, subst}
 use Rattle.std.proofs.lemmas.Bool.{not-false}
 use Rattle.h5_laws.proofs.Lists.{In, in_contains}
 use Rattle.h5_layout.specs.Standing.{is_stored_cell}
-use Rattle.h5_model.specs.Tree.Places.{cells, index_of}
-use Rattle.h5_model.specs.Views.Selection.{Slab, Selected, is_selected, selection_of}
+use Rattle.h5_model.specs.Views.Selection.{Slab, selection_of}
 use Rattle.h5_model.specs.Format.Described.{Described}
-use Rattle.h5_model.proofs.SelectionLaws.{from_is_selected}
 use Rattle.h5_laws.proofs.SoundLaws.NewPaths.{none_any}
 use Rattle.h5_query.specs.Opened.State.{FileState}
 use Rattle.h5_query.specs.Written.{IsArrayThere}

@@ -1,5 +1,5 @@
 -- What stays of the objects that were read when more are read.
-use Rattle.std.proofs.Common.{◌≡◌, ◌⊎◌, inl, inr, ℕ, zero, suc, ◌+◌, List, [], ◌∷◌, ◌++◌, sym, ◌∙◌, ap, subst, append_assoc}
+use Rattle.std.proofs.Common.{◌≡◌, ◌⊎◌, ℕ, zero, suc, ◌+◌, List, [], ◌∷◌, ◌++◌, sym, ◌∙◌, ap, subst, append_assoc}
 use Rattle.std.specs.List.{AllByRecursion, Contains, IsDistinct, flat_map}
 use Rattle.std.specs.Ordering.{nat_cmp, eq_by_cmp}
 use Rattle.std.proofs.lemmas.Grind.{flat_map-append}
@@ -9,7 +9,7 @@ use Rattle.h5_bytes.specs.Blocks.{cover}
 use Rattle.h5_bytes.proofs.BlockLaws.{cover-append, all_so}
 use Rattle.h5_model.specs.Format.Symbols.{Target, Header, Text}
 use Rattle.h5_laws.proofs.Lists.{In, contains_in}
-use Rattle.h5_laws.proofs.Pigeonhole.{Apart, apart_of_distinct, distinct_of_apart, apart_push}
+use Rattle.h5_laws.proofs.Pigeonhole.{apart_of_distinct, distinct_of_apart, apart_push}
 use Rattle.h5_open.specs.declared.opened.object.OpenedObject.{OpenedObject}
 use Rattle.h5_open.specs.Opened.Objects.{headers, content_links, object_blocks}
 use Rattle.h5_open.specs.Placed.Whole.{IsLedTo, HasHeight, IsLed, AreLed, HasParent, AreNamed}

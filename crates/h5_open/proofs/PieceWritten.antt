@@ -1,5 +1,5 @@
 -- A run of cells that is written piece by piece, each of which stands in one block: what one piece asks for, and what it leaves.
-use Rattle.std.proofs.Common.{◌≡◌, ℕ, ◌+◌, ◌*◌, ◌^◌, ◌<◌, ◌≤◌, List, [], ◌++◌, length, take, sym, ◌∙◌, subst, arith, Option, ℤ, true}
+use Rattle.std.proofs.Common.{◌≡◌, ℕ, ◌+◌, ◌*◌, ◌<◌, ◌≤◌, List, [], ◌++◌, length, take, sym, ◌∙◌, subst, arith, Option, ℤ, true}
 use Rattle.std.specs.BTreeMap.{BTreeMap}
 use Rattle.std.specs.List.{list_all}
 use Rattle.h5_model.specs.Format.Fixed.{Fixed, IsFixed, fits}

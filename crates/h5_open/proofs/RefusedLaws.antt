@@ -1,17 +1,13 @@
 -- Why opening is refused, by what its parts say.
-use Rattle.std.proofs.Common.{◌≡◌, ◌≢◌, ℕ, List, [], ◌∷◌, refl}
-use Rattle.std.specs.Prelude.{false}
-use Rattle.std.specs.List.{AllByRecursion}
+use Rattle.std.proofs.Common.{◌≡◌, ◌≢◌, ℕ, List, refl}
 use Rattle.h5_bytes.specs.declared.Block.{Block}
-use Rattle.h5_model.specs.Format.Reached.{Named, naming_of, ObjectHeader}
-use Rattle.h5_model.specs.Faults.Breaches.{is_header}
+use Rattle.h5_model.specs.Format.Reached.{Named}
 use Rattle.h5_model.specs.declared.open_fault.Cause.{Cause}
 use Rattle.h5_model.specs.declared.open_fault.Cause.TheVariants.{NoMemory}
 use Rattle.h5_laws.proofs.Excluded.{reached_excluded}
 use Rattle.h5_header.specs.Refused.{IsHeaderRefused}
 use Rattle.h5_header.specs.Walk.Walked.{Breaches}
 use Rattle.h5_header.specs.Walk.Met.{IsHeaderMet}
-use Rattle.h5_header.proofs.WalkLaws.WalkedLaws.{IsOther}
 use Rattle.h5_header.proofs.WalkLaws.HeaderLaws.{header_refused}
 use Rattle.h5_header.proofs.WalkLaws.MetHeader.{header_others}
 use Rattle.h5_open.specs.Opened.Refused.{IsOpenRefusedAt, ReadsSome}

@@ -1,10 +1,10 @@
 -- An opened image in which storage was made for the cells of an array, where the array stands: it is opened as it is now, and in the tree
 -- that array alone is another.
-use Rattle.std.proofs.Common.{◌≡◌, ℕ, ◌+◌, ◌≤◌, Bool, true, false, List, [], ◌∷◌, length, refl, sym, ap, ◌∙◌, subst, inl, inr, Option, Some, arith}
+use Rattle.std.proofs.Common.{◌≡◌, ℕ, ◌+◌, ◌≤◌, true, false, List, [], ◌∷◌, length, refl, sym, ap, ◌∙◌, subst, Option, Some, arith}
 use Rattle.std.specs.FinMap.{get}
-use Rattle.std.specs.Prelude.{not, slice_get, slice_index_or, ◌||◌}
+use Rattle.std.specs.Prelude.{not, slice_get, slice_index_or}
 use Rattle.std.specs.BTreeMap.{BTreeMap}
-use Rattle.std.specs.List.{Contains, list_any}
+use Rattle.std.specs.List.{Contains}
 use Rattle.std.proofs.lemmas.Bool.{not-false}
 use Rattle.h5_model.specs.Edits.Applied.{with_dataset}
 use Rattle.h5_model.specs.Edits.Refusal.{is_chunked}
@@ -20,7 +20,7 @@ use Rattle.h5_model.proofs.KLaws.{same_chunk}
 use Rattle.h5_space.specs.Moves.{Moves}
 use Rattle.h5_space.specs.Space.{Space}
 use Rattle.h5_header.specs.Listed.{messages_in}
-use Rattle.h5_laws.proofs.Lists.{In, in_contains}
+use Rattle.h5_laws.proofs.Lists.{in_contains}
 use Rattle.h5_laws.proofs.SoundLaws.NewPaths.{none_any}
 use Rattle.h5_layout.specs.Data.{stored_chunks}
 use Rattle.h5_layout.specs.Standing.{is_stored_cell, is_stored_in}

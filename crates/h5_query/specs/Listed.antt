@@ -2,7 +2,7 @@
 use Rattle.std.specs.Prelude.{◌≡◌, ℕ, Some, None, List, map}
 use Rattle.std.specs.Ordering.{nat_cmp}
 use Rattle.std.specs.FinMap.{FinMap, entries}
-use Rattle.h5_model.specs.Tree.Objects.{Tree, Links, ToObject, Soft, links_of}
+use Rattle.h5_model.specs.Tree.Objects.{Tree, Links, links_of}
 use Rattle.h5_model.specs.Tree.Objects as tree
 use Rattle.h5_open.specs.Links.{lent_target}
 use Rattle.h5_model.specs.declared.link.Link.{Link}

@@ -11,8 +11,8 @@ use Rattle.std.specs.List.{Contains, IsDistinct}
 use Rattle.std.specs.Ordering.{nat_cmp, eq_by_cmp}
 use Rattle.h5_model.specs.Format.Superblock.{root_header}
 use Rattle.h5_model.specs.Format.Symbols.{Target, Header, Text}
-use Rattle.h5_laws.proofs.Lists.{In, in_at, in_map, in_right, contains_in}
-use Rattle.h5_laws.proofs.Pigeonhole.{Apart, apart_of_distinct, one_place}
+use Rattle.h5_laws.proofs.Lists.{in_at, in_map, in_right, contains_in}
+use Rattle.h5_laws.proofs.Pigeonhole.{apart_of_distinct, one_place}
 use Rattle.h5_open.specs.declared.opened.object.OpenedObject.{OpenedObject}
 use Rattle.h5_open.specs.Counted.Links.{leading, object_links, all_links}
 use Rattle.h5_open.specs.Counted.Counts.{IsCount, AreCounted, MayBeLinked}

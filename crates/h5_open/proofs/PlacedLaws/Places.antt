@@ -1,12 +1,12 @@
 -- What stands at a place of a list, and the numbers of headers that stand once.
-use Rattle.std.proofs.Common.{◌≡◌, inl, inr, ℕ, zero, suc, List, [], ◌∷◌, ◌++◌, length, refl, sym, ap, ◌∙◌, Some}
+use Rattle.std.proofs.Common.{◌≡◌, ℕ, zero, suc, List, [], ◌∷◌, ◌++◌, length, refl, sym, ap, ◌∙◌, Some}
 use Rattle.std.specs.Prelude.{slice_get}
 use Rattle.std.specs.List.{IsDistinct, Contains}
 use Rattle.std.specs.Ordering.{nat_cmp, eq_by_cmp}
 use Rattle.std.specs.FinMap.{get}
-use Rattle.std.proofs.lemmas.Option.{same_Some, slice_get_read}
-use Rattle.h5_laws.proofs.Lists.{In, in_at, stands_at}
-use Rattle.h5_laws.proofs.Pigeonhole.{Apart, apart_of_distinct, one_place}
+use Rattle.std.proofs.lemmas.Option.{slice_get_read}
+use Rattle.h5_laws.proofs.Lists.{In, stands_at}
+use Rattle.h5_laws.proofs.Pigeonhole.{apart_of_distinct, one_place}
 use Rattle.h5_open.specs.declared.opened.object.OpenedObject.{OpenedObject}
 use Rattle.h5_open.specs.Opened.Objects.{headers, number_in, table_of, slots_of}
 use Rattle.h5_open.proofs.OpenedLaws.Entries.{get_table_dense, header_at_dense}

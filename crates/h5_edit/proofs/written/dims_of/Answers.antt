@@ -1,5 +1,4 @@
-use Rattle.std.proofs.Common.{◌^◌, ◌≤◌, arith, ◌∙◌}
-use Rattle.h5_model.specs.Tree.Places.{cells}
+use Rattle.std.proofs.Common.{arith, ◌∙◌}
 use Rattle.h5_shape.proofs.Products.{cells_le}
 use Rattle.h5_edit.proofs.WrittenTrees.{sizes_are}
 use Rattle.h5_edit.proofs.written.dims_of.Goals as goal
