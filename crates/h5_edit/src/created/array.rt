@@ -8,13 +8,14 @@ ghost use Rattle.h5_repack.specs.Objects.Objects.{IsNewArray};
 ghost use Rattle.h5_repack.specs.declared.blocks.cells.Cells.TheVariants.{Filled};
 ghost use Rattle.h5_edit.specs.Changed.Cells.{HasChunkSizes, IsNewLayout, new_count};
 
+use crate::rules::limits::MAX_COMPACT;
 use h5_layout::ChunkSizes;
 use h5_model::{Items, Spec, Store};
 use h5_query::{ArrayRef, Dims, Layout};
 
 /// As many bytes as the cells of a compact array may have. The layout of one names bytes of its cells, and a new array has none that it
 /// could name: each cell is the fill, and the writer makes their bytes itself.
-static ROOM: [u8; 65524] = [0; 65524];
+static ROOM: [u8; MAX_COMPACT as usize] = [0; MAX_COMPACT as usize];
 
 /// A new array, whose cells are to be written as the fill.
 pub(crate) fn array_from<'a>(spec: &'a Spec) -> ArrayRef<'a>
