@@ -15,6 +15,7 @@ mod write;
 
 pub use array::check_create_dataset;
 pub use attribute::{check_remove_attr, check_set_attr};
+pub(crate) use limits::MAX_COMPACT;
 pub use links::{check_create_group, check_hard_link, check_soft_link};
 pub use place::NewPlace;
 pub(crate) use resize::check_resize;

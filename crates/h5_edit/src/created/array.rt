@@ -8,7 +8,7 @@ ghost use Rattle.h5_repack.specs.Objects.Objects.{IsNewArray};
 ghost use Rattle.h5_repack.specs.declared.blocks.cells.Cells.TheVariants.{Filled};
 ghost use Rattle.h5_edit.specs.Changed.Cells.{HasChunkSizes, IsNewLayout, new_count};
 
-use crate::rules::limits::MAX_COMPACT;
+use crate::rules::MAX_COMPACT;
 use h5_layout::ChunkSizes;
 use h5_model::{Items, Spec, Store};
 use h5_query::{ArrayRef, Dims, Layout};
