@@ -9,14 +9,14 @@ use Rattle.std.proofs.lemmas.Bool.{not-false}
 use Rattle.h5_bytes.specs.Texts.{pad8}
 use Rattle.h5_model.specs.Edits.Applied.{with_edit, attribute_from, with_attributes}
 use Rattle.h5_model.specs.Edits.Bounds.{attribute_bound, bound_of}
-use Rattle.h5_model.specs.Edits.ImageAnswers.{Facts}
+use Rattle.h5_model.specs.Edits.Facts.{Facts}
 use Rattle.h5_model.specs.Edits.Refusal.{has_no_attribute, refusal_of, rules_of}
 use Rattle.h5_model.proofs.RefusalLaws.{none_holds}
 use Rattle.h5_model.specs.Edits.Touched.{touched_by}
 use Rattle.h5_model.specs.Format.Limits.{most_bytes}
 use Rattle.h5_model.specs.Format.Messages.{prefix_at, total_in, most_messages}
 use Rattle.h5_model.specs.Format.Sizes.{attribute_size}
-use Rattle.h5_model.specs.Format.Superblock.{leaf_k, internal_k, chunk_k}
+use Rattle.h5_model.specs.Format.Superblock.{k_values}
 use Rattle.h5_model.specs.Tree.Objects.{Tree, Object, with_object}
 use Rattle.h5_model.specs.Tree.Paths.{object_at}
 use Rattle.h5_model.specs.declared.attribute.AttrSpec.{AttrSpec}
@@ -31,8 +31,8 @@ use Rattle.h5_query.specs.Attributed.{IsAttributeThere, has_full_header}
 use Rattle.h5_query.specs.ChangedInPlace.{IsChangedInPlace}
 use Rattle.h5_query.specs.Opened.Sound.{IsSound}
 use Rattle.h5_query.specs.Opened.State.{FileState}
-use Rattle.h5_edit.specs.Carried.{AreHeaderFacts, IsGivenInPlace, IsRefused, is_total_full, tree_after, total_at}
-use Rattle.h5_edit.specs.Edited.{IsEdited}
+use Rattle.h5_edit.specs.Carried.{AreFacts, IsGivenInPlace, IsRefused, is_total_full, tree_after, total_at}
+use Rattle.h5_edit.specs.Edited.{IsEdited, IsGrowth}
 use Rattle.h5_edit.specs.Refusals.Allowed.{IsAt}
 use Rattle.h5_edit.proofs.Fitting.{stands}
 
@@ -43,16 +43,13 @@ module _ (f : FileState) (path : List ℕ) where
   abbrev facts_of : Facts
   facts_of = record {
     length = length f.image;
+    k = k_values f.image;
     total = total_at f path;
-    room = record { leaf_k = leaf_k f.image; internal_k = internal_k f.image; chunk_k = chunk_k f.image; heap = 0; is_stored = λ _. false; has_maxima = false };
+    has_maxima = false;
+    heap = 0;
+    is_stored = λ _. false;
     splits_top = λ _. false;
   }
-
-  are_facts : AreHeaderFacts f path facts_of
-  are_facts = record { long = refl; total = refl; leaf = refl; internal = refl; chunk = refl }
-
-  pub facts_at : (facts : Facts) × AreHeaderFacts f path facts
-  facts_at = (facts_of, are_facts)
 
   -- whether the header of the object at the path is full
   module _ (number : ℕ) (at : object_at f.tree path ≡ Some number) where
@@ -69,22 +66,36 @@ module _ (f : FileState) (path : List ℕ) where
     abbrev set : Edit
     set = SetAttr path attr
 
-    bound : bound_of facts_of.room f.tree set ≡ attribute_bound attr
+    set_facts : AreFacts f set facts_of
+    set_facts = record { long = refl; k = refl; at = refl }
+
+    bound : bound_of facts_of f.tree set ≡ attribute_bound attr
     unfolding bound_of
     bound = refl
 
     pub set_full : is_total_full f path ≡ true → IsGivenInPlace f set (Some fault.HeaderFull)
-    set_full many = (facts_of, are_facts, many)
+    set_full many = (facts_of, set_facts, many)
 
     pub set_long : is_total_full f path ≡ false → most_bytes < length f.image + attribute_bound attr → IsGivenInPlace f set (Some fault.ImageFull)
-    set_long few long = (facts_of, are_facts, (few, grind (arith, nat_tests, long, bound)))
+    set_long few long = (facts_of, set_facts, (few, refl, grind (arith, nat_tests, long, bound)))
 
     pub set_given : is_total_full f path ≡ false → length f.image + attribute_bound attr ≤ most_bytes → IsGivenInPlace f set None
-    set_given few short = (facts_of, are_facts, (few, grind (arith, nat_tests, short, bound)))
+    set_given few short = (facts_of, set_facts, (few, refl, grind (arith, nat_tests, short, bound)))
 
-  pub remove_given : (name : List ℕ) → length f.image ≤ most_bytes → IsGivenInPlace f (RemoveAttr path name) None
-  unfolding bound_of
-  remove_given name short = (facts_of, are_facts, (refl, grind (arith, nat_tests, short)))
+    pub set_grows : (bytes : ℕ) → bytes ≡ attribute_bound attr → IsGrowth f set bytes
+    set_grows bytes long = (facts_of, set_facts, long ∙ sym bound)
+
+  module _ (name : List ℕ) where
+    removed_facts : AreFacts f (RemoveAttr path name) facts_of
+    removed_facts = record { long = refl; k = refl; at = tt }
+
+    pub remove_given : length f.image ≤ most_bytes → IsGivenInPlace f (RemoveAttr path name) None
+    unfolding bound_of
+    remove_given short = (facts_of, removed_facts, (refl, refl, grind (arith, nat_tests, short)))
+
+    pub remove_grows : IsGrowth f (RemoveAttr path name) 0
+    unfolding bound_of
+    remove_grows = (facts_of, removed_facts, refl)
 
 -- ---- what the answer of a call says
 
@@ -175,13 +186,10 @@ module _ (f : FileState) (path : List ℕ) (number : ℕ) (now : FileState) (e :
     attribute_set given bytes long is = record {
       accepted = record { accepted = at.allowed; given = λ _. given };
       state = (λ i. record { tree = is.state.0 i; next = is.state.1 i }) ∙ ap (λ (t : Tree). record { tree = t; next = f.next }) tree_set;
-      sound = is.sound;
-      whole = is.whole;
-      k = is.k;
       object = named ∙ sym at.object;
       refreshed = refreshed;
       bytes = bytes;
-      growth = long;
+      growth = set_grows f path attr bytes long;
       trimmed = tt;
       changed = subst (λ (ns : List ℕ). IsChangedInPlace f now (tree_after f (SetAttr path attr)) f.next ns bytes) (sym touched_set)
           (subst (λ (t : Tree). IsChangedInPlace f now t f.next (number ∷ []) bytes) tree_set is);
@@ -204,13 +212,10 @@ module _ (f : FileState) (path : List ℕ) (number : ℕ) (now : FileState) (e :
     attribute_removed given is = record {
       accepted = record { accepted = at.allowed; given = λ _. given };
       state = (λ i. record { tree = is.state.0 i; next = is.state.1 i }) ∙ ap (λ (t : Tree). record { tree = t; next = f.next }) tree_removed;
-      sound = is.sound;
-      whole = is.whole;
-      k = is.k;
       object = named ∙ sym at.object;
       refreshed = refreshed;
       bytes = 0;
-      growth = refl;
+      growth = remove_grows f path name;
       trimmed = tt;
       changed = subst (λ (ns : List ℕ). IsChangedInPlace f now (tree_after f (RemoveAttr path name)) f.next ns 0) (sym touched_removed)
           (subst (λ (t : Tree). IsChangedInPlace f now t f.next (number ∷ []) 0) tree_removed is);

@@ -10,10 +10,11 @@ use Rattle.h5_header.specs.declared.add.AddFault.{AddFault}
 use Rattle.h5_header.specs.declared.add.AddFault.TheVariants as add
 use Rattle.h5_model.specs.Edits.Applied.{with_edit, with_sizes, with_dataset}
 use Rattle.h5_model.specs.Edits.Bounds.{bound_of}
-use Rattle.h5_model.specs.Edits.ImageAnswers.{Facts, is_header_full}
+use Rattle.h5_model.specs.Edits.Facts.{Facts}
+use Rattle.h5_model.specs.Edits.ImageAnswers.{is_header_full}
 use Rattle.h5_model.specs.Edits.Touched.{touched_by}
 use Rattle.h5_model.specs.Format.Limits.{most_bytes}
-use Rattle.h5_model.specs.Format.Superblock.{leaf_k, internal_k, chunk_k}
+use Rattle.h5_model.specs.Format.Superblock.{k_values}
 use Rattle.h5_model.specs.Tree.Objects.{Tree, with_object}
 use Rattle.h5_model.specs.declared.edits.Edit.{Edit}
 use Rattle.h5_model.specs.declared.edits.Edit.TheVariants.{Resize}
@@ -24,7 +25,7 @@ use Rattle.h5_query.specs.Attributed.{has_full_header}
 use Rattle.h5_query.specs.ChangedInPlace.{IsChangedInPlace}
 use Rattle.h5_query.specs.Opened.State.{FileState}
 use Rattle.h5_query.specs.Resized.{IsArrayTrimmed, LacksMaxima, extent_bytes}
-use Rattle.h5_edit.specs.Carried.{AreExtentFacts, IsGivenInPlace, IsRefused, total_at, tree_after}
+use Rattle.h5_edit.specs.Carried.{AreFacts, IsGivenInPlace, IsRefused, total_at, tree_after}
 use Rattle.h5_edit.specs.Edited.{IsEdited}
 use Rattle.h5_edit.specs.Refusals.Allowed.{IsAt}
 use Rattle.h5_edit.proofs.AttributeFacts.{full_at}
@@ -39,20 +40,23 @@ module _ (f : FileState) (path dims : List ℕ) (number : ℕ) (at : IsAt f.tree
   abbrev facts_of : Facts
   facts_of = record {
     length = length f.image;
+    k = k_values f.image;
     total = total_at f path;
-    room = record { leaf_k = leaf_k f.image; internal_k = internal_k f.image; chunk_k = chunk_k f.image; heap = 0; is_stored = λ _. false; has_maxima = not lacks };
+    has_maxima = not lacks;
+    heap = 0;
+    is_stored = λ _. false;
     splits_top = λ _. false;
   }
 
-  are_facts : AreExtentFacts f path facts_of
-  are_facts = record {
-    header = record { long = refl; total = refl; leaf = refl; internal = refl; chunk = refl };
+  are_facts : AreFacts f edit facts_of
+  are_facts = record { long = refl; k = refl; at = record {
+    total = refl;
     maxima = subst (λ (found : Option ℕ). LacksMaxima f.image (option_and_then (get f.table) found) (not (not lacks))) (sym at.object)
         (subst (LacksMaxima f.image (get f.table number)) (sym (not-not lacks)) told);
-  }
+  } }
 
   -- what they may add
-  bound_is : bound_of facts_of.room f.tree edit ≡ extent_bytes lacks dims
+  bound_is : bound_of facts_of f.tree edit ≡ extent_bytes lacks dims
   unfolding bound_of
   bound_is = by_maxima lacks where
     by_maxima : (b : Bool) → (if not b then 0 else (40 + 16 * length dims)) ≡ extent_bytes b dims
@@ -72,7 +76,7 @@ module _ (f : FileState) (path dims : List ℕ) (number : ℕ) (at : IsAt f.tree
       by_length true past roomy =
           absurd (let never : Ok u ≡ Err add.ImageFull = sym ok ∙ image_full.1 (roomy, grind (arith, nat_tests, past)) in cc)
       by_length false within roomy =
-          (facts_of, are_facts, (header_is ∙ roomy, ap (λ (n : ℕ). nat_lt most_bytes (length f.image + n)) bound_is ∙ within))
+          (facts_of, are_facts, (header_is ∙ roomy, refl, ap (λ (n : ℕ). nat_lt most_bytes (length f.image + n)) bound_is ∙ within))
 
       by_header : (b : Bool) → (lacks && has_full_header f number) ≡ b → IsGivenInPlace f edit None
       by_header true full = absurd (let never : Ok u ≡ Err add.HeaderFull = sym ok ∙ header_full.1 full in cc)
@@ -92,7 +96,7 @@ module _ (f : FileState) (path dims : List ℕ) (number : ℕ) (at : IsAt f.tree
         let over : nat_lt most_bytes (length f.image + extent_bytes lacks dims) ≡ true = grind (arith, nat_tests, more) in
         record {
           given = Some fault.ImageFull;
-          allowed = λ _. (facts_of, are_facts, (header_is ∙ past.0, ap (λ (n : ℕ). nat_lt most_bytes (length f.image + n)) bound_is ∙ over));
+          allowed = λ _. (facts_of, are_facts, (header_is ∙ past.0, refl, ap (λ (n : ℕ). nat_lt most_bytes (length f.image + n)) bound_is ∙ over));
           answer = rw at.allowed refl;
         }
 
@@ -114,9 +118,6 @@ module _ (f : FileState) (path dims : List ℕ) (number : ℕ) (at : IsAt f.tree
     resize_made u ok now e named refreshed is trimmed = record {
       accepted = record { accepted = at.allowed; given = λ _. resize_given u ok };
       state = (λ i. record { tree = is.state.0 i; next = is.state.1 i }) ∙ ap (λ (t : Tree). record { tree = t; next = f.next }) tree_resized;
-      sound = is.sound;
-      whole = is.whole;
-      k = is.k;
       object = named ∙ sym at.object;
       refreshed = refreshed;
       bytes = extent_bytes lacks dims;

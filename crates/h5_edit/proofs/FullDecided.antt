@@ -13,9 +13,7 @@ use Rattle.h5_btree.specs.Insertion.{IsFullWay}
 use Rattle.h5_btree.specs.declared.way.Step.{Step}
 use Rattle.h5_layout.specs.Way.{chunk_behind}
 use Rattle.h5_layout.specs.Edited.{IsFullAt}
-use Rattle.h5_layout.specs.Storage.{IsDeepFor, IsDeepIn}
-use Rattle.h5_layout.specs.declared.lacking.Missing.{Missing}
-use Rattle.h5_layout.specs.declared.lacking.Missing.TheVariants as missing
+use Rattle.h5_layout.specs.Storage.{IsDeepIn}
 
 -- it holds, or it does not
 abbrev pub IsDecided : Type 0 → Type 0
@@ -121,13 +119,9 @@ full_at_decided image shape root offsets =
       | inr not ↦ inr (λ is. not (is.high, (is.way, is.sought, is.nodes)))
     ]
 
-deep_in_decided : (image : List ℕ) (a : Described) (all : List (List ℕ)) (l : Layout) → IsDecided (IsDeepIn image a all 0 l)
-deep_in_decided image a all (InMessage bytes) = inr (λ never. never)
-deep_in_decided image a all (InBlock b) = inr (λ never. never)
-deep_in_decided image a all (InChunks chunk None) = inr (λ never. never)
-deep_in_decided image a all (InChunks chunk (Some root)) = decide_both (decide_less 0 (length all)) (full_at_decided image _ root _)
-
--- whether the first missing chunk finds no room
-pub deep_first_decided : (image : List ℕ) (a : Described) (m : Missing) → IsDecided (IsDeepFor image a m 0)
-deep_first_decided image a missing.Block = inr (λ never. never)
-deep_first_decided image a (missing.Chunks array new) = deep_in_decided image a new.offsets a.layout
+-- whether the first missing chunk of an array finds no room
+pub deep_first_decided : (image : List ℕ) (a : Described) (all : List (List ℕ)) (l : Layout) → IsDecided (IsDeepIn image a all 0 l)
+deep_first_decided image a all (InMessage bytes) = inr (λ never. never)
+deep_first_decided image a all (InBlock b) = inr (λ never. never)
+deep_first_decided image a all (InChunks chunk None) = inr (λ never. never)
+deep_first_decided image a all (InChunks chunk (Some root)) = decide_both (decide_less 0 (length all)) (full_at_decided image _ root _)

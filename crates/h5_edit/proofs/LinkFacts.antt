@@ -8,8 +8,9 @@ use Rattle.std.specs.FinMap.{get, insert, empty}
 use Rattle.h5_btree.specs.declared.insertion.InsertFault.{InsertFault}
 use Rattle.h5_btree.specs.declared.insertion.InsertFault.TheVariants as insertion
 use Rattle.h5_model.specs.Edits.Applied.{with_edit, with_link_at, new_dataset, new_object, state_after, named_object}
-use Rattle.h5_model.specs.Edits.Bounds.{Room, bound_of, contiguous_data, link_bound, name_span, new_header}
-use Rattle.h5_model.specs.Edits.ImageAnswers.{Facts, is_header_full, is_image_full, must_add, new_entries}
+use Rattle.h5_model.specs.Edits.Bounds.{bound_of, contiguous_data, link_bound, name_span, new_header}
+use Rattle.h5_model.specs.Edits.Facts.{Facts}
+use Rattle.h5_model.specs.Edits.ImageAnswers.{is_header_full, is_image_full, must_add, new_entries}
 use Rattle.h5_model.specs.Edits.Refusal.{new_path, refusal_of, rules_of}
 use Rattle.h5_model.proofs.RefusalLaws.{none_holds}
 use Rattle.h5_model.specs.Edits.Touched.{touched_by}
@@ -17,7 +18,7 @@ use Rattle.h5_model.specs.Format.Addresses.{SymbolTable}
 use Rattle.h5_model.specs.Format.Heap.{segment_block}
 use Rattle.h5_model.specs.Format.Limits.{most_bytes}
 use Rattle.h5_model.specs.Format.Sizes.{group_node, symbol_node, text_span}
-use Rattle.h5_model.specs.Format.Superblock.{leaf_k, internal_k, chunk_k}
+use Rattle.h5_model.specs.Format.Superblock.{internal_k, k_values}
 use Rattle.h5_model.specs.Format.Messages.{most_messages}
 use Rattle.h5_model.specs.Tree.Objects.{Tree, Object, Content, Group, Array, Links, ToObject, Soft, dataset_in, dataset_of, link_in, links_in, links_of}
 use Rattle.h5_model.specs.Tree.Paths.{last_of, names_of, parent_at, parent_from}
@@ -25,8 +26,8 @@ use Rattle.h5_model.specs.declared.dataset.Spec.{Spec}
 use Rattle.h5_model.specs.declared.edits.Edit.{Edit}
 use Rattle.h5_model.specs.declared.edits.Edit.TheVariants.{CreateGroup, CreateDataset, HardLink, SoftLink}
 use Rattle.h5_model.specs.declared.edits.Edited.{Edited}
-use Rattle.h5_model.specs.declared.edit_fault.EditFault.{EditFault}
 use Rattle.h5_model.specs.declared.edit_fault.EditFault.TheVariants as fault
+use Rattle.h5_model.specs.declared.k_values.KValues.{KValues}
 use Rattle.h5_model.specs.declared.object_no.ObjectNo.{ObjectNo}
 use Rattle.h5_space.specs.declared.image.SpaceFault.TheVariants as space
 use Rattle.h5_laws.specs.Trees.Sound.{IsSoundTree}
@@ -44,8 +45,8 @@ use Rattle.h5_query.specs.Opened.State.{FileState, state_of}
 use Rattle.h5_query.proofs.OpenedLaws.Indexed.{next_free}
 use Rattle.h5_query.proofs.PathLaws.{last-parent}
 use Rattle.h5_edit.specs.Answers.{added_answer, insert_fault}
-use Rattle.h5_edit.specs.Carried.{AreGroupFacts, IsGivenByGroup, IsGivenInPlace, IsRefused, tree_after}
-use Rattle.h5_edit.specs.Edited.{IsEdited, IsGrowth, IsTrimmedBy, made_numbers}
+use Rattle.h5_edit.specs.Carried.{AreFacts, AreFactsAt, AreGroupFacts, IsGivenInPlace, IsRefused, tree_after}
+use Rattle.h5_edit.specs.Edited.{IsEdited, IsTrimmedBy, made_numbers}
 use Rattle.h5_edit.specs.Refusals.Allowed.{IsLinkPlaced, IsPlaceAllowed}
 use Rattle.h5_edit.specs.declared.rules.place.NewPlace.{NewPlace}
 use Rattle.h5_edit.proofs.Fitting.{link_free, linked_at}
@@ -85,20 +86,19 @@ span_is tree path parent name at = go (names_of path) at where
 
 pub record IsLinkEdit (f : FileState) (path : List ℕ) (parent : ℕ) (name : List ℕ) (edit : Edit) (table : SymbolTable) (room : ℕ) (after : Tree) (next : ℕ) (touched : List ℕ) : Type 0 where
   pub at : parent_at f.tree path ≡ Some (parent, name)
-  pub bound : (r : Room) → r.leaf_k ≡ leaf_k f.image → r.internal_k ≡ internal_k f.image → r.heap ≡ (segment_block f.image table.heap).len → bound_of r f.tree edit ≡ room
-  pub light : (r : Room) → must_add r edit ≡ false
-  pub one : (r : Room) → new_entries r f.tree edit ≡ 1
-  pub given : (given : Option EditFault) → IsGivenByGroup f path edit given → IsGivenInPlace f edit given
-  pub growth : (facts : Facts) → AreGroupFacts f path facts → IsGrowth f edit (bound_of facts.room f.tree edit)
+  pub bound : (facts : Facts) → facts.k ≡ k_values f.image → facts.heap ≡ (segment_block f.image table.heap).len → bound_of facts f.tree edit ≡ room
+  pub light : (facts : Facts) → must_add facts edit ≡ false
+  pub one : (facts : Facts) → new_entries facts f.tree edit ≡ 1
+  pub asks : (facts : Facts) → AreGroupFacts f path facts → AreFactsAt f edit facts
   pub tree : after ≡ tree_after f edit
   pub counted : next ≡ (state_after (state_of f) edit).next
   pub touches : made_numbers f edit ++ touched_by f.tree edit ≡ touched
   pub trimmed : (now : FileState) → IsTrimmedBy edit f now
 
 -- what a link may add, by the K values and the segment
-linked_room : (r : Room) (image : List ℕ) (table : SymbolTable) (occupied : ℕ) → r.leaf_k ≡ leaf_k image → r.internal_k ≡ internal_k image
-    → r.heap ≡ (segment_block image table.heap).len → link_bound r occupied ≡ link_room image table occupied
-linked_room r image table occupied leaf internal heap = λ i. 17 * group_node (internal i) + symbol_node (leaf i) + 2 * heap i + occupied + 16
+linked_room : (facts : Facts) (image : List ℕ) (table : SymbolTable) (occupied : ℕ) → facts.k ≡ k_values image → facts.heap ≡ (segment_block image table.heap).len
+    → link_bound facts occupied ≡ link_room image table occupied
+linked_room facts image table occupied k heap = λ i. 17 * group_node (k i).internal + symbol_node (k i).leaf + 2 * heap i + occupied + 16
 
 module _ (f : FileState) where
   pub hard_edit : {target path : List ℕ} {number : ℕ} {place : NewPlace} → IsLinkPlaced f.tree f.next target path (HardLink target path) (number, place) → (table : SymbolTable)
@@ -107,12 +107,11 @@ module _ (f : FileState) where
   unfolding with_edit bound_of touched_by
   hard_edit {target} {path} {number} {place} (leads, placed) table = record {
     at = placed.parent;
-    bound = λ r leaf internal heap. ap (link_bound r) (span_is f.tree path place.parent place.name.now placed.parent)
-        ∙ linked_room r f.image table (text_span place.name.now) leaf internal heap;
-    light = λ r. refl;
-    one = λ r. refl;
-    given = λ given so. so;
-    growth = λ facts are. (facts, are, refl);
+    bound = λ facts k heap. ap (link_bound facts) (span_is f.tree path place.parent place.name.now placed.parent)
+        ∙ linked_room facts f.image table (text_span place.name.now) k heap;
+    light = λ facts. refl;
+    one = λ facts. refl;
+    asks = λ facts are. are;
     trimmed = λ now. tt;
     tree = sym (ap (λ (o : Option ℕ). option_map_or (λ n. with_link_at f.tree path (ToObject n)) o f.tree) leads ∙ linked_at f placed (ToObject number));
     counted = refl;
@@ -125,12 +124,11 @@ module _ (f : FileState) where
   unfolding with_edit bound_of touched_by
   soft_edit {text} {path} {place} placed table = record {
     at = placed.parent;
-    bound = λ r leaf internal heap. ap (λ (n : ℕ). link_bound r (n + text_span text)) (span_is f.tree path place.parent place.name.now placed.parent)
-        ∙ linked_room r f.image table (text_span place.name.now + text_span text) leaf internal heap;
-    light = λ r. refl;
-    one = λ r. refl;
-    given = λ given so. so;
-    growth = λ facts are. (facts, are, refl);
+    bound = λ facts k heap. ap (λ (n : ℕ). link_bound facts (n + text_span text)) (span_is f.tree path place.parent place.name.now placed.parent)
+        ∙ linked_room facts f.image table (text_span place.name.now + text_span text) k heap;
+    light = λ facts. refl;
+    one = λ facts. refl;
+    asks = λ facts are. are;
     trimmed = λ now. tt;
     tree = sym (linked_at f placed (Soft text));
     counted = refl;
@@ -145,15 +143,14 @@ module _ (f : FileState) where
     unfolding with_edit bound_of touched_by
     group_edit placed long = record {
       at = placed.parent;
-      bound = λ r leaf internal heap.
+      bound = λ facts k heap.
           let named = span_is f.tree path place.parent place.name.now placed.parent in
-          let placed_room = linked_room r f.image table (text_span place.name.now) leaf internal heap in
-          let node = ap group_node internal in
+          let placed_room = linked_room facts f.image table (text_span place.name.now) k heap in
+          let node : group_node (facts.k).internal ≡ group_node (internal_k f.image) = ap (λ (v : KValues). group_node v.internal) k in
           omega (arith, named, placed_room, node, long);
-      light = λ r. refl;
-      one = λ r. refl;
-      given = λ given so. so;
-      growth = λ facts are. (facts, are, refl);
+      light = λ facts. refl;
+      one = λ facts. refl;
+      asks = λ facts are. are;
       trimmed = λ now. tt;
       tree = ap (λ (t : Tree). insert t f.next (new_object (Group empty))) (sym (linked_at f placed (ToObject f.next)));
       counted = refl;
@@ -166,14 +163,13 @@ module _ (f : FileState) where
     unfolding with_edit bound_of touched_by
     array_edit {spec} placed long = record {
       at = placed.parent;
-      bound = λ r leaf internal heap.
+      bound = λ facts k heap.
           let named = span_is f.tree path place.parent place.name.now placed.parent in
-          let placed_room = linked_room r f.image table (text_span place.name.now) leaf internal heap in
+          let placed_room = linked_room facts f.image table (text_span place.name.now) k heap in
           omega (arith, named, placed_room, long);
-      light = λ r. refl;
-      one = λ r. refl;
-      given = λ given so. so;
-      growth = λ facts are. (facts, are, refl);
+      light = λ facts. refl;
+      one = λ facts. refl;
+      asks = λ facts are. are;
       trimmed = λ now. tt;
       tree = ap (λ (t : Tree). insert t f.next (new_object (Array (new_dataset spec)))) (sym (linked_at f placed (ToObject f.next)));
       counted = refl;
@@ -188,50 +184,38 @@ module _ (f : FileState) (path : List ℕ) (parent : ℕ) (name : List ℕ) (edi
   abbrev facts_of : Bool → Facts
   facts_of full = record {
     length = length f.image;
+    k = k_values f.image;
     total = 0;
-    room = record {
-      leaf_k = leaf_k f.image;
-      internal_k = internal_k f.image;
-      chunk_k = chunk_k f.image;
-      heap = (segment_block f.image table.heap).len;
-      is_stored = λ _. false;
-      has_maxima = false;
-    };
+    has_maxima = false;
+    heap = (segment_block f.image table.heap).len;
+    is_stored = λ _. false;
     splits_top = λ _. full;
   }
 
-  are_facts : (full : Bool) → IsTrue full ↔ IsFullFor f.image table name → AreGroupFacts f path (facts_of full)
+  are_facts : (full : Bool) → IsTrue full ↔ IsFullFor f.image table name → AreFacts f edit (facts_of full)
   are_facts full top = record {
-    parent = parent;
-    name = name;
-    at = is.at;
-    table = table;
-    group = group;
     long = refl;
-    leaf = refl;
-    internal = refl;
-    chunk = refl;
-    heap = refl;
-    top = top;
+    k = refl;
+    at = is.asks (facts_of full) (record { parent = parent; name = name; at = is.at; table = table; group = group; heap = refl; top = top });
   }
 
-  bound_is : (full : Bool) → bound_of (facts_of full).room f.tree edit ≡ room
-  bound_is full = is.bound (facts_of full).room refl refl refl
+  bound_is : (full : Bool) → bound_of (facts_of full) f.tree edit ≡ room
+  bound_is full = is.bound (facts_of full) refl refl
 
   no_header : (full : Bool) → is_header_full (facts_of full) edit ≡ false
-  no_header full = ap (λ (b : Bool). b && nat_lt most_messages 2) (is.light (facts_of full).room)
+  no_header full = ap (λ (b : Bool). b && nat_lt most_messages 2) (is.light (facts_of full))
 
   -- by the answer of the call that puts the link
   module _ (accepted : refusal_of f.tree f.next edit ≡ None) (r : Result (Unit {0}) InsertFault) (deep : (r ≡ Err insertion.TreeTooDeep) ↔ IsFullFor f.image table name)
       (full : (r ≡ Err (insertion.Space space.ImageFull)) ↔ ((IsFullFor f.image table name → ⊥) × (most_bytes < length f.image + room))) where
-    has_room : (IsFullFor f.image table name → ⊥) → AreGroupFacts f path (facts_of false)
+    has_room : (IsFullFor f.image table name → ⊥) → AreFacts f edit (facts_of false)
     has_room fits = are_facts false (λ never. absurd (let no : false ≡ true = never in cc), λ filled. absurd (fits filled))
 
     fits_ok : (u : Unit {0}) → r ≡ Ok u → IsFullFor f.image table name → ⊥
     fits_ok u ok filled = let never : Ok u ≡ Err insertion.TreeTooDeep = sym ok ∙ deep.1 filled in absurd (cc)
 
     link_given : (u : Unit {0}) → r ≡ Ok u → IsGivenInPlace f edit None
-    link_given u ok = is.given None (facts_of false, has_room (fits_ok u ok), (no_header false, by_length (nat_lt most_bytes (length f.image + room)) refl), refl) where
+    link_given u ok = (facts_of false, has_room (fits_ok u ok), (no_header false, refl, by_length (nat_lt most_bytes (length f.image + room)) refl)) where
       by_length : (b : Bool) → nat_lt most_bytes (length f.image + room) ≡ b → is_image_full (facts_of false) f.tree edit ≡ false
       by_length true past =
           absurd (let never : Ok u ≡ Err (insertion.Space space.ImageFull) = sym ok ∙ full.1 (fits_ok u ok, grind (arith, nat_tests, past)) in cc)
@@ -240,11 +224,10 @@ module _ (f : FileState) (path : List ℕ) (parent : ℕ) (name : List ℕ) (edi
     refused_deep : r ≡ Err insertion.TreeTooDeep → IsRefused f edit fault.TreeTooDeep
     refused_deep so = record {
       given = Some fault.TreeTooDeep;
-      allowed = λ _. is.given (Some fault.TreeTooDeep) (
+      allowed = λ _. (
         facts_of true,
         are_facts true (λ _. deep.0 so, λ _. refl),
-        (no_header true, (0, omega (arith, is.one (facts_of true).room), refl)),
-        tt,
+        (no_header true, (0, omega (arith, is.one (facts_of true)), refl)),
       );
       answer = rw accepted refl;
     }
@@ -255,8 +238,8 @@ module _ (f : FileState) (path : List ℕ) (parent : ℕ) (name : List ℕ) (edi
         let long = past.1 in
         record {
           given = Some fault.ImageFull;
-          allowed = λ _. is.given (Some fault.ImageFull)
-              (facts_of false, has_room past.0, (no_header false, ap (λ (n : ℕ). nat_lt most_bytes (length f.image + n)) (bound_is false) ∙ grind (arith, nat_tests, long)), refl);
+          allowed = λ _.
+              (facts_of false, has_room past.0, (no_header false, refl, ap (λ (n : ℕ). nat_lt most_bytes (length f.image + n)) (bound_is false) ∙ grind (arith, nat_tests, long)));
           answer = rw accepted refl;
         }
 
@@ -265,7 +248,7 @@ module _ (f : FileState) (path : List ℕ) (parent : ℕ) (name : List ℕ) (edi
     link_refused (insertion.Space space.ImageFull) so = refused_long so
     link_refused (insertion.Space space.NoMemory) so = record {
       given = Some fault.NoMemory;
-      allowed = λ _. is.given (Some fault.NoMemory) tt;
+      allowed = λ _. tt;
       answer = rw accepted refl;
     }
 
@@ -276,13 +259,10 @@ module _ (f : FileState) (path : List ℕ) (parent : ℕ) (name : List ℕ) (edi
       link_made changed = record {
         accepted = record { accepted = accepted; given = λ _. link_given u ok };
         state = (λ i. record { tree = changed.state.0 i; next = changed.state.1 i }) ∙ (λ i. record { tree = is.tree i; next = is.counted i });
-        sound = changed.sound;
-        whole = changed.whole;
-        k = changed.k;
         object = named;
         refreshed = refreshed;
-        bytes = bound_of (facts_of false).room f.tree edit;
-        growth = is.growth (facts_of false) (has_room (fits_ok u ok));
+        bytes = bound_of (facts_of false) f.tree edit;
+        growth = (facts_of false, has_room (fits_ok u ok), refl);
         trimmed = is.trimmed now;
         changed = subst (λ (n : ℕ). IsChangedInPlace f now (tree_after f edit) (state_after (state_of f) edit).next (made_numbers f edit ++ touched_by f.tree edit) n) (sym (bound_is false))
             (subst (λ (ns : List ℕ). IsChangedInPlace f now (tree_after f edit) (state_after (state_of f) edit).next ns room) (sym is.touches)

@@ -2,24 +2,10 @@
 use Rattle.std.proofs.Common.{◌≡◌, sym, ◌∙◌, Some, None, refl}
 use Rattle.h5_model.specs.Edits.Refusal.{refusal_of}
 use Rattle.h5_model.specs.declared.edits.Edit.{Edit}
-use Rattle.h5_model.specs.declared.edits.Edit.TheVariants.{CreateGroup, CreateDataset, HardLink, SoftLink, Unlink, SetAttr, RemoveAttr, Write, Resize}
 use Rattle.h5_model.specs.declared.edit_fault.EditFault.{EditFault}
 use Rattle.h5_model.specs.declared.edit_fault.EditFault.TheVariants as fault
 use Rattle.h5_query.specs.Opened.State.{FileState}
-use Rattle.h5_edit.specs.Carried.{IsGivenInPlace, IsRefused}
-use Rattle.h5_edit.proofs.AttributeFacts.{facts_at}
-
--- want of memory may be given of any edit
-memory_in_place : (f : FileState) (edit : Edit) → IsGivenInPlace f edit (Some fault.NoMemory)
-memory_in_place f (SetAttr path attr) = let facts = facts_at f path in (facts.0, facts.1, tt)
-memory_in_place f (RemoveAttr path name) = let facts = facts_at f path in (facts.0, facts.1, tt)
-memory_in_place f (CreateGroup path) = tt
-memory_in_place f (CreateDataset path spec) = tt
-memory_in_place f (HardLink target path) = tt
-memory_in_place f (SoftLink text path) = tt
-memory_in_place f (Unlink path) = tt
-memory_in_place f (Write path hyper values) = tt
-memory_in_place f (Resize path dims) = tt
+use Rattle.h5_edit.specs.Carried.{IsRefused}
 
 module _ (f : FileState) (edit : Edit) where
   -- the lowest rule that holds, whatever else is given
@@ -32,4 +18,4 @@ module _ (f : FileState) (edit : Edit) where
 
   -- want of memory, where no rule holds
   pub short_of_memory : refusal_of f.tree f.next edit ≡ None → IsRefused f edit fault.NoMemory
-  short_of_memory h = record { given = Some fault.NoMemory; allowed = λ _. memory_in_place f edit; answer = rw h refl }
+  short_of_memory h = record { given = Some fault.NoMemory; allowed = λ _. tt; answer = rw h refl }

@@ -1,8 +1,8 @@
--- How many bytes a write may add to the image, and how many chunks: those of the storage that is missing (File Format Specification 3.0,
+-- How many bytes a write may add to the image, and which chunks: those of the storage that is missing (File Format Specification 3.0,
 -- sections III.A.1 and IV.A.2.i).
 use Rattle.std.proofs.Common.{◌≡◌, ℕ, zero, suc, ◌+◌, ◌*◌, ◌<◌, ◌&&◌, ◌||◌, List, [], Bool, true, false, not, nat_lt, Option, Some, None, length, refl, sym, ap, ◌∙◌, subst, arith}
 use Rattle.std.proofs.lemmas.Bool.Decides.{nat_tests}
-use Rattle.std.specs.Prelude.{ℤ, ◌==◌, if◌then◌else◌, is_some}
+use Rattle.std.specs.Prelude.{ℤ, ◌↔◌, ◌==◌, if◌then◌else◌, is_some}
 use Rattle.std.specs.FinMap.{get}
 use Rattle.std.specs.List.{list_any}
 use Rattle.h5_bytes.specs.declared.Block.{Block}
@@ -10,18 +10,18 @@ use Rattle.h5_header.proofs.FoundLaws.{among_some}
 use Rattle.h5_layout.specs.HeldChunks.{IsChunkMet}
 use Rattle.h5_layout.specs.NewChunks.{AreMissing, ChunkOffsets}
 use Rattle.h5_layout.specs.Standing.{is_stored_in}
-use Rattle.h5_layout.proofs.RisingLaws.{rising_once, rising_rises}
+use Rattle.h5_layout.proofs.RisingLaws.{rising_rises}
 use Rattle.h5_layout.proofs.RoomLaws.{is_array}
 use Rattle.h5_layout.proofs.StandingLaws.{HasBoxes, boxes_of}
-use Rattle.h5_model.specs.Edits.Bounds.{Room, chunks_bound, new_boxes, write_bound}
-use Rattle.h5_model.specs.Edits.ImageAnswers.{new_chunks}
+use Rattle.h5_model.specs.Edits.Bounds.{chunks_bound, new_chunks, write_bound}
+use Rattle.h5_model.specs.Edits.Facts.{Facts}
 use Rattle.h5_model.specs.Format.Chunks.{Chunks}
 use Rattle.h5_model.specs.Format.Layout.{Layout, InMessage, InBlock, InChunks, layout_of}
 use Rattle.h5_model.specs.Format.Messages.{Message}
 use Rattle.h5_model.specs.Format.Nodes.{chunk_kind, node_length}
 use Rattle.h5_model.specs.Format.Reached.{Shape}
 use Rattle.h5_model.specs.Format.Sizes.{chunk_node}
-use Rattle.h5_model.specs.Format.Superblock.{leaf_k, internal_k, chunk_k}
+use Rattle.h5_model.specs.Format.Superblock.{chunk_k, k_values}
 use Rattle.h5_model.specs.Format.Described.{Described, HasArray, storage_of}
 use Rattle.h5_model.specs.Tree.Grid.{corner_of}
 use Rattle.h5_model.specs.Tree.Objects.{Dataset, Contiguous}
@@ -36,13 +36,12 @@ use Rattle.h5_model.proofs.Members.{contains_in, in_contains}
 use Rattle.h5_model.proofs.RowLaws.{equal_number}
 use Rattle.h5_laws.proofs.SoundLaws.NewPaths.{none_any}
 use Rattle.h5_layout.specs.Storage.{IsDeepFor, IsDeepIn, IsFullInNewTree, IsFullInTurn, chunks_room_in, storage_bytes}
-use Rattle.h5_layout.specs.Lacking.{IsMissing, IsMissingIn}
-use Rattle.h5_layout.specs.Lacking.{lacks_cells}
+use Rattle.h5_layout.specs.Lacking.{IsMissing, IsMissingIn, lacks_cells}
 use Rattle.h5_layout.specs.declared.lacking.Missing.{Missing}
 use Rattle.h5_layout.specs.declared.lacking.Missing.TheVariants as missing
 use Rattle.h5_layout.proofs.ChosenPlaces.{selected_place}
 use Rattle.h5_layout.proofs.LackingLaws.{lacking_some}
-use Rattle.h5_edit.proofs.WriteBound.{new_counted}
+use Rattle.h5_edit.proofs.WriteBound.{new_are}
 use Rattle.h5_edit.proofs.WrittenTrees.{some_of, storage_kept}
 
 -- ---- what messages say of chunks
@@ -64,10 +63,10 @@ none_there : (found : Option ℕ) → is_some found ≡ false → found ≡ None
 none_there None is = refl
 none_there (Some n) is = absurd (let never : true ≡ false = is in cc)
 
-bound_some : (r : Room) (rank bytes m : ℕ) → 0 < m → chunks_bound r rank bytes m ≡ m * (bytes + 17 * chunk_node r.chunk_k rank) + chunk_node r.chunk_k rank
-bound_some r rank bytes m some =
+bound_some : (k rank bytes m : ℕ) → 0 < m → chunks_bound k rank bytes m ≡ m * (bytes + 17 * chunk_node k rank) + chunk_node k rank
+bound_some k rank bytes m some =
     let past : (m == 0) ≡ false = grind (arith, nat_tests, some) in
-    ap (λ (b : Bool). if b then 0 else m * (bytes + 17 * chunk_node r.chunk_k rank) + chunk_node r.chunk_k rank) past
+    ap (λ (b : Bool). if b then 0 else m * (bytes + 17 * chunk_node k rank) + chunk_node k rank) past
 
 node_long : (k rank : ℕ) → chunk_node k rank ≡ node_length (chunk_kind k rank)
 node_long k rank = omega arith
@@ -77,27 +76,28 @@ no_block : (stored some : Bool) → Contiguous (stored || some) ≡ Contiguous s
 no_block true some is = refl
 no_block false some is = cc
 
--- what the image says of the room
-abbrev pub room_in : List ℕ → Described → Room
-room_in image a = record {
-  leaf_k = leaf_k image;
-  internal_k = internal_k image;
-  chunk_k = chunk_k image;
+-- what the image says of a write, where these of the missing chunks are said to find no room
+abbrev pub storage_facts : List ℕ → Described → (ℕ → Bool) → Facts
+storage_facts image a top = record {
+  length = length image;
+  k = k_values image;
+  total = 0;
+  has_maxima = false;
   heap = 0;
   is_stored = λ offsets. is_some (get (stored_chunks image a.fixed a.layout) offsets);
-  has_maxima = false;
+  splits_top = top;
 }
 
 module _ (image : List ℕ) (ms : List Message) (a : Described) (has : HasArray ms a) (path : List ℕ) (hyper : Hyper) (values : List ℤ)
-    (within : Within a.sizes (axes_of hyper)) where
+    (within : Within a.sizes (axes_of hyper)) (top : ℕ → Bool) where
   abbrev edit : Edit
   edit = Write path hyper values
 
   abbrev slab : Slab
   slab = axes_of hyper
 
-  abbrev room : Room
-  room = room_in image a
+  abbrev facts : Facts
+  facts = storage_facts image a top
 
   -- the array with this layout
   abbrev dataset_by : Layout → Dataset
@@ -114,27 +114,27 @@ module _ (image : List ℕ) (ms : List Message) (a : Described) (has : HasArray 
   -- ---- chunks
 
   module _ (chunk : List ℕ) (root : Option ℕ) (is : a.layout ≡ InChunks chunk root) where
-    abbrev new_there : ℕ
-    new_there = length (new_boxes room edit a.sizes chunk)
+    abbrev new_there : List (List ℕ)
+    new_there = new_chunks facts edit (dataset_by (InChunks chunk root))
 
-    missing_counted : (new : ChunkOffsets) → AreMissing image a chunk slab new → new_there ≡ length new.offsets
-    missing_counted new are =
-        new_counted room path hyper values a.sizes chunk (ranked ms a has chunk root is) (some_cells ms a has chunk root is) within new.offsets
+    missing_are : (new : ChunkOffsets) → AreMissing image a chunk slab new → new_there ≡ new.offsets
+    missing_are new are =
+        new_are facts path hyper values (dataset_by (InChunks chunk root)) chunk refl (ranked ms a has chunk root is) (some_cells ms a has chunk root is) within new.offsets
         (rising_rises new.offsets are.rising)
         (λ first at. let of = (are.each first).0 (contains_in first new.offsets at) in (of.0, ap (λ (found : Option ℕ). is_some found) of.1))
         (λ first met unstored. in_contains first new.offsets ((are.each first).1 (met, none_there _ unstored)))
 
-    none_counted : lacks_cells image a slab ≡ false → new_there ≡ 0
-    none_counted none =
-        new_counted room path hyper values a.sizes chunk (ranked ms a has chunk root is) (some_cells ms a has chunk root is) within [] tt
+    none_are : lacks_cells image a slab ≡ false → new_there ≡ []
+    none_are none =
+        new_are facts path hyper values (dataset_by (InChunks chunk root)) chunk refl (ranked ms a has chunk root is) (some_cells ms a has chunk root is) within [] tt
         (λ first at. absurd at) unmet where
-          unmet : (first : List ℕ) → IsChunkMet slab chunk first → room.is_stored first ≡ false → ⊥
+          unmet : (first : List ℕ) → IsChunkMet slab chunk first → facts.is_stored first ≡ false → ⊥
           unmet first (index, selected, corner) unstored =
               let place = place_of a.sizes index in
               let same : index_of a.sizes place ≡ index = index-place a.sizes index (within index selected) in
               let passes = none_any (λ p. not (is_some (get chunks (corner_of chunk (index_of a.sizes p))))) (selection_of a.sizes slab) place
               (sym (lacks_by (InChunks chunk root) is) ∙ none) (selected_place a.sizes slab index (within index selected) selected) in
-              let here : not (room.is_stored first) ≡ false = ap (λ (o : List ℕ). not (room.is_stored o)) (sym (ap (corner_of chunk) same ∙ corner)) ∙ passes in
+              let here : not (facts.is_stored first) ≡ false = ap (λ (o : List ℕ). not (facts.is_stored o)) (sym (ap (corner_of chunk) same ∙ corner)) ∙ passes in
               let never : true ≡ false = sym (ap not unstored) ∙ here in
               absurd (cc)
 
@@ -144,9 +144,10 @@ module _ (image : List ℕ) (ms : List Message) (a : Described) (has : HasArray 
   size = cells a.sizes * a.fixed.size
 
   -- where nothing is missing
-  pub none_bound : lacks_cells image a slab ≡ false → (l : Layout) → a.layout ≡ l → write_bound room edit slab (dataset_by l) ≡ 0
+  pub none_bound : lacks_cells image a slab ≡ false → (l : Layout) → a.layout ≡ l → write_bound facts edit slab (dataset_by l) ≡ 0
   none_bound none (InMessage bytes) is = refl
-  none_bound none (InChunks chunk root) is = ap (chunks_bound room (length a.sizes) (cells chunk * a.fixed.size)) (none_counted chunk root is none)
+  none_bound none (InChunks chunk root) is =
+      ap (λ (new : List (List ℕ)). chunks_bound (chunk_k image) (length a.sizes) (cells chunk * a.fixed.size) (length new)) (none_are chunk root is none)
   none_bound none (InBlock b) is =
       let kept = storage_kept a.sizes slab (InBlock b) chunks (sym (lacks_by (InBlock b) is) ∙ none) in
       ap (λ (test : Bool). if test then size else 0)
@@ -154,7 +155,7 @@ module _ (image : List ℕ) (ms : List Message) (a : Described) (has : HasArray 
 
   -- or so much
   pub some_bound : (m : Missing) → lacks_cells image a slab ≡ true → (l : Layout) → a.layout ≡ l → IsMissingIn image a slab m l
-      → write_bound room edit slab (dataset_by l) ≡ storage_bytes image a m
+      → write_bound facts edit slab (dataset_by l) ≡ storage_bytes image a m
   some_bound missing.Block lacks (InBlock b) is none =
       let some = some_of (λ place. not (is_some b)) (selection_of a.sizes slab) (sym (lacks_by (InBlock b) is) ∙ lacks) in
       ap (λ (c : Option Block). if not (is_some c && nat_lt 0 (cells a.sizes)) && nat_lt 0 (length (selection_of a.sizes slab)) then size else 0) none
@@ -168,8 +169,8 @@ module _ (image : List ℕ) (ms : List Message) (a : Described) (has : HasArray 
       let bytes = cells chunk * a.fixed.size in
       let node : chunk_node (chunk_k image) (length a.sizes) ≡ node_length (chunk_kind (chunk_k image) (length chunk))
       = ap (chunk_node (chunk_k image)) (sym (ranked ms a has chunk root is)) ∙ node_long (chunk_k image) (length chunk) in
-      ap (chunks_bound room (length a.sizes) bytes) (missing_counted chunk root is new are.0)
-      ∙ bound_some room (length a.sizes) bytes n (lacking_some image a slab chunk root is new are.0 lacks)
+      ap (λ (all : List (List ℕ)). chunks_bound (chunk_k image) (length a.sizes) bytes (length all)) (missing_are chunk root is new are.0)
+      ∙ bound_some (chunk_k image) (length a.sizes) bytes n (lacking_some image a slab chunk root is new are.0 lacks)
       ∙ ap (λ long. n * (bytes + 17 * long) + long) node
       ∙ sym (ap (chunks_room_in image a n) is)
 
@@ -183,48 +184,31 @@ module _ (image : List ℕ) (ms : List Message) (a : Described) (has : HasArray 
   new_below shape all zero never = absurd never
   new_below shape all (suc n) full = full.0
 
-  -- one of those that are missing
-  pub deep_below : (m : Missing) (n : ℕ) (l : Layout) → a.layout ≡ l → IsMissingIn image a slab m l → IsDeepFor image a m n → n < new_chunks room edit (dataset_by l)
-  deep_below missing.Block n l is missed deep = absurd deep
-  deep_below (missing.Chunks array new) n (InMessage bytes) is never deep = absurd never
-  deep_below (missing.Chunks array new) n (InBlock b) is never deep = absurd never
-  deep_below (missing.Chunks array new) n (InChunks chunk None) is are deep =
-      let low = new_below _ new.offsets n (subst (IsDeepIn image a new.offsets n) is deep) in
-      let count = missing_counted chunk None is new are.0 in
-      omega (arith, low, count)
-  deep_below (missing.Chunks array new) n (InChunks chunk (Some root)) is are deep =
-      let low = turn_below _ root new.offsets n (subst (IsDeepIn image a new.offsets n) is deep) in
-      let count = missing_counted chunk (Some root) is new are.0 in
-      omega (arith, low, count)
+  -- the list that the facts name is that of the missing chunks
+  pub deep_is : (m : Missing) (n : ℕ) (l : Layout) → a.layout ≡ l → IsMissingIn image a slab m l
+      → IsDeepIn image a (new_chunks facts edit (dataset_by l)) n l ↔ IsDeepFor image a m n
+  deep_is missing.Block n (InMessage bytes) is never = absurd never
+  deep_is missing.Block n (InBlock b) is none = (λ deep. deep, λ deep. deep)
+  deep_is missing.Block n (InChunks chunk root) is never = absurd never
+  deep_is (missing.Chunks array new) n (InMessage bytes) is never = absurd never
+  deep_is (missing.Chunks array new) n (InBlock b) is never = absurd never
+  deep_is (missing.Chunks array new) n (InChunks chunk root) is are =
+      let same : IsDeepIn image a (new_chunks facts edit (dataset_by (InChunks chunk root))) n (InChunks chunk root) ≡ IsDeepIn image a new.offsets n a.layout
+      = λ i. IsDeepIn image a (missing_are chunk root is new are.0 i) n (sym is i) in
+      (λ deep. subst (λ (T : Type 0). T) same deep, λ deep. subst (λ (T : Type 0). T) (sym same) deep)
 
-  none_new : lacks_cells image a slab ≡ false → (l : Layout) → a.layout ≡ l → new_chunks room edit (dataset_by l) ≡ 0
-  none_new none (InMessage bytes) is = refl
-  none_new none (InBlock b) is = refl
-  none_new none (InChunks chunk root) is = none_counted chunk root is none
+  -- one of those that are missing
+  pub deep_below : (n : ℕ) (l : Layout) → IsDeepIn image a (new_chunks facts edit (dataset_by l)) n l → n < length (new_chunks facts edit (dataset_by l))
+  deep_below n (InMessage bytes) never = absurd never
+  deep_below n (InBlock b) never = absurd never
+  deep_below n (InChunks chunk None) deep = new_below _ (new_chunks facts edit (dataset_by (InChunks chunk None))) n deep
+  deep_below n (InChunks chunk (Some root)) deep = turn_below _ root (new_chunks facts edit (dataset_by (InChunks chunk (Some root)))) n deep
 
   -- where nothing is missing, none
-  pub none_deep : lacks_cells image a slab ≡ false → (m : Missing) (n : ℕ) → IsMissing image a slab m → IsDeepFor image a m n → ⊥
-  none_deep none m n missed deep =
-      let low = deep_below m n a.layout refl missed deep in
-      let zero_of = none_new none a.layout refl in
-      omega (arith, low, zero_of)
-
--- what is missing finds no room, whoever says what is missing
-alike_in : (image : List ℕ) (a : Described) (chosen : Slab) (m other : Missing) (n : ℕ) (l : Layout) → IsMissingIn image a chosen m l → IsMissingIn image a chosen other l
-    → IsDeepFor image a other n → IsDeepFor image a m n
-alike_in image a chosen m missing.Block n l missed others deep = absurd deep
-alike_in image a chosen missing.Block (missing.Chunks array new) n (InMessage bytes) missed others deep = absurd others
-alike_in image a chosen missing.Block (missing.Chunks array new) n (InBlock b) missed others deep = absurd others
-alike_in image a chosen missing.Block (missing.Chunks array new) n (InChunks chunk root) missed others deep = absurd missed
-alike_in image a chosen (missing.Chunks own_array own) (missing.Chunks array new) n (InMessage bytes) missed others deep = absurd others
-alike_in image a chosen (missing.Chunks own_array own) (missing.Chunks array new) n (InBlock b) missed others deep = absurd others
-alike_in image a chosen (missing.Chunks own_array own) (missing.Chunks array new) n (InChunks chunk root) missed others deep =
-    subst (λ (all : List (List ℕ)). IsDeepIn image a all n a.layout)
-    (rising_once new.offsets own.offsets (others.0).rising (missed.0).rising (λ x. (
-      (λ there. ((missed.0).each x).1 (((others.0).each x).0 there)),
-      (λ there. ((others.0).each x).1 (((missed.0).each x).0 there)),
-    ))) deep
-
-pub deep_alike : (image : List ℕ) (a : Described) (chosen : Slab) (m other : Missing) (n : ℕ) → IsMissing image a chosen m → IsMissing image a chosen other
-    → IsDeepFor image a other n → IsDeepFor image a m n
-deep_alike image a chosen m other n missed others = alike_in image a chosen m other n a.layout missed others
+  pub none_deep : lacks_cells image a slab ≡ false → (n : ℕ) (l : Layout) → a.layout ≡ l → IsDeepIn image a (new_chunks facts edit (dataset_by l)) n l → ⊥
+  none_deep none n (InMessage bytes) is never = never
+  none_deep none n (InBlock b) is never = never
+  none_deep none n (InChunks chunk root) is deep =
+      let low = deep_below n (InChunks chunk root) deep in
+      let empty = ap (λ (all : List (List ℕ)). length all) (none_are chunk root is none) in
+      omega (arith, low, empty)

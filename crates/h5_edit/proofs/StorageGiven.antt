@@ -6,8 +6,9 @@ use Rattle.std.specs.Prelude.{◌↔◌, ◌==◌, IsTrue, Result, Ok, Err, opti
 use Rattle.std.specs.Option.{option_map_or}
 use Rattle.h5_btree.specs.declared.insertion.InsertFault.{InsertFault}
 use Rattle.h5_btree.specs.declared.insertion.InsertFault.TheVariants as insertion
-use Rattle.h5_model.specs.Edits.Bounds.{bound_of, write_bound}
-use Rattle.h5_model.specs.Edits.ImageAnswers.{AtTop, Facts, new_chunks, new_entries}
+use Rattle.h5_model.specs.Edits.Bounds.{bound_of, new_chunks, write_bound}
+use Rattle.h5_model.specs.Edits.Facts.{Facts}
+use Rattle.h5_model.specs.Edits.ImageAnswers.{AtTop, new_entries}
 use Rattle.h5_model.specs.Format.Limits.{most_bytes}
 use Rattle.h5_model.specs.Tree.Objects.{Dataset, dataset_of}
 use Rattle.h5_model.specs.Tree.Paths.{dataset_at}
@@ -25,17 +26,17 @@ use Rattle.h5_query.specs.Opened.State.{FileState}
 use Rattle.h5_space.specs.declared.image.SpaceFault.TheVariants as space
 use Rattle.h5_edit.specs.Answers.{insert_fault}
 use Rattle.h5_layout.specs.Storage.{IsDeepFor, storage_bytes}
-use Rattle.h5_edit.specs.Carried.{IsAccepted, IsRefused}
+use Rattle.h5_edit.specs.Carried.{AreFacts, IsAccepted, IsRefused}
 use Rattle.h5_layout.specs.Lacking.{IsMissing}
 use Rattle.h5_edit.specs.Edited.{IsGrowth}
 use Rattle.h5_layout.specs.Lacking.{lacks_cells}
 use Rattle.h5_edit.specs.Refusals.Allowed.{IsWriteAt}
-use Rattle.h5_edit.specs.StorageFacts.{AreStorageFacts, IsDeepInTurn}
+use Rattle.h5_edit.specs.StorageFacts.{IsDeepInTurn}
 use Rattle.h5_layout.specs.declared.lacking.Missing.{Missing}
 use Rattle.h5_edit.proofs.AttributeFacts.{short_image}
 use Rattle.h5_edit.proofs.FullDecided.{deep_first_decided}
 use Rattle.h5_edit.proofs.Refusals.{short_of_memory}
-use Rattle.h5_edit.proofs.StorageBound.{deep_alike, deep_below, none_bound, none_deep, room_in, some_bound}
+use Rattle.h5_edit.proofs.StorageBound.{deep_below, deep_is, none_bound, none_deep, some_bound, storage_facts}
 use Rattle.h5_edit.proofs.WrittenTrees.{sizes_are, told_is}
 
 module _ {f : FileState} {path : List ℕ} {hyper : Hyper} {values : List ℤ} {number : ℕ} (is : IsWriteAt f path hyper values number) where
@@ -68,49 +69,43 @@ module _ {f : FileState} {path : List ℕ} {hyper : Hyper} {values : List ℤ} {
   -- ---- what the image says
 
   abbrev facts_of : (ℕ → Bool) → Facts
-  facts_of top = record { length = length f.image; total = 0; room = room_in f.image a; splits_top = top }
+  facts_of top = storage_facts f.image a top
 
-  are_facts : (top : ℕ → Bool) → ((n : ℕ) → IsTrue (top n) → IsDeepInTurn f.image a slab n) → (IsDeepInTurn f.image a slab 0 → IsTrue (top 0))
-      → AreStorageFacts f path hyper (facts_of top)
+  abbrev IsDeep : (ℕ → Bool) → ℕ → Type 0
+  IsDeep top n = IsDeepInTurn f.image a (facts_of top) edit n
+
+  are_facts : (top : ℕ → Bool) → ((n : ℕ) → IsTrue (top n) → IsDeep top n) → (IsDeep top 0 → IsTrue (top 0)) → AreFacts f edit (facts_of top)
   are_facts top deep first = record {
-    number = number;
-    at = is.at.object;
-    array = a;
-    there = is.there;
     long = refl;
-    leaf = refl;
-    internal = refl;
-    chunk = refl;
-    stored = λ offsets. refl;
-    top = deep;
-    first = first;
+    k = refl;
+    at = record { number = number; at = is.at.object; array = a; there = is.there; stored = λ offsets. refl; top = deep; first = first };
   }
 
-  bound_is : bound_of (room_in f.image a) f.tree edit ≡ write_bound (room_in f.image a) edit slab (dataset_told f.image a)
+  bound_is : (top : ℕ → Bool) → bound_of (facts_of top) f.tree edit ≡ write_bound (facts_of top) edit slab (dataset_told f.image a)
   unfolding bound_of
-  bound_is = ap (λ (found : Option Dataset). option_map_or (write_bound (room_in f.image a) edit slab) found 0) array_at
+  bound_is top = ap (λ (found : Option Dataset). option_map_or (write_bound (facts_of top) edit slab) found 0) array_at
 
-  entries_are : new_entries (room_in f.image a) f.tree edit ≡ new_chunks (room_in f.image a) edit (dataset_told f.image a)
-  entries_are = ap (λ (found : Option Dataset). option_map_or (new_chunks (room_in f.image a) edit) found 0) array_at
+  entries_are : (top : ℕ → Bool) → new_entries (facts_of top) f.tree edit ≡ length (new_chunks (facts_of top) edit (dataset_told f.image a))
+  entries_are top = ap (λ (found : Option Dataset). option_map_or (λ d. length (new_chunks (facts_of top) edit d)) found 0) array_at
 
   -- nothing refuses it, where no chunk is in the way
-  module _ (never_deep : IsDeepInTurn f.image a slab 0 → ⊥) where
-    none_deep_facts : AreStorageFacts f path hyper (facts_of (λ _. false))
+  module _ (never_deep : IsDeep (λ _. false) 0 → ⊥) where
+    none_deep_facts : AreFacts f edit (facts_of (λ _. false))
     none_deep_facts = are_facts (λ _. false) (λ n never. absurd (let no : false ≡ true = never in cc)) (λ deep. absurd (never_deep deep))
 
-    fits : length f.image + bound_of (room_in f.image a) f.tree edit ≤ most_bytes → IsAccepted f edit
+    fits : length f.image + bound_of (facts_of (λ _. false)) f.tree edit ≤ most_bytes → IsAccepted f edit
     fits short = record {
       accepted = is.at.allowed;
-      given = λ _. (facts_of (λ _. false), none_deep_facts, (refl, grind (arith, nat_tests, short)), refl);
+      given = λ _. (facts_of (λ _. false), none_deep_facts, (refl, refl, grind (arith, nat_tests, short)));
     }
 
-    grows : (bytes : ℕ) → bytes ≡ bound_of (room_in f.image a) f.tree edit → IsGrowth f edit bytes
+    grows : (bytes : ℕ) → bytes ≡ bound_of (facts_of (λ _. false)) f.tree edit → IsGrowth f edit bytes
     grows bytes same = (facts_of (λ _. false), none_deep_facts, same)
 
-    too_long : most_bytes < length f.image + bound_of (room_in f.image a) f.tree edit → IsRefused f edit fault.ImageFull
+    too_long : most_bytes < length f.image + bound_of (facts_of (λ _. false)) f.tree edit → IsRefused f edit fault.ImageFull
     too_long long = record {
       given = Some fault.ImageFull;
-      allowed = λ _. (facts_of (λ _. false), none_deep_facts, (refl, grind (arith, nat_tests, long)), refl);
+      allowed = λ _. (facts_of (λ _. false), none_deep_facts, (refl, refl, grind (arith, nat_tests, long)));
       answer = rw is.at.allowed refl;
     }
 
@@ -120,11 +115,11 @@ module _ {f : FileState} {path : List ℕ} {hyper : Hyper} {values : List ℤ} {
   -- ---- nothing is missing
 
   module _ (none : lacks_cells f.image a slab ≡ false) where
-    nothing_deep : IsDeepInTurn f.image a slab 0 → ⊥
-    nothing_deep (m, missed, deep) = none_deep f.image is.there.messages a is.there.described path hyper values within none m 0 missed deep
+    nothing_deep : IsDeep (λ _. false) 0 → ⊥
+    nothing_deep deep = none_deep f.image is.there.messages a is.there.described path hyper values within (λ _. false) none 0 a.layout refl deep
 
-    nothing_bound : bound_of (room_in f.image a) f.tree edit ≡ 0
-    nothing_bound = bound_is ∙ none_bound f.image is.there.messages a is.there.described path hyper values within none a.layout refl
+    nothing_bound : bound_of (facts_of (λ _. false)) f.tree edit ≡ 0
+    nothing_bound = bound_is (λ _. false) ∙ none_bound f.image is.there.messages a is.there.described path hyper values within (λ _. false) none a.layout refl
 
     pub nothing_accepted : IsSound f → IsAccepted f edit
     nothing_accepted sound = let short = short_image f sound in fits nothing_deep (omega (arith, short, nothing_bound))
@@ -135,19 +130,20 @@ module _ {f : FileState} {path : List ℕ} {hyper : Hyper} {values : List ℤ} {
   -- ---- so much is missing
 
   module _ (m : Missing) (lacks : lacks_cells f.image a slab ≡ true) (missed : IsMissing f.image a slab m) where
-    some_bound_is : bound_of (room_in f.image a) f.tree edit ≡ storage_bytes f.image a m
-    some_bound_is = bound_is ∙ some_bound f.image is.there.messages a is.there.described path hyper values within m lacks a.layout refl missed
+    some_bound_is : (top : ℕ → Bool) → bound_of (facts_of top) f.tree edit ≡ storage_bytes f.image a m
+    some_bound_is top = bound_is top ∙ some_bound f.image is.there.messages a is.there.described path hyper values within top m lacks a.layout refl missed
 
-    deep_as : (n : ℕ) → IsDeepInTurn f.image a slab n → IsDeepFor f.image a m n
-    deep_as n (other, others, deep) = deep_alike f.image a slab m other n missed others deep
+    deep_as : (top : ℕ → Bool) (n : ℕ) → IsDeep top n ↔ IsDeepFor f.image a m n
+    deep_as top n = deep_is f.image is.there.messages a is.there.described path hyper values within top m n a.layout refl missed
 
-    too_deep : (top : ℕ → Bool) → AreStorageFacts f path hyper (facts_of top) → (n : ℕ) → IsDeepFor f.image a m n → IsTrue (top n) → IsRefused f edit fault.TreeTooDeep
+    too_deep : (top : ℕ → Bool) → AreFacts f edit (facts_of top) → (n : ℕ) → IsDeepFor f.image a m n → IsTrue (top n) → IsRefused f edit fault.TreeTooDeep
     too_deep top are n deep there =
-        let low = deep_below f.image is.there.messages a is.there.described path hyper values within m n a.layout refl missed deep in
-        let at_top : AtTop (facts_of top) f.tree edit = (n, omega (arith, low, entries_are), there) in
+        let low = deep_below f.image is.there.messages a is.there.described path hyper values within top n a.layout ((deep_as top n).1 deep) in
+        let entries = entries_are top in
+        let at_top : AtTop (facts_of top) f.tree edit = (n, omega (arith, low, entries), there) in
         record {
           given = Some fault.TreeTooDeep;
-          allowed = λ _. (facts_of top, are, (refl, at_top), tt);
+          allowed = λ _. (facts_of top, are, (refl, at_top));
           answer = rw is.at.allowed refl;
         }
 
@@ -163,13 +159,14 @@ module _ {f : FileState} {path : List ℕ} {hyper : Hyper} {values : List ℤ} {
     unfolding only
     only_one n k there = grind (arith, nat_tests, there)
 
-    only_facts : (n : ℕ) → IsDeepFor f.image a m n → (IsDeepInTurn f.image a slab 0 → IsTrue (only n 0)) → AreStorageFacts f path hyper (facts_of (only n))
-    only_facts n deep first = are_facts (only n) (λ k there. (m, missed, subst (IsDeepFor f.image a m) (sym (only_one n k there)) deep)) first
+    only_facts : (n : ℕ) → IsDeepFor f.image a m n → (IsDeepFor f.image a m 0 → IsTrue (only n 0)) → AreFacts f edit (facts_of (only n))
+    only_facts n deep first = are_facts (only n) (λ k there. (deep_as (only n) k).1 (subst (IsDeepFor f.image a m) (sym (only_one n k there)) deep))
+        (λ at. first ((deep_as (only n) 0).0 at))
 
     refused_deep : (n : ℕ) → IsDeepFor f.image a m n → IsRefused f edit fault.TreeTooDeep
-    refused_deep n deep = elim (deep_first_decided f.image a m) [
-      | inl first ↦ too_deep (only 0) (only_facts 0 first (λ _. only_here 0)) 0 first (only_here 0)
-      | inr not ↦ too_deep (only n) (only_facts n deep (λ at. absurd (not (deep_as 0 at)))) n deep (only_here n)
+    refused_deep n deep = elim (deep_first_decided f.image a (new_chunks (facts_of (λ _. false)) edit (dataset_told f.image a)) a.layout) [
+      | inl first ↦ let at = (deep_as (λ _. false) 0).0 first in too_deep (only 0) (only_facts 0 at (λ _. only_here 0)) 0 at (only_here 0)
+      | inr not ↦ too_deep (only n) (only_facts n deep (λ at. absurd (not ((deep_as (λ _. false) 0).1 at)))) n deep (only_here n)
     ]
 
     -- by the answer of the call that makes the storage
@@ -180,8 +177,8 @@ module _ {f : FileState} {path : List ℕ} {hyper : Hyper} {values : List ℤ} {
         made_first : IsDeepFor f.image a m 0 → ⊥
         made_first first = let never : Ok u ≡ Err insertion.TreeTooDeep = sym ok ∙ deep_first first in absurd (cc)
 
-        made_deep : IsDeepInTurn f.image a slab 0 → ⊥
-        made_deep at = made_first (deep_as 0 at)
+        made_deep : IsDeep (λ _. false) 0 → ⊥
+        made_deep at = made_first ((deep_as (λ _. false) 0).0 at)
 
         made_short : (long : Bool) → nat_lt most_bytes (length f.image + storage_bytes f.image a m) ≡ long → length f.image + storage_bytes f.image a m ≤ most_bytes
         made_short true past =
@@ -191,14 +188,16 @@ module _ {f : FileState} {path : List ℕ} {hyper : Hyper} {values : List ℤ} {
         pub made_accepted : IsAccepted f edit
         made_accepted =
             let short = made_short (nat_lt most_bytes (length f.image + storage_bytes f.image a m)) refl in
-            fits made_deep (omega (arith, short, some_bound_is))
+            let same = some_bound_is (λ _. false) in
+            fits made_deep (omega (arith, short, same))
 
         pub made_grows : IsGrowth f edit (storage_bytes f.image a m)
-        made_grows = grows made_deep (storage_bytes f.image a m) (sym some_bound_is)
+        made_grows = grows made_deep (storage_bytes f.image a m) (sym (some_bound_is (λ _. false)))
 
       pub storage_refused : (why : InsertFault) → r ≡ Err why → IsRefused f edit (insert_fault why)
       storage_refused insertion.TreeTooDeep so = let at = deep so in refused_deep at.0 at.1
       storage_refused (insertion.Space space.ImageFull) so =
           let long = full.0 so in
-          too_long (λ at. long.0 (deep_as 0 at)) (let past = long.1 in omega (arith, past, some_bound_is))
+          let same = some_bound_is (λ _. false) in
+          too_long (λ at. long.0 ((deep_as (λ _. false) 0).0 at)) (let past = long.1 in omega (arith, past, same))
       storage_refused (insertion.Space space.NoMemory) so = no_memory

@@ -189,9 +189,6 @@ module _ (f : FileState) (path : List ℕ) (hyper : Hyper) (values : List ℤ) (
       record {
         accepted = has.accepted;
         state = λ i. record { tree = tree i; next = next i };
-        sound = whole.sound;
-        whole = whole.whole;
-        k = whole.k;
         object = named ∙ sym at.object;
         refreshed = refreshed;
         bytes = has.bytes;

@@ -10,7 +10,8 @@ use Rattle.h5_model.specs.Views.Shown.{box_of, met_boxes}
 use Rattle.h5_model.proofs.SelectionLaws.{from_is_selected}
 use Rattle.h5_model.proofs.WithinLaws.{no_cell}
 use Rattle.h5_shape.specs.InBox.{AreApart}
-use Rattle.h5_shape.specs.MetFirsts.{first_of_box, met_firsts}
+use Rattle.h5_model.specs.Tree.Grid.{first_of_box}
+use Rattle.h5_shape.specs.MetFirsts.{met_firsts}
 use Rattle.h5_shape.proofs.MetLaws.{met_held, none_met, no_member}
 use Rattle.h5_file.specs.OpenViews.{IsMetPatched}
 use Rattle.h5_file.specs.Patched.{AreCorners, KeptState}

@@ -14,13 +14,13 @@ use Rattle.h5_model.specs.Tree.Places.{cells}
 use Rattle.h5_model.specs.Tree.Sound.{IsDataset}
 use Rattle.h5_model.specs.Views.Selection.{Slab, Within, axes_of, is_one_run, is_within, selected_cells, selection_of}
 use Rattle.h5_model.specs.Views.Shown.{box_of, is_in_line, is_lent, is_touched, met_boxes, met_of}
-use Rattle.h5_model.specs.Tree.Grid.{corner_of}
+use Rattle.h5_model.specs.Tree.Grid.{corner_of, first_of_box}
 use Rattle.h5_model.specs.declared.hyperslab.Hyper.{Hyper}
 use Rattle.h5_model.specs.declared.edits.Edit.{Edit}
 use Rattle.h5_model.specs.declared.edits.Edit.TheVariants.{CreateGroup, CreateDataset, HardLink, SoftLink, Unlink, SetAttr, RemoveAttr, Write, Resize}
 use Rattle.h5_model.proofs.PlaceLaws.{place_below, inside_of}
 use Rattle.h5_model.proofs.Members.{In, in_contains}
-use Rattle.h5_shape.specs.MetFirsts.{first_of_box, met_firsts}
+use Rattle.h5_shape.specs.MetFirsts.{met_firsts}
 use Rattle.h5_shape.specs.PartCells.{selected_index}
 use Rattle.h5_shape.proofs.MetLaws.{none_met}
 use Rattle.h5_file.specs.OpenViews.{IsKeptAfter, IsKeptOf, IsMetPatched, patches_in}

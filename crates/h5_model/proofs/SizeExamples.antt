@@ -6,8 +6,9 @@ use Rattle.h5_model.specs.Tree.Paths.{names_of}
 use Rattle.h5_model.specs.Format.Sizes.{attribute_size, header_size}
 use Rattle.h5_model.specs.Format.Empty.{new_k}
 use Rattle.h5_model.specs.Format.PlainLength.{plain_length, nodes_over}
-use Rattle.h5_model.specs.Edits.Bounds.{Room, bound_of, new_header}
-use Rattle.h5_model.specs.Edits.ImageAnswers.{Facts, is_image_full, is_header_full}
+use Rattle.h5_model.specs.Edits.Bounds.{bound_of, new_header}
+use Rattle.h5_model.specs.Edits.Facts.{Facts}
+use Rattle.h5_model.specs.Edits.ImageAnswers.{is_image_full, is_header_full}
 use Rattle.h5_model.specs.Edits.Applied.{new_object, new_dataset}
 use Rattle.h5_model.specs.Scripts.Sessions.{Session}
 use Rattle.h5_model.specs.declared.dataset.Spec.{Spec}
@@ -57,11 +58,8 @@ two_levels = refl
 
 -- ---- bounds, in the empty file
 
-empty_room : Room
-empty_room = record { leaf_k = 4; internal_k = 16; chunk_k = 32; heap = 88; is_stored = λ at. false; has_maxima = false }
-
 empty_facts : Facts
-empty_facts = record { length = 800; total = 1; room = empty_room; splits_top = λ _. false }
+empty_facts = record { length = 800; k = new_k; total = 1; has_maxima = false; heap = 88; is_stored = λ at. false; splits_top = λ _. false }
 
 one_spec : ℕ → Spec
 one_spec size = record { fixed = u8; dims = size ∷ []; maxima = Some size ∷ []; store = store.Contiguous; fill = pos 0 }
@@ -77,29 +75,29 @@ written_header = simp known
 
 -- the image would have 2147483649 bytes
 one_too_long : is_image_full empty_facts ((new_file.state).tree) (CreateDataset (codes "/q") (one_spec 2147472953)) ≡ true
-unfolding empty_facts empty_room one_spec bound_of names_of
+unfolding empty_facts one_spec bound_of names_of
 one_too_long = refl
 
 -- and 2147483648
 just_fits : is_image_full empty_facts ((new_file.state).tree) (CreateDataset (codes "/q") (one_spec 2147472952)) ≡ false
-unfolding empty_facts empty_room one_spec bound_of names_of
+unfolding empty_facts one_spec bound_of names_of
 just_fits = refl
 
-link_of_a_group : bound_of empty_room ((new_file.state).tree) (CreateGroup (codes "/g")) ≡ 10480
-unfolding empty_room bound_of names_of
+link_of_a_group : bound_of empty_facts ((new_file.state).tree) (CreateGroup (codes "/g")) ≡ 10480
+unfolding empty_facts bound_of names_of
 link_of_a_group = refl
 
-maxima_added : bound_of empty_room ((new_file.state).tree) (Resize (codes "/g") (1 ∷ 2 ∷ [])) ≡ 72
-unfolding empty_room bound_of
+maxima_added : bound_of empty_facts ((new_file.state).tree) (Resize (codes "/g") (1 ∷ 2 ∷ [])) ≡ 72
+unfolding empty_facts bound_of
 maxima_added = refl
 
 -- the total is a number of two bytes
 last_message : is_header_full (record empty_facts { total = 65533 }) (SetAttr (codes "/") (record { name = codes "n"; fixed = u8; dims = []; values = pos 0 ∷ [] })) ≡ false
-unfolding empty_facts empty_room
+unfolding empty_facts
 last_message = refl
 
 no_message_more : is_header_full (record empty_facts { total = 65534 }) (SetAttr (codes "/") (record { name = codes "n"; fixed = u8; dims = []; values = pos 0 ∷ [] })) ≡ true
-unfolding empty_facts empty_room
+unfolding empty_facts
 no_message_more = refl
 
 -- `big`, one dimension of u8: 65480 values are accepted

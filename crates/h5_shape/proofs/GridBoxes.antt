@@ -9,11 +9,10 @@ use Rattle.std.proofs.lemmas.Nat.{div-add-mod', div-mul-add, mod_below, le-div}
 use Rattle.std.proofs.Math.Nat.{mul-le-mul_right}
 use Rattle.std.specs.List.{AllPairs, filter, range_with_len}
 use Rattle.h5_model.specs.Format.Links.{Before}
-use Rattle.h5_model.specs.Tree.Grid.{boxes_along, boxes_of, corner_of, grid_of, in_box, inner_of, some_in_box}
+use Rattle.h5_model.specs.Tree.Grid.{boxes_along, boxes_of, corner_of, first_of_box, grid_of, in_box, inner_of, some_in_box}
 use Rattle.h5_model.specs.Tree.Places.{IsInside, cells, index_of, is_inside, place_of}
 use Rattle.h5_model.proofs.Members.{In, from_map, in_map, in_range}
 use Rattle.h5_model.proofs.PlaceLaws.{index-place, inside-index, place_below, positive}
-use Rattle.h5_shape.specs.MetFirsts.{first_of_box}
 use Rattle.h5_shape.proofs.PartedLaws.{before_less, before_same, pairs_map}
 use Rattle.h5_shape.proofs.RisingBoxes.{Rises, pairs_rise}
 

@@ -4,7 +4,7 @@ use Rattle.std.specs.Prelude.{◌==◌}
 use Rattle.std.proofs.lemmas.Bool.Decides.{nat_tests}
 use Rattle.std.specs.List.{AllByRecursion, filter, list_any, range_with_len}
 use Rattle.std.proofs.lemmas.Bool.{or_parts, or_cases, and_parts}
-use Rattle.h5_model.specs.Tree.Grid.{boxes_of, in_box, some_in_box}
+use Rattle.h5_model.specs.Tree.Grid.{boxes_of, first_of_box, in_box, some_in_box}
 use Rattle.h5_model.specs.Tree.Places.{IsInside, cells, index_of, is_inside}
 use Rattle.h5_model.specs.Views.Selection.{Slab, Selected, Within, is_selected}
 use Rattle.h5_model.specs.Views.Shown.{met_boxes}
@@ -12,7 +12,7 @@ use Rattle.h5_model.proofs.Members.{In, all_in, contains_in, filter_in, from_map
 use Rattle.h5_model.proofs.PlaceLaws.{is_inside_from}
 use Rattle.h5_model.proofs.SelectionLaws.{from_is_selected, to_is_selected}
 use Rattle.h5_shape.specs.declared.parts.Span.{Span}
-use Rattle.h5_shape.specs.MetFirsts.{AreRanked, first_of_box, is_lost_at, is_reduced, is_written_at, loses_box, meets_box, met_firsts, reaches_past}
+use Rattle.h5_shape.specs.MetFirsts.{AreRanked, is_lost_at, is_reduced, is_written_at, loses_box, meets_box, met_firsts, reaches_past}
 use Rattle.h5_shape.specs.PartCells.{AreParted, HoldsCell, part_corner, selection_shape}
 use Rattle.h5_shape.proofs.CornerLaws.{corner-met}
 use Rattle.h5_shape.proofs.GridBoxes.{IsHeldIn, box_among, box_long, boxes_rise, held_some, product, some_held}

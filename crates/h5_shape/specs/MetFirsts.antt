@@ -4,6 +4,7 @@ use Rattle.std.specs.Prelude.{◌≡◌, ◌≢◌, ℕ, ◌+◌, ◌-◌, ◌*�
 use Rattle.std.specs.List.{AllByRecursion, filter, list_any, range_with_len}
 use Rattle.h5_model.specs.declared.hyperslab.Axis.{Axis}
 use Rattle.h5_model.specs.Format.Limits.{most_dimensions}
+use Rattle.h5_model.specs.Tree.Grid.{first_of_box}
 use Rattle.h5_model.specs.Tree.Places.{is_inside}
 use Rattle.h5_model.specs.Views.Selection.{Slab, is_selected, is_selected_along, overlaps}
 use Rattle.h5_model.specs.Views.Shown.{met_boxes}
@@ -11,12 +12,6 @@ use Rattle.h5_shape.specs.PartCells.{AreParted, part_corner}
 use Rattle.h5_shape.specs.declared.met.MetTest.{MetTest}
 use Rattle.h5_shape.specs.declared.met.MetTest.TheVariants.{Selects, Loses}
 use Rattle.h5_shape.specs.declared.parts.Span.{Span}
-
--- the first index of the box at a place in the grid
-abbrev pub first_of_box : List ℕ → List ℕ → List ℕ
-first_of_box [] at = []
-first_of_box (b ∷ bs) [] = []
-first_of_box (b ∷ bs) (n ∷ ns) = n * b ∷ first_of_box bs ns
 
 -- the first indexes of the boxes that are met
 abbrev pub met_firsts : List ℕ → List ℕ → (List ℕ → Bool) → Slab → List (List ℕ)

@@ -3,9 +3,10 @@ use Rattle.std.specs.Prelude.{ℕ, ◌+◌, ◌<◌, ◌&&◌, Bool, true, false
 use Rattle.std.specs.Option.{option_map_or}
 use Rattle.h5_model.specs.Format.Messages.{most_messages}
 use Rattle.h5_model.specs.Format.Limits.{most_bytes}
-use Rattle.h5_model.specs.Tree.Objects.{Tree, Dataset, Storage, Chunked}
+use Rattle.h5_model.specs.Tree.Objects.{Tree}
 use Rattle.h5_model.specs.Tree.Paths.{dataset_at}
-use Rattle.h5_model.specs.Edits.Bounds.{Room, bound_of, new_boxes}
+use Rattle.h5_model.specs.Edits.Bounds.{bound_of, new_chunks}
+use Rattle.h5_model.specs.Edits.Facts.{Facts}
 use Rattle.h5_model.specs.Edits.Refusal.{refusal_of}
 use Rattle.h5_model.specs.Edits.Applied.{State, state_after}
 use Rattle.h5_model.specs.declared.edits.Edit.{Edit}
@@ -27,52 +28,36 @@ abbrev pub refusal_or : Option EditFault → Option EditFault → Option EditFau
 refusal_or (Some f) given = Some f
 refusal_or None given = given
 
--- What an image says of an edit: its length, how many messages the named object's header has, and what the bounds need. Of the tree
--- that takes the edit's links or chunks, whether its root is at level 15 and has to split for the next one, when so many are added.
-pub record Facts : Type 0 where
-  pub length : ℕ
-  pub total : ℕ
-  pub room : Room
-  pub splits_top : ℕ → Bool
-
 -- a message must be added: by every SetAttr, and by a Resize whose dataspace message has no maxima
-abbrev pub must_add : Room → Edit → Bool
-must_add r (SetAttr path attr) = true
-must_add r (Resize path dims) = not r.has_maxima
-must_add r _ = false
+abbrev pub must_add : Facts → Edit → Bool
+must_add f (SetAttr path attr) = true
+must_add f (Resize path dims) = not f.has_maxima
+must_add f _ = false
 
 -- the header's total is 16 bits wide, and a Continuation may come with the message
 abbrev pub is_header_full : Facts → Edit → Bool
-is_header_full f edit = must_add f.room edit && nat_lt most_messages (f.total + 2)
+is_header_full f edit = must_add f edit && nat_lt most_messages (f.total + 2)
 
 -- the image would have more than `most_bytes`
 abbrev pub is_image_full : Facts → Tree → Edit → Bool
-is_image_full f tree edit = nat_lt most_bytes (f.length + bound_of f.room tree edit)
-
--- how many chunks a write meets that are not stored
-abbrev pub new_chunks : Room → Edit → Dataset → ℕ
-new_chunks r edit d = of_storage d.storage where
-  of_storage : Storage → ℕ
-  of_storage (Chunked chunk) = length (new_boxes r edit d.sizes chunk)
-  of_storage _ = 0
+is_image_full f tree edit = nat_lt most_bytes (f.length + bound_of f tree edit)
 
 -- how many links or chunks an edit adds to a tree
-abbrev pub new_entries : Room → Tree → Edit → ℕ
-new_entries r tree (Write path hyper values) = option_map_or (new_chunks r (Write path hyper values)) (dataset_at tree path) 0
-new_entries r tree edit = if adds_entry edit then 1 else 0
+abbrev pub new_entries : Facts → Tree → Edit → ℕ
+new_entries f tree (Write path hyper values) = option_map_or (λ d. length (new_chunks f (Write path hyper values) d)) (dataset_at tree path) 0
+new_entries f tree edit = if adds_entry edit then 1 else 0
 
 -- one of them, in its turn, finds the root at level 15 and has to split it
 abbrev pub AtTop : Facts → Tree → Edit → Type 0
-AtTop f tree edit = (added : ℕ) × (added < new_entries f.room tree edit) × IsTrue (f.splits_top added)
+AtTop f tree edit = (added : ℕ) × (added < new_entries f tree edit) × IsTrue (f.splits_top added)
 
--- What the image decides of an edit that no rule of the tree refuses, memory aside: HeaderFull exactly where it holds; then ImageFull
--- exactly where it holds, or TreeTooDeep, in its place or alone.
+-- What the image decides of an edit that no rule of the tree refuses, memory aside: HeaderFull exactly where it holds; then TreeTooDeep where
+-- one of the entries finds no room, and always where the first one does; then ImageFull exactly where it holds.
 abbrev pub IsGiven : Facts → Tree → Edit → Option EditFault → Type 0
-IsGiven f tree edit None = IsFalse (is_header_full f edit) × IsFalse (is_image_full f tree edit)
+IsGiven f tree edit None = IsFalse (is_header_full f edit) × IsFalse (f.splits_top 0) × IsFalse (is_image_full f tree edit)
 IsGiven f tree edit (Some fault.HeaderFull) = IsTrue (is_header_full f edit)
 IsGiven f tree edit (Some fault.TreeTooDeep) = IsFalse (is_header_full f edit) × AtTop f tree edit
-IsGiven f tree edit (Some fault.ImageFull) = IsFalse (is_header_full f edit) × IsTrue (is_image_full f tree edit)
-IsGiven f tree edit (Some fault.NoMemory) = Unit {0}
+IsGiven f tree edit (Some fault.ImageFull) = IsFalse (is_header_full f edit) × IsFalse (f.splits_top 0) × IsTrue (is_image_full f tree edit)
 IsGiven f tree edit _ = ⊥
 
 -- the state after edits, each with what the image or memory decided of it; refused ones are passed over

@@ -33,6 +33,12 @@ in_box (n ∷ ns) [] inner = []
 in_box (n ∷ ns) (b ∷ bs) [] = []
 in_box (n ∷ ns) (b ∷ bs) (i ∷ is) = (n * b + i) ∷ in_box ns bs is
 
+-- the index at which the box at a place in the grid begins: the offsets of its chunk
+abbrev pub first_of_box : List ℕ → List ℕ → List ℕ
+first_of_box [] at = []
+first_of_box (b ∷ bs) [] = []
+first_of_box (b ∷ bs) (n ∷ ns) = n * b ∷ first_of_box bs ns
+
 -- some index of the box passes
 abbrev pub some_in_box : List ℕ → (List ℕ → Bool) → List ℕ → Bool
 some_in_box box test at = list_any (λ place. test (in_box at box (index_of box place))) (range_with_len 0 (cells box))
