@@ -18,8 +18,8 @@ abbrev pub path_app : Text → App
 path_app name = with_rule (file_app name) (required_rule (codes "PATH"))
 
 -- a command that needs a subcommand
-abbrev pub needing : App → App
-needing a = record a { top = record a.top { subcommand_required = true } }
+abbrev pub with_required_subcommand : App → App
+with_required_subcommand a = record a { top = record a.top { subcommand_required = true } }
 
 -- a command that tells its version
 abbrev pub with_version : App → App
@@ -31,7 +31,7 @@ also a sub = with_subcommand a sub.top
 
 -- `h5i new FILE`, `h5i ls FILE`, `h5i dump FILE PATH` and `h5i run FILE`; `h5i --version` is told apart from these
 abbrev pub h5i_app : App
-h5i_app = also (also (also (also (needing (with_version (new_app (codes "h5i")))) (file_app (codes "new"))) (file_app (codes "ls"))) (path_app (codes "dump"))) (file_app (codes "run"))
+h5i_app = also (also (also (also (with_required_subcommand (with_version (new_app (codes "h5i")))) (file_app (codes "new"))) (file_app (codes "ls"))) (path_app (codes "dump"))) (file_app (codes "run"))
 
 -- what the words ask for, by texts
 pub data Wanted : Type 0 where

@@ -2,7 +2,7 @@
 
 ghost use Rattle.std.specs.Prelude.{◌≡◌, IfOk, codes, false};
 ghost use Rattle.clap.specs.Words.{app_of, new_app, rule_of};
-ghost use Rattle.h5_args.specs.Words.{required_rule, also, file_app, path_app, needing, with_version, h5i_app};
+ghost use Rattle.h5_args.specs.Words.{required_rule, also, file_app, path_app, with_required_subcommand, with_version, h5i_app};
 
 use crate::lines::LINES;
 use crate::refusals::REFUSALS;
@@ -70,7 +70,7 @@ fn with_run<'a>(alloc: Global, command: Command<'a>) -> Result<Command<'a>, Allo
 
 /// The command `h5i` with no subcommand yet, whose long help tells what each refusal means.
 fn bare<'a>(alloc: Global) -> Command<'a>
-    ensures { app_of result ≡ needing (with_version (new_app (codes "h5i"))) }
+    ensures { app_of result ≡ with_required_subcommand (with_version (new_app (codes "h5i"))) }
 {
     Command::new(alloc, "h5i")
         .about("Create, read and edit HDF5 files of whole-number arrays")

@@ -18,8 +18,8 @@ number_of unmade.WrongRoom = 101
 number_of unmade.NoSuchType = 102
 
 -- the selection of four lists
-abbrev pub selecting : List ℕ → List ℕ → List ℕ → List ℕ → Hyper
-selecting start stride count block = record { start = start; stride = stride; count = count; block = block }
+abbrev pub given_selection : List ℕ → List ℕ → List ℕ → List ℕ → Hyper
+given_selection start stride count block = record { start = start; stride = stride; count = count; block = block }
 
 -- the bytes are a whole number of values of the type, or just one
 abbrev pub is_whole : List ℕ → Fixed → Bool
@@ -46,11 +46,11 @@ abbrev pub given_attribute : List ℕ → Fixed → List ℕ → List ℕ → At
 given_attribute name t dims bytes = record { name = name; fixed = t; dims = dims; values = stored_values t bytes }
 
 -- edits whose values are given as bytes
-abbrev pub setting : List ℕ → List ℕ → Fixed → List ℕ → List ℕ → Edit
-setting path name t dims bytes = SetAttr path (given_attribute name t dims bytes)
+abbrev pub attribute_edit : List ℕ → List ℕ → Fixed → List ℕ → List ℕ → Edit
+attribute_edit path name t dims bytes = SetAttr path (given_attribute name t dims bytes)
 
-abbrev pub writing : List ℕ → Hyper → Fixed → List ℕ → Edit
-writing path hyper t bytes = Write path hyper (stored_values t bytes)
+abbrev pub write_edit : List ℕ → Hyper → Fixed → List ℕ → Edit
+write_edit path hyper t bytes = Write path hyper (stored_values t bytes)
 
 -- a maximum as C gives it: 18446744073709551615 is unlimited
 abbrev pub maximum_of : ℕ → Option ℕ
@@ -71,8 +71,8 @@ abbrev pub given_array : Fixed → List ℕ → List ℕ → Store (List ℕ) �
 given_array t dims maxima store fill = record { fixed = t; dims = dims; maxima = map maximum_of maxima; store = store; fill = value_of t fill }
 
 -- the edit that creates it
-abbrev pub creating : List ℕ → Fixed → List ℕ → List ℕ → Store (List ℕ) → List ℕ → Edit
-creating path t dims maxima store fill = CreateDataset path (given_array t dims maxima store fill)
+abbrev pub creation_edit : List ℕ → Fixed → List ℕ → List ℕ → Store (List ℕ) → List ℕ → Edit
+creation_edit path t dims maxima store fill = CreateDataset path (given_array t dims maxima store fill)
 
 abbrev pub IsStorageThere : Option (Store (List ℕ)) → (Store (List ℕ) → Type 0) → (Unmade → Type 0) → Type 0
 IsStorageThere None holds refused = refused unmade.NoSuchType

@@ -2,7 +2,7 @@
 
 ghost use Rattle.std.specs.Prelude.{◌≡◌, true, false};
 ghost use Rattle.h5_file.specs.Selected.{IsSlabOf};
-ghost use Rattle.h5_c.specs.Given.{selecting};
+ghost use Rattle.h5_c.specs.Given.{given_selection};
 ghost use Rattle.h5_c.specs.Read.{HasRead, HasReadOf, IsCopiedFrom};
 
 use crate::held::Held;
@@ -81,7 +81,7 @@ pub extern "C" fn h5i_read(
     ensures closed { slot.old.is_open ≡ false → (result ≡ WRONG_STATE) × (room.new ≡ room.old) }
     ensures read { slot.old.is_open ≡ true
         → HasRead slot.old.held.session.file.tree path.now
-        (selecting start.now stride.now count.now block.now) room.old room.new result }
+        (given_selection start.now stride.now count.now block.now) room.old room.new result }
 {
     if !slot.is_open() {
         return WRONG_STATE;

@@ -2,7 +2,7 @@
 
 ghost use Rattle.std.specs.Prelude.{◌≡◌, true, false};
 ghost use Rattle.h5_c.specs.Calls.{IsKeptOpen};
-ghost use Rattle.h5_c.specs.Given.{selecting};
+ghost use Rattle.h5_c.specs.Given.{given_selection};
 ghost use Rattle.h5_c.specs.Viewed.{HasShown, HasShownLength, HasViewClosed, HasViewOpened, shown_in};
 
 use crate::held::Held;
@@ -76,7 +76,7 @@ pub extern "C" fn h5i_open_view(
 ) -> u32
     ensures kept { IsKeptOpen slot.old.is_open slot.new.is_open result }
     ensures opened { slot.old.is_open ≡ true
-        → HasViewOpened slot.old.held path.now (selecting start.now stride.now count.now block.now)
+        → HasViewOpened slot.old.held path.now (given_selection start.now stride.now count.now block.now)
         slot.new.held number.old number.new result }
 {
     if !slot.is_open() {

@@ -5,7 +5,7 @@ ghost use Rattle.std.specs.Prelude.{◌≡◌, true};
 ghost use Rattle.h5_model.specs.declared.edits.Edit.TheVariants.{Write};
 ghost use Rattle.h5_model.specs.Format.Fixed.{fixed_from};
 ghost use Rattle.h5_c.specs.Calls.{HasEdited, IsKeptOpen, IsRefusedEarly};
-ghost use Rattle.h5_c.specs.Given.{IsMadeWith, is_whole, number_of, selecting, writing};
+ghost use Rattle.h5_c.specs.Given.{IsMadeWith, is_whole, number_of, given_selection, write_edit};
 
 use crate::given::{CType, buffer_of};
 use crate::held::Held;
@@ -45,7 +45,7 @@ pub extern "C" fn h5i_write(
     ensures edited { slot.old.is_open ≡ true
         → IsMadeWith (fixed_from of.size of.signed of.big) (is_whole values.now)
         (λ t. HasEdited slot.old.held
-        (writing path.now (selecting start.now stride.now count.now block.now) t values.now)
+        (write_edit path.now (given_selection start.now stride.now count.now block.now) t values.now)
         slot.new.held result)
         (λ u. IsRefusedEarly slot.old.held slot.new.held (number_of u) result) }
 {

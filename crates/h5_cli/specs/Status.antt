@@ -12,6 +12,6 @@ status_code StreamFailed = 4
 status_code NoMemory = 5
 
 -- where the message of a run's end could not be told: of the two the higher
-abbrev pub untold : Status → Status
-untold NoMemory = NoMemory
-untold _ = StreamFailed
+abbrev pub status_if_untold : Status → Status
+status_if_untold NoMemory = NoMemory
+status_if_untold _ = StreamFailed

@@ -2,7 +2,7 @@
 
 ghost use Rattle.std.specs.Prelude.{◌≡◌, ◌⊎◌, MatchResult};
 ghost use Rattle.std.specs.Io.KnownBytes.{Appends};
-ghost use Rattle.h5_cli.specs.Status.{untold};
+ghost use Rattle.h5_cli.specs.Status.{status_if_untold};
 ghost use Rattle.h5_cli.specs.declared.status.Status.TheVariants.{ImageRefused, StreamFailed, NoMemory};
 
 use crate::status::Status;
@@ -12,7 +12,7 @@ use std::io::{self, Write};
 /// The status of a run that ended in a message: the message's own, or that it could not be told.
 /// Of both the higher counts.
 pub(crate) fn told(message: io::Result<()>, status: Status) -> Status
-    ensures { MatchResult message (λ _. result ≡ status) (λ _. result ≡ untold status) }
+    ensures { MatchResult message (λ _. result ≡ status) (λ _. result ≡ status_if_untold status) }
 {
     match message {
         Ok(()) => status,

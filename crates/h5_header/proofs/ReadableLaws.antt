@@ -9,7 +9,7 @@ use Rattle.h5_bytes.specs.Blocks.{holds, cover, Inside}
 use Rattle.h5_bytes.specs.declared.Block.{Block}
 use Rattle.h5_bytes.proofs.PartLaws.{length-part}
 use Rattle.h5_bytes.proofs.BlockLaws.{cover-append, all_left, all_right}
-use Rattle.h5_model.specs.Format.MessageTypes.{continuation_kind}
+use Rattle.h5_model.specs.Format.MessageTypes.{continuation_kind, external_files_kind, filter_pipeline_kind}
 use Rattle.h5_model.specs.Format.Messages.{Message, IsMessage, IsContinued, FillBlocks, continuation, continuations, first_block}
 use Rattle.h5_model.specs.Format.Reached.{Met, kind_at, size_at}
 use Rattle.h5_model.specs.Format.Addresses.{continuation_of}
@@ -27,10 +27,10 @@ use Rattle.h5_header.proofs.MetLaws.{length-part-le, kind, size, fits, body, ins
 read_known : (kind : ℕ) → IsTrue (is_read kind) → IsTrue (not (is_known kind)) → ⊥
 read_known kind read bad = grind (arith, nat_tests)
 
-read_filtered : (kind : ℕ) → IsTrue (is_read kind) → IsTrue (kind == 11) → ⊥
+read_filtered : (kind : ℕ) → IsTrue (is_read kind) → IsTrue (kind == filter_pipeline_kind) → ⊥
 read_filtered kind read bad = grind (arith, nat_tests)
 
-read_inside : (kind : ℕ) → IsTrue (is_read kind) → IsTrue (kind == 7) → ⊥
+read_inside : (kind : ℕ) → IsTrue (is_read kind) → IsTrue (kind == external_files_kind) → ⊥
 read_inside kind read bad = grind (arith, nat_tests)
 
 read_old : (kind : ℕ) → IsTrue (is_read kind) → IsTrue (is_new_style kind) → ⊥

@@ -5,7 +5,7 @@ use Rattle.std.specs.Option.{option_and_then}
 use Rattle.std.specs.Ordering.{nat_cmp}
 use Rattle.std.specs.FinMap.{FinMap}
 use Rattle.h5_bytes.specs.Blocks.{Inside}
-use Rattle.h5_model.specs.Format.MessageTypes.{symbol_table_kind}
+use Rattle.h5_model.specs.Format.MessageTypes.{external_files_kind, filter_pipeline_kind, symbol_table_kind}
 use Rattle.h5_model.specs.Format.Messages.{Message, count_of}
 use Rattle.h5_model.specs.Format.Symbols.{Target}
 use Rattle.h5_model.specs.Tree.Objects.{Tree, Object, Dataset, ToObject, follow, links_of, links_in}
@@ -93,8 +93,8 @@ module _ (image : List ℕ) (table : FinMap nat_cmp ℕ) (tree : Tree) (placed :
     breach MessageSize (at, end, met, misfit) = misfit_excluded image k.o.header ms k.has.header_blocks k.has.listed inside at end met misfit
     breach SharedMessage (at, m, shared) = shared_excluded image k.o.header ms k.has.header_blocks k.has.listed inside at m shared
     breach UnknownMessage h = kind_excluded image k.o.header ms k.has.header_blocks k.has.listed inside (λ kind. not (is_known kind)) unknown_refused each_kind h
-    breach Filtered h = kind_excluded image k.o.header ms k.has.header_blocks k.has.listed inside (λ kind. kind == 11) filtered_refused each_kind h
-    breach ExternalFiles h = kind_excluded image k.o.header ms k.has.header_blocks k.has.listed inside (λ kind. kind == 7) external_refused each_kind h
+    breach Filtered h = kind_excluded image k.o.header ms k.has.header_blocks k.has.listed inside (λ kind. kind == filter_pipeline_kind) filtered_refused each_kind h
+    breach ExternalFiles h = kind_excluded image k.o.header ms k.has.header_blocks k.has.listed inside (λ kind. kind == external_files_kind) external_refused each_kind h
     breach NewStyleGroup h = kind_excluded image k.o.header ms k.has.header_blocks k.has.listed inside is_new_style new_refused each_kind h
     breach cause h = listed cause h.0 h.1 h.2
 

@@ -9,7 +9,7 @@ use Rattle.h5_bytes.specs.Blocks.{Inside}
 use Rattle.h5_bytes.specs.declared.Block.{Block}
 use Rattle.h5_bytes.proofs.PartLaws.{length-part}
 use Rattle.h5_model.specs.Format.Addresses.{continuation_of}
-use Rattle.h5_model.specs.Format.MessageTypes.{nil_kind, dataspace_kind, datatype_kind, old_fill_value_kind, fill_value_kind, data_layout_kind, attribute_kind, comment_kind, old_modification_time_kind, continuation_kind, symbol_table_kind, modification_time_kind}
+use Rattle.h5_model.specs.Format.MessageTypes.{nil_kind, dataspace_kind, datatype_kind, old_fill_value_kind, fill_value_kind, external_files_kind, data_layout_kind, filter_pipeline_kind, attribute_kind, comment_kind, old_modification_time_kind, continuation_kind, symbol_table_kind, modification_time_kind}
 use Rattle.h5_model.specs.Format.Messages.{Message, HasMessages, IsContinued}
 use Rattle.h5_model.specs.Format.Reached.{Met, MessageAt, kind_at, size_at}
 use Rattle.h5_model.specs.Faults.HeaderFaults.{IsMisfit, SomeMessage, is_known, is_new_style}
@@ -74,10 +74,10 @@ Refuses test = AllByRecursion (λ k. test k ≡ false) allowed
 pub unknown_refused : Refuses (λ kind. not (is_known kind))
 unknown_refused = (refl, (refl, (refl, (refl, (refl, (refl, (refl, (refl, (refl, (refl, (refl, (refl, tt))))))))))))
 
-pub filtered_refused : Refuses (λ kind. kind == 11)
+pub filtered_refused : Refuses (λ kind. kind == filter_pipeline_kind)
 filtered_refused = (refl, (refl, (refl, (refl, (refl, (refl, (refl, (refl, (refl, (refl, (refl, (refl, tt))))))))))))
 
-pub external_refused : Refuses (λ kind. kind == 7)
+pub external_refused : Refuses (λ kind. kind == external_files_kind)
 external_refused = (refl, (refl, (refl, (refl, (refl, (refl, (refl, (refl, (refl, (refl, (refl, (refl, tt))))))))))))
 
 pub new_refused : Refuses is_new_style

@@ -14,7 +14,7 @@ use Rattle.h5_laws.proofs.Lists.{In, in_all, all_in, in_contains, contains_in, i
 use Rattle.h5_laws.proofs.Pigeonhole.{Apart, apart_of_distinct, distinct_of_apart}
 use Rattle.h5_header.specs.Walk.Met.{IsMet}
 use Rattle.h5_open.specs.declared.opened.object.OpenedObject.{OpenedObject}
-use Rattle.h5_open.specs.Counted.Links.{leading, all_links}
+use Rattle.h5_open.specs.Counted.Links.{leading_links, all_links}
 use Rattle.h5_open.specs.Opened.Objects.{content_links}
 use Rattle.h5_open.specs.Read.{AreWaiting}
 use Rattle.h5_open.specs.Walk.{AreFieldsMet}
@@ -62,7 +62,7 @@ record AreOwnFields (image : List ℕ) (base held : List Block) (links : List (L
   apart : Apart own
   each : (f : ℕ) → In f own → IsOwnField image base held header f
   among : (f : ℕ) → In f own → In f fields
-  long : length own ≡ leading header links
+  long : length own ≡ leading_links header links
 
 -- one field more, of a link to some header
 field_more : (image : List ℕ) (base held : List Block) (followed : List Named) (depth header : ℕ) (name : List ℕ) (h : ℕ) (links : List (List ℕ × Target)) (f : ℕ) (fields : List ℕ)

@@ -20,7 +20,7 @@ use Rattle.h5_open.specs.declared.opened.object.OpenedObject.{OpenedObject}
 use Rattle.h5_open.specs.declared.opened.object.OpenedContent.{OpenedContent}
 use Rattle.h5_open.specs.declared.opened.object.OpenedContent.TheVariants as content
 use Rattle.h5_open.specs.Counted.Counts.{AreCounted, IsLinkedFully, IsRefusedAgain}
-use Rattle.h5_open.specs.Counted.Links.{leading, all_links}
+use Rattle.h5_open.specs.Counted.Links.{leading_links, all_links}
 use Rattle.h5_open.specs.Opened.Kept.{IsObjectKept, IsContentKept}
 use Rattle.h5_open.specs.Opened.Refused.{IsOpenRefusedAt}
 use Rattle.h5_open.specs.Opened.Objects.{content_links}
@@ -101,9 +101,9 @@ too_often : (image : List ℕ) (held : List Block) (followed : List Named) (obje
 too_often image held followed objects field header depth ready counts name waiting are number o here same most =
     let kept : IsObjectKept image o = in_all (IsObjectKept image) o objects (ready.under).each (in_at objects number o here) in
     let met = (ready.under).fields header in
-    let one : leading header ((name, Header header) ∷ waiting) ≡ 1 + leading header waiting = one_more header header name waiting refl in
-    let exact : get_or counts number 0 + leading header ((name, Header header) ∷ waiting) ≡ leading header (all_links image objects)
-    = subst (λ (h : ℕ). get_or counts number 0 + leading h ((name, Header header) ∷ waiting) ≡ leading h (all_links image objects)) same (are.each number o here).exact in
+    let one : leading_links header ((name, Header header) ∷ waiting) ≡ 1 + leading_links header waiting = one_more header header name waiting refl in
+    let exact : get_or counts number 0 + leading_links header ((name, Header header) ∷ waiting) ≡ leading_links header (all_links image objects)
+    = subst (λ (h : ℕ). get_or counts number 0 + leading_links h ((name, Header header) ∷ waiting) ≡ leading_links h (all_links image objects)) same (are.each number o here).exact in
     let many : most_hard_links < length met.fields = omega (arith, most, one, exact, met.long) in (
       naming_of field ObjectHeader header depth,
       (ready.met).reached,

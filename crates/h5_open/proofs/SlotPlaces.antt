@@ -14,7 +14,7 @@ use Rattle.h5_laws.proofs.Lists.{In}
 use Rattle.h5_open.specs.declared.opened.object.OpenedObject.{OpenedObject}
 use Rattle.h5_open.specs.InPlace.{other_objects, touched_blocks}
 use Rattle.h5_open.specs.Opened.Kept.{IsObjectKept}
-use Rattle.h5_open.specs.Opened.Objects.{header_of, objects_of, object_blocks, object_in, standing, table_of}
+use Rattle.h5_open.specs.Opened.Objects.{header_of, objects_of, object_blocks, object_in, numbered_objects, table_of}
 use Rattle.h5_open.specs.SlotsInPlace.{chosen_slots}
 use Rattle.h5_open.proofs.OpenedLaws.Entries.{table_entries}
 use Rattle.h5_open.proofs.OpenedLaws.ReadBlocks.{blocks_kept}
@@ -60,7 +60,7 @@ module _ (touched : ℕ → Bool) (old new : List ℕ) (table : FinMap nat_cmp �
   abbrev placing : ℕ → OpenedObject → Placed
   placing = step_place touched old new table tree'
 
-  pub step_headers : (n : ℕ) (slots : List (Option OpenedObject)) → standing n (map (option_map header_of) slots) ≡ map (λ (x : Placed). (x.number, x.header)) (place_slots placing n slots)
+  pub step_headers : (n : ℕ) (slots : List (Option OpenedObject)) → numbered_objects n (map (option_map header_of) slots) ≡ map (λ (x : Placed). (x.number, x.header)) (place_slots placing n slots)
   step_headers n [] = refl
   step_headers n (None ∷ slots) = step_headers (n + 1) slots
   step_headers n (Some o ∷ slots) = ap (λ (es : List (ℕ × ℕ)). (n, header_of o) ∷ es) (step_headers (n + 1) slots)
@@ -70,7 +70,7 @@ module _ (touched : ℕ → Bool) (old new : List ℕ) (table : FinMap nat_cmp �
   step_objects n [] = []
   step_objects n (slot ∷ slots) = option_map (λ (o : OpenedObject). (placing n o).object) slot ∷ step_objects (n + 1) slots
 
-  pub step_standing : (n : ℕ) (slots : List (Option OpenedObject)) → standing n (step_objects n slots) ≡ map (λ (x : Placed). (x.number, x.object)) (place_slots placing n slots)
+  pub step_standing : (n : ℕ) (slots : List (Option OpenedObject)) → numbered_objects n (step_objects n slots) ≡ map (λ (x : Placed). (x.number, x.object)) (place_slots placing n slots)
   step_standing n [] = refl
   step_standing n (None ∷ slots) = step_standing (n + 1) slots
   step_standing n (Some o ∷ slots) = ap (λ (es : List (ℕ × Object)). (n, (placing n o).object) ∷ es) (step_standing (n + 1) slots)
@@ -172,7 +172,7 @@ module _ (touched : ℕ → Bool) (old new : List ℕ) (table : FinMap nat_cmp �
 -- ---- a reading places them so
 
 placed_from_slots : (image : List ℕ) (table : FinMap nat_cmp ℕ) → ((a b h : ℕ) → get table a ≡ Some h → get table b ≡ Some h → a ≡ b) → (n : ℕ) (slots : List (Option OpenedObject))
-    (placed : List Placed) → standing n (map (option_map header_of) slots) ≡ map where_of placed → AllByRecursion (IsObjectKept image) (objects_of slots)
+    (placed : List Placed) → numbered_objects n (map (option_map header_of) slots) ≡ map where_of placed → AllByRecursion (IsObjectKept image) (objects_of slots)
     → AllByRecursion (IsPlaced image table) placed → placed ≡ place_slots (told_place image table) n slots
 placed_from_slots image table own n [] [] keys kept each = refl
 placed_from_slots image table own n [] (x ∷ placed) keys kept each = cc
@@ -181,7 +181,7 @@ placed_from_slots image table own n (Some p ∷ slots) [] keys kept each = cc
 placed_from_slots image table own n (Some p ∷ slots) (x ∷ placed) keys kept each =
     let number : n ≡ x.number = ap (λ (ks : List (ℕ × ℕ)). (first_or ks).0) keys in
     let header : p.messages.header ≡ x.header = ap (λ (ks : List (ℕ × ℕ)). (first_or ks).1) keys in
-    let rest : standing (n + 1) (map (option_map header_of) slots) ≡ map where_of placed = ap (λ (ks : List (ℕ × ℕ)). drop 1 ks) keys in
+    let rest : numbered_objects (n + 1) (map (option_map header_of) slots) ≡ map where_of placed = ap (λ (ks : List (ℕ × ℕ)). drop 1 ks) keys in
     let here : HasObject image table p.messages.header x.object x.blocks
     = subst (λ (h : ℕ). HasObject image table h x.object x.blocks) (sym header) each.0 in
     let object : object_in image table p ≡ x.object = object_is image table own p x.object x.blocks kept.0 here in

@@ -18,7 +18,7 @@ use Rattle.h5_open.specs.Opened.Refused.{IsOpenRefusedAt}
 use Rattle.h5_open.specs.Opened.Objects.{IsDense, headers, objects_of, content_links, object_blocks, opened_blocks, table_of}
 use Rattle.h5_open.specs.Placed.Whole.{IsGroupContent, HasHeight, IsLed, AreLed, HasParent, AreNamed}
 use Rattle.h5_open.specs.Counted.Counts.{AreCounted}
-use Rattle.h5_open.specs.Counted.Links.{leading, all_links}
+use Rattle.h5_open.specs.Counted.Links.{leading_links, all_links}
 use Rattle.h5_open.specs.Read.{IsOwn, AreWaiting}
 
 -- Each number has an object, whose header has the number. No two have one header, and headers lie below 2 GiB, so numbers fit.
@@ -37,7 +37,7 @@ pub record AreFieldsMet (image : List ℕ) (held : List Block) (links : List (Li
   pub fields : List ℕ
   pub name : AreLinkFields image header fields
   pub stand : AllByRecursion (λ field. 1 ≤ cover (field - 8) held) fields
-  pub long : length fields ≡ leading header links
+  pub long : length fields ≡ leading_links header links
 
 -- The walk has read these objects, and claimed their blocks and the superblock. Each followed field that names a header names that of
 -- one of them. The fields of all their links were met.

@@ -16,7 +16,7 @@ use Rattle.h5_model.proofs.SelectionLaws.{range-append}
 use Rattle.h5_shape.specs.declared.rows.CellRows.{CellRows}
 use Rattle.h5_shape.specs.SpacedPlaces.{spaced_places, selected_from, first_place}
 use Rattle.h5_shape.specs.PartCells.{selection_shape}
-use Rattle.h5_shape.specs.Rows.{IsRowed, cells_at, cells_in, groups_from, repeated, row_cells, selected_place}
+use Rattle.h5_shape.specs.Rows.{IsRowed, cells_at, cells_in, groups_from, repeated_place, row_cells, selected_place}
 use Rattle.h5_shape.proofs.AlongLaws.{quotient-low}
 use Rattle.h5_shape.proofs.AxisLaws.{axis_cells, tail_is}
 use Rattle.h5_shape.proofs.PositionLaws.{get_or-selected_from, length-selected_from}
@@ -57,15 +57,15 @@ rowed_moved f g c r same h = record {
       ∙ omega (arith, same (q * row_cells r) first);
 }
 
--- ---- rows repeated
+-- ---- rows repeated_place
 
-repeated-low : (f : ℕ → ℕ) (total step n : ℕ) → n < total → repeated f total step n ≡ f n
+repeated-low : (f : ℕ → ℕ) (total step n : ℕ) → n < total → repeated_place f total step n ≡ f n
 repeated-low f total step n low =
     let parts = quotient-low total n low in
     ap (λ (x : ℕ). f x + n / total * step) parts.1 ∙ ap (λ (x : ℕ). f n + x * step) parts.0 ∙ omega arith
 
-pub rowed_once : (f : ℕ → ℕ) (r : CellRows) (step : ℕ) → IsRowed f r → IsRowed (repeated f (cells_in r) step) r
-rowed_once f r step h = rowed_moved f (repeated f (cells_in r) step) 0 r (λ n low. repeated-low f (cells_in r) step n low ∙ omega arith) h
+pub rowed_once : (f : ℕ → ℕ) (r : CellRows) (step : ℕ) → IsRowed f r → IsRowed (repeated_place f (cells_in r) step) r
+rowed_once f r step h = rowed_moved f (repeated_place f (cells_in r) step) 0 r (λ n low. repeated-low f (cells_in r) step n low ∙ omega arith) h
 
 at_row : (r : CellRows) (q x : ℕ) → x < row_cells r → 0 < r.count
     → ((q * row_cells r + x) / cells_in r ≡ q / r.count) × ((q * row_cells r + x) % cells_in r ≡ q % r.count * row_cells r + x)
@@ -79,7 +79,7 @@ at_row r q x low some =
 
 -- more rows
 pub rowed_more : (f : ℕ → ℕ) (r : CellRows) (count step : ℕ) → 0 < count → IsRowed f r
-    → IsRowed (repeated f (cells_in r) step) (record { length = r.length; step = r.step; more = r.more; count = r.count * count })
+    → IsRowed (repeated_place f (cells_in r) step) (record { length = r.length; step = r.step; more = r.more; count = r.count * count })
 rowed_more f r count step some h = record {
   long = h.long;
   rows = omega (arith, mul-add-lt 0 r.count 0 count some h.rows);
@@ -106,7 +106,7 @@ one_row r one none = rw (one, none) (omega arith)
 
 -- the one group gets longer
 pub rowed_longer : (f : ℕ → ℕ) (r : CellRows) (count step : ℕ) → 0 < count → r.count ≡ 1 → r.more ≡ 0 → step ≡ r.length → IsRowed f r
-    → IsRowed (repeated f (cells_in r) step) (record { length = r.length * count; step = r.step; more = r.more; count = r.count })
+    → IsRowed (repeated_place f (cells_in r) step) (record { length = r.length * count; step = r.step; more = r.more; count = r.count })
 rowed_longer f r count step some one none next h = record {
   long = omega (arith, mul-add-lt 0 r.length 0 count some h.long);
   rows = h.rows;
@@ -123,16 +123,16 @@ rowed_longer f r count step some one none next h = record {
       let whole : j / l * l + j % l ≡ j = div-add-mod' j l in
       let main : f (j % t) + j / t * step ≡ f 0 + j =
       ap (λ (n : ℕ). f (j % n) + j / n * step) all ∙ ap (λ (n : ℕ). n + j / l * step) at ∙ ap (λ (s : ℕ). (f 0 + j % l) + j / l * s) next ∙ omega (arith, whole) in
-      let from : repeated f t step 0 ≡ f 0 = repeated-low f t step 0 (omega (arith, all, h.long)) in
+      let from : repeated_place f t step 0 ≡ f 0 = repeated-low f t step 0 (omega (arith, all, h.long)) in
       let number : 0 * row_cells (record r { length = l * count }) + (0 * (l * count) + j) ≡ j = omega arith in
       let first : 0 * row_cells (record r { length = l * count }) ≡ 0 = omega arith in
-      ap (repeated f t step) number ∙ main ∙ omega arith ∙ ap (λ (n : ℕ). n + (0 * r.step + j)) (sym from) ∙ ap (λ (n : ℕ). repeated f t step n + (0 * r.step + j)) (sym first)
+      ap (repeated_place f t step) number ∙ main ∙ omega arith ∙ ap (λ (n : ℕ). n + (0 * r.step + j)) (sym from) ∙ ap (λ (n : ℕ). repeated_place f t step n + (0 * r.step + j)) (sym first)
       );
 }
 
 -- the one group becomes the first of a row
 pub rowed_wider : (f : ℕ → ℕ) (r : CellRows) (count step : ℕ) → 0 < count → r.count ≡ 1 → r.more ≡ 0 → IsRowed f r
-    → IsRowed (repeated f (cells_in r) step) (record { length = r.length; step = step; more = count - 1; count = r.count })
+    → IsRowed (repeated_place f (cells_in r) step) (record { length = r.length; step = step; more = count - 1; count = r.count })
 rowed_wider f r count step some one none h = record {
   long = h.long;
   rows = h.rows;
@@ -149,20 +149,20 @@ rowed_wider f r count step some one none h = record {
       let at : f j ≡ f 0 + j = ap f (omega arith) ∙ h.stand 0 0 j h.rows (omega arith) small ∙ ap (λ (n : ℕ). f n + (0 * r.step + j)) begin ∙ omega arith in
       let main : f (n % t) + n / t * step ≡ (f 0 + j) + i * step =
       ap (λ (m : ℕ). f (n % m) + n / m * step) all ∙ ap (λ (m : ℕ). f m + n / l * step) rest ∙ ap (λ (m : ℕ). f j + m * step) group ∙ ap (λ (m : ℕ). m + i * step) at in
-      let from : repeated f t step 0 ≡ f 0 = repeated-low f t step 0 (omega (arith, all, h.long)) in
+      let from : repeated_place f t step 0 ≡ f 0 = repeated-low f t step 0 (omega (arith, all, h.long)) in
       let wider : CellRows = record { length = l; step = step; more = count - 1; count = r.count } in
       let number : 0 * row_cells wider + (i * l + j) ≡ n = omega arith in
       let first : 0 * row_cells wider ≡ 0 = omega arith in
-      ap (repeated f t step) number ∙ main ∙ omega arith ∙ ap (λ (x : ℕ). x + (i * step + j)) (sym from) ∙ ap (λ (x : ℕ). repeated f t step x + (i * step + j)) (sym first)
+      ap (repeated_place f t step) number ∙ main ∙ omega arith ∙ ap (λ (x : ℕ). x + (i * step + j)) (sym from) ∙ ap (λ (x : ℕ). repeated_place f t step x + (i * step + j)) (sym first)
       );
 }
 
 -- ---- one axis around others
 
--- the place of a number, where the cells of the other axes are repeated for each cell of a block, and the blocks then
+-- the place of a number, where the cells of the other axes are repeated_place for each cell of a block, and the blocks then
 pub around_blocks : (d : ℕ) (ds : List ℕ) (a : Axis) (rest : Slab) (n : ℕ) → 0 < cells (selection_shape rest) → 0 < a.block
     → selected_place (d ∷ ds) (a ∷ rest) n
-    ≡ a.start * cells ds + repeated (repeated (selected_place ds rest) (cells (selection_shape rest)) (cells ds)) (cells (selection_shape rest) * a.block) (a.stride * cells ds) n
+    ≡ a.start * cells ds + repeated_place (repeated_place (selected_place ds rest) (cells (selection_shape rest)) (cells ds)) (cells (selection_shape rest) * a.block) (a.stride * cells ds) n
 around_blocks d ds a rest n some more =
     let m = cells (selection_shape rest) in
     let c = cells ds in
@@ -182,12 +182,12 @@ around_blocks d ds a rest n some more =
 
 -- the same of one block
 pub around_block : (d : ℕ) (ds : List ℕ) (a : Axis) (rest : Slab) (n : ℕ) → 0 < cells (selection_shape rest) → n < cells (selection_shape rest) * a.block
-    → selected_place (d ∷ ds) (a ∷ rest) n ≡ a.start * cells ds + repeated (selected_place ds rest) (cells (selection_shape rest)) (cells ds) n
+    → selected_place (d ∷ ds) (a ∷ rest) n ≡ a.start * cells ds + repeated_place (selected_place ds rest) (cells (selection_shape rest)) (cells ds) n
 around_block d ds a rest n some below =
     let m = cells (selection_shape rest) in
     let more : 0 < a.block = around_some m a.block n below in
     around_blocks d ds a rest n some more
-    ∙ ap (λ (x : ℕ). a.start * cells ds + x) (repeated-low (repeated (selected_place ds rest) m (cells ds)) (m * a.block) (a.stride * cells ds) n below) where
+    ∙ ap (λ (x : ℕ). a.start * cells ds + x) (repeated-low (repeated_place (selected_place ds rest) m (cells ds)) (m * a.block) (a.stride * cells ds) n below) where
       around_some : (m b n : ℕ) → n < m * b → 0 < b
       around_some m zero n below = absurd (omega (arith, below))
       around_some m (suc b) n below = omega arith
@@ -195,35 +195,35 @@ around_block d ds a rest n some below =
 -- cells in rows, with one axis more
 pub rowed_blocks : (sizes : List ℕ) (a : Axis) (rest : Slab) (c t u : ℕ) (r : CellRows) → 1 ≤ length sizes → c ≡ cells (take (length sizes - 1) (drop 1 sizes))
     → t ≡ cells (selection_shape rest) → u ≡ t * a.block → 0 < cells (selection_shape rest) → 0 < a.block
-    → IsRowed (repeated (repeated (selected_place (take (length sizes - 1) (drop 1 sizes)) rest) t c) u (a.stride * c)) r → IsRowed (selected_place sizes (a ∷ rest)) r
+    → IsRowed (repeated_place (repeated_place (selected_place (take (length sizes - 1) (drop 1 sizes)) rest) t c) u (a.stride * c)) r → IsRowed (selected_place sizes (a ∷ rest)) r
 rowed_blocks [] a rest c t u r long below all more some block h = absurd (omega arith)
 rowed_blocks (d ∷ ds) a rest c t u r long below all more some block h =
     let f = selected_place ds rest in
     let m = cells (selection_shape rest) in
     let under : c ≡ cells ds = rw (tail_is d ds) at below in
-    let here : IsRowed (repeated (repeated f t c) u (a.stride * c)) r = rw (tail_is d ds) at h in
+    let here : IsRowed (repeated_place (repeated_place f t c) u (a.stride * c)) r = rw (tail_is d ds) at h in
     let blocks : u ≡ m * a.block = more ∙ ap (λ (x : ℕ). x * a.block) all in
-    rowed_moved (repeated (repeated f t c) u (a.stride * c)) (selected_place (d ∷ ds) (a ∷ rest)) (a.start * cells ds) r
+    rowed_moved (repeated_place (repeated_place f t c) u (a.stride * c)) (selected_place (d ∷ ds) (a ∷ rest)) (a.start * cells ds) r
     (λ n low. around_blocks d ds a rest n some block
-    ∙ ap (λ (x : ℕ). a.start * cells ds + repeated (repeated f m (cells ds)) x (a.stride * cells ds) n) (sym blocks)
-    ∙ ap (λ (x : ℕ). a.start * cells ds + repeated (repeated f x (cells ds)) u (a.stride * cells ds) n) (sym all)
-    ∙ ap (λ (x : ℕ). a.start * cells ds + repeated (repeated f t x) u (a.stride * x) n) (sym under)) here
+    ∙ ap (λ (x : ℕ). a.start * cells ds + repeated_place (repeated_place f m (cells ds)) x (a.stride * cells ds) n) (sym blocks)
+    ∙ ap (λ (x : ℕ). a.start * cells ds + repeated_place (repeated_place f x (cells ds)) u (a.stride * cells ds) n) (sym all)
+    ∙ ap (λ (x : ℕ). a.start * cells ds + repeated_place (repeated_place f t x) u (a.stride * x) n) (sym under)) here
 
 -- the same where the axis has one block
 pub rowed_block : (sizes : List ℕ) (a : Axis) (rest : Slab) (c t : ℕ) (r : CellRows) → 1 ≤ length sizes → c ≡ cells (take (length sizes - 1) (drop 1 sizes))
     → t ≡ cells (selection_shape rest) → cells_in r ≡ t * a.block → 0 < cells (selection_shape rest)
-    → IsRowed (repeated (selected_place (take (length sizes - 1) (drop 1 sizes)) rest) t c) r → IsRowed (selected_place sizes (a ∷ rest)) r
+    → IsRowed (repeated_place (selected_place (take (length sizes - 1) (drop 1 sizes)) rest) t c) r → IsRowed (selected_place sizes (a ∷ rest)) r
 rowed_block [] a rest c t r long below all more some h = absurd (omega arith)
 rowed_block (d ∷ ds) a rest c t r long below all more some h =
     let f = selected_place ds rest in
     let m = cells (selection_shape rest) in
     let under : c ≡ cells ds = rw (tail_is d ds) at below in
-    let here : IsRowed (repeated f t c) r = rw (tail_is d ds) at h in
+    let here : IsRowed (repeated_place f t c) r = rw (tail_is d ds) at h in
     let blocks : cells_in r ≡ m * a.block = more ∙ ap (λ (x : ℕ). x * a.block) all in
-    rowed_moved (repeated f t c) (selected_place (d ∷ ds) (a ∷ rest)) (a.start * cells ds) r
+    rowed_moved (repeated_place f t c) (selected_place (d ∷ ds) (a ∷ rest)) (a.start * cells ds) r
     (λ n low. around_block d ds a rest n some (omega (arith, low, blocks))
-    ∙ ap (λ (x : ℕ). a.start * cells ds + repeated f x (cells ds) n) (sym all)
-    ∙ ap (λ (x : ℕ). a.start * cells ds + repeated f t x n) (sym under)) here
+    ∙ ap (λ (x : ℕ). a.start * cells ds + repeated_place f x (cells ds) n) (sym all)
+    ∙ ap (λ (x : ℕ). a.start * cells ds + repeated_place f t x n) (sym under)) here
 
 -- ---- a step along one axis
 

@@ -33,8 +33,8 @@ pub record IsRowed (place : ℕ → ℕ) (r : CellRows) : Type 0 where
       → place (q * row_cells r + (i * r.length + j)) ≡ place (q * row_cells r) + (i * r.step + j)
 
 -- so many cells again and again, a step apart
-abbrev pub repeated : (ℕ → ℕ) → ℕ → ℕ → ℕ → ℕ
-repeated place total step n = place (n % total) + n / total * step
+abbrev pub repeated_place : (ℕ → ℕ) → ℕ → ℕ → ℕ → ℕ
+repeated_place place total step n = place (n % total) + n / total * step
 
 -- the places of the groups of so many rows, the first of which begins with the cell of this number
 abbrev pub groups_from : (ℕ → ℕ) → CellRows → ℕ → ℕ → List ℕ

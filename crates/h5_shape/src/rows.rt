@@ -6,7 +6,7 @@ ghost use Rattle.h5_model.specs.Tree.Places.{cells};
 ghost use Rattle.h5_model.specs.Views.Selection.{fits_all, overlaps, selection_of, selects_none};
 ghost use Rattle.h5_shape.specs.SpacedPlaces.{ArePlacesBelow};
 ghost use Rattle.h5_shape.specs.PartCells.{selection_shape};
-ghost use Rattle.h5_shape.specs.Rows.{HasGaps, IsRowed, IsWalk, cells_at, cells_in, groups_ahead, repeated, row_cells, selected_place};
+ghost use Rattle.h5_shape.specs.Rows.{HasGaps, IsRowed, IsWalk, cells_at, cells_in, groups_ahead, repeated_place, row_cells, selected_place};
 
 use crate::axes::Axes;
 
@@ -99,7 +99,7 @@ impl CellRows {
         requires gaps { HasGaps self.old }
         ensures cells { cells_in self.new ≡ cells_in self.old * count }
         ensures rowed { (place : ℕ → ℕ) → IsRowed place self.old
-            → IsRowed (repeated place (cells_in self.old) step) self.new }
+            → IsRowed (repeated_place place (cells_in self.old) step) self.new }
         ensures gaps { HasGaps self.new }
     {
         if count == 1 {

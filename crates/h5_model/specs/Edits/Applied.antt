@@ -16,16 +16,16 @@ use Rattle.h5_model.specs.declared.dataset.Store.TheVariants as store
 
 -- a group whose links are changed; other objects stay
 abbrev pub with_links : (Links → Links) → Object → Object
-with_links change o = record o { content = changed o.content } where
-  changed : Content → Content
-  changed (Group links) = Group (change links)
-  changed (Array d) = Array d
+with_links change o = record o { content = with_change o.content } where
+  with_change : Content → Content
+  with_change (Group links) = Group (change links)
+  with_change (Array d) = Array d
 
 abbrev pub with_dataset : (Dataset → Dataset) → Object → Object
-with_dataset change o = record o { content = changed o.content } where
-  changed : Content → Content
-  changed (Group links) = Group links
-  changed (Array d) = Array (change d)
+with_dataset change o = record o { content = with_change o.content } where
+  with_change : Content → Content
+  with_change (Group links) = Group links
+  with_change (Array d) = Array (change d)
 
 abbrev pub with_attributes : (Attributes → Attributes) → Object → Object
 with_attributes change o = record o { attributes = change o.attributes }

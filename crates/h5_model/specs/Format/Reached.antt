@@ -33,7 +33,7 @@ pub data Met (image : List ℕ) (header : ℕ) : ℕ → ℕ → Type 0 where
   behind : {before : ℕ} → {end : ℕ} → {at : ℕ} → Met image header before end → before + 8 ≤ end → size_at image before % 8 ≡ 0
       → at ≡ before + 8 + size_at image before → at ≤ end → Met image header at end
   in_continuation : {from : ℕ} → {until : ℕ} → {at : ℕ} → {end : ℕ} → Met image header from until → from + 8 + size_at image from ≤ until
-      → kind_at image from ≡ 16 → 16 ≤ size_at image from
+      → kind_at image from ≡ continuation_kind → 16 ≤ size_at image from
       → at ≡ number_at image (from + 8) 8 → end ≡ at + number_at image (from + 16) 8 → Met image header at end
 
 -- a message begins at a place, with its head inside the block

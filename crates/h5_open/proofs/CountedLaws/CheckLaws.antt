@@ -12,7 +12,7 @@ use Rattle.h5_open.specs.Opened.Objects.{table_of, tree_of, slots_of}
 use Rattle.h5_open.specs.Placed.Whole.{IsWholeImage, placed_of}
 use Rattle.h5_open.proofs.PlacedLaws.WholeHolds.{whole_holds}
 use Rattle.h5_laws.proofs.Lists.{contains_in, in_at, in_contains}
-use Rattle.h5_open.specs.Counted.Links.{leading, all_links}
+use Rattle.h5_open.specs.Counted.Links.{leading_links, all_links}
 use Rattle.h5_open.specs.Counted.Counts.{AreCounted, HasMiscount}
 use Rattle.h5_open.proofs.CountedLaws.ObjectLaws.{right_reads, wrong_fault}
 
@@ -32,7 +32,7 @@ module _ (image : List ℕ) (objects : List OpenedObject) (whole : IsWholeImage 
     among = contains_in o objects (in_at objects number o here);
     header = at;
     is = is;
-    wrong = λ same. (let count = are.each number o here in let all : leading o.messages.header (all_links image objects) ≡ get_or counts number 0 = omega (arith, count.exact) in wrong (same ∙ all));
+    wrong = λ same. (let count = are.each number o here in let all : leading_links o.messages.header (all_links image objects) ≡ get_or counts number 0 = omega (arith, count.exact) in wrong (same ∙ all));
   }
 
   pub one_wrong : (cause : Cause) (address : ℕ) → HasMiscount image objects cause address → IsFault image cause address

@@ -14,7 +14,7 @@ use Rattle.h5_model.specs.Format.Symbols.{Target, Header, Text}
 use Rattle.h5_laws.proofs.Lists.{in_at, in_map, in_right, contains_in}
 use Rattle.h5_laws.proofs.Pigeonhole.{apart_of_distinct, one_place}
 use Rattle.h5_open.specs.declared.opened.object.OpenedObject.{OpenedObject}
-use Rattle.h5_open.specs.Counted.Links.{leading, object_links, all_links}
+use Rattle.h5_open.specs.Counted.Links.{leading_links, object_links, all_links}
 use Rattle.h5_open.specs.Counted.Counts.{IsCount, AreCounted, MayBeLinked}
 use Rattle.h5_open.specs.Opened.Objects.{content_links, header_of, headers}
 use Rattle.h5_open.proofs.GrowLaws.{headers-append}
@@ -45,30 +45,30 @@ count_read counts number count low is =
 
 -- ---- links
 
-pub leading-append : (h : ℕ) (xs ys : List (List ℕ × Target)) → leading h (xs ++ ys) ≡ leading h xs + leading h ys
+pub leading-append : (h : ℕ) (xs ys : List (List ℕ × Target)) → leading_links h (xs ++ ys) ≡ leading_links h xs + leading_links h ys
 leading-append h [] ys = omega arith
 leading-append h (l ∷ xs) ys = omega (arith, leading-append h xs ys)
 
-one_here : (h header : ℕ) (name : List ℕ) → header ≡ h → leading h ((name, Header header) ∷ []) ≡ 1
+one_here : (h header : ℕ) (name : List ℕ) → header ≡ h → leading_links h ((name, Header header) ∷ []) ≡ 1
 one_here h header name e = let same : (header == h) ≡ true = grind (arith, nat_tests) in rw same refl
 
-none_here : (h header : ℕ) (name : List ℕ) → header ≢ h → leading h ((name, Header header) ∷ []) ≡ 0
+none_here : (h header : ℕ) (name : List ℕ) → header ≢ h → leading_links h ((name, Header header) ∷ []) ≡ 0
 none_here h header name e = let other : (header == h) ≡ false = grind (arith, nat_tests) in rw other refl
 
-pub one_more : (h header : ℕ) (name : List ℕ) (links : List (List ℕ × Target)) → header ≡ h → leading h ((name, Header header) ∷ links) ≡ 1 + leading h links
+pub one_more : (h header : ℕ) (name : List ℕ) (links : List (List ℕ × Target)) → header ≡ h → leading_links h ((name, Header header) ∷ links) ≡ 1 + leading_links h links
 one_more h header name links e = omega (arith, leading-append h ((name, Header header) ∷ []) links, one_here h header name e)
 
-pub none_more : (h header : ℕ) (name : List ℕ) (links : List (List ℕ × Target)) → header ≢ h → leading h ((name, Header header) ∷ links) ≡ leading h links
+pub none_more : (h header : ℕ) (name : List ℕ) (links : List (List ℕ × Target)) → header ≢ h → leading_links h ((name, Header header) ∷ links) ≡ leading_links h links
 none_more h header name links e = omega (arith, leading-append h ((name, Header header) ∷ []) links, none_here h header name e)
 
 -- those of one object more
 pub all_links_push : (image : List ℕ) (h : ℕ) (objects : List OpenedObject) (o : OpenedObject)
-    → leading h (all_links image (objects ++ o ∷ [])) ≡ leading h (all_links image objects) + leading h (content_links image o.content)
+    → leading_links h (all_links image (objects ++ o ∷ [])) ≡ leading_links h (all_links image objects) + leading_links h (content_links image o.content)
 all_links_push image h objects o =
     let links : object_links image (objects ++ o ∷ []) ≡ object_links image objects ++ object_links image (o ∷ [])
     = flat_map-append (λ (x : OpenedObject). content_links image x.content) objects (o ∷ []) in
     let one : object_links image (o ∷ []) ≡ content_links image o.content = append-nil (content_links image o.content) in
-    omega (arith, ap (leading h) links, leading-append h (object_links image objects) (object_links image (o ∷ [])), ap (leading h) one)
+    omega (arith, ap (leading_links h) links, leading-append h (object_links image objects) (object_links image (o ∷ [])), ap (leading_links h) one)
 
 -- ---- counts
 
@@ -114,13 +114,13 @@ module _ (image : List ℕ) (objects : List OpenedObject) (counts : List ℕ) (n
     first number x place same =
         let value : get_or (counts ++ 1 ∷ []) number 0 ≡ 1
         = ap (λ (n : ℕ). get_or (counts ++ 1 ∷ []) n 0) (place ∙ sym are.long) ∙ get_or-append_seam counts 1 [] 0 in
-        let before : leading header ((name, Header header) ∷ waiting) ≡ leading header (all_links image objects) = are.elsewhere header new in
-        let here : 1 + leading header (content_links image o.content ++ waiting) ≡ leading header (all_links image after)
+        let before : leading_links header ((name, Header header) ∷ waiting) ≡ leading_links header (all_links image objects) = are.elsewhere header new in
+        let here : 1 + leading_links header (content_links image o.content ++ waiting) ≡ leading_links header (all_links image after)
         = omega (arith, before, one_more header header name waiting refl, leading-append header (content_links image o.content) waiting, all_links_push image header objects o) in
         subst (λ (y : OpenedObject). IsCount image after (content_links image o.content ++ waiting) y (get_or (counts ++ 1 ∷ []) number 0)) same
         (subst (IsCount image after (content_links image o.content ++ waiting) o) (sym value)
         (record {
-          exact = subst (λ (h : ℕ). 1 + leading h (content_links image o.content ++ waiting) ≡ leading h (all_links image after)) (sym at) here;
+          exact = subst (λ (h : ℕ). 1 + leading_links h (content_links image o.content ++ waiting) ≡ leading_links h (all_links image after)) (sym at) here;
           limit = omega arith;
           once = λ group. omega arith;
         }))

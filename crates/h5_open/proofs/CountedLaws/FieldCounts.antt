@@ -28,17 +28,17 @@ use Rattle.h5_laws.proofs.Datasets.{find_none, said_first}
 use Rattle.h5_laws.proofs.LinkFields as fields
 use Rattle.h5_laws.proofs.LinkFields.{aimed, aimed_entries, nodes_count, node_links, table_links, placed_links}
 use Rattle.h5_laws.proofs.Pigeonhole.{linking, linking-append}
-use Rattle.h5_open.specs.Counted.Links.{leading, object_links, all_links}
+use Rattle.h5_open.specs.Counted.Links.{leading_links, object_links, all_links}
 use Rattle.h5_open.proofs.CountedLaws.CountLaws.{leading-append}
 
-leading_aimed : (h : ℕ) (ls : List (List ℕ × Target)) → leading h ls ≡ aimed h ls
+leading_aimed : (h : ℕ) (ls : List (List ℕ × Target)) → leading_links h ls ≡ aimed h ls
 leading_aimed h [] = refl
 leading_aimed h ((name, Header a) ∷ ls) = ap (λ (n : ℕ). (if a == h then 1 else 0) + n) (leading_aimed h ls)
 leading_aimed h ((name, Text t) ∷ ls) = omega (arith, leading_aimed h ls)
 
 module _ (image : List ℕ) (h : ℕ) where
   -- those of a group
-  group_count : (ms : List Message) (t : SymbolTable) → IsContentKept image ms (content.Group t) → linking h (fields.object_links image ms) ≡ leading h (links_told image t)
+  group_count : (ms : List Message) (t : SymbolTable) → IsContentKept image ms (content.Group t) → linking h (fields.object_links image ms) ≡ leading_links h (links_told image t)
   group_count ms t kept =
       let first = said_first symbol_table_of symbol_table_kind ms t kept.1 in
       let nodes = symbol_nodes_told image t in
@@ -47,7 +47,7 @@ module _ (image : List ℕ) (h : ℕ) where
       ap (linking h) links ∙ nodes_count image h nodes ∙ sym (aimed_entries (segment_of image t.heap) h (all_entries image nodes)) ∙ sym (leading_aimed h (links_told image t))
 
   -- those of an object
-  content_count : (ms : List Message) (c : OpenedContent) → IsContentKept image ms c → linking h (fields.object_links image ms) ≡ leading h (content_links image c)
+  content_count : (ms : List Message) (c : OpenedContent) → IsContentKept image ms c → linking h (fields.object_links image ms) ≡ leading_links h (content_links image c)
   content_count ms (content.Group t) kept = group_count ms t kept
   content_count ms content.Array kept =
       let none : find (λ (m : Message). m.kind == symbol_table_kind) ms ≡ None
@@ -56,13 +56,13 @@ module _ (image : List ℕ) (h : ℕ) where
 
   -- those of several objects
   objects_count : (table : FinMap nat_cmp ℕ) (n : ℕ) (objects : List OpenedObject) (each : AllByRecursion (IsPlaced image table) (placed_from image table n objects))
-      → AllByRecursion (IsObjectKept image) objects → linking h (placed_links image table (placed_from image table n objects) each) ≡ leading h (object_links image objects)
+      → AllByRecursion (IsObjectKept image) objects → linking h (placed_links image table (placed_from image table n objects) each) ≡ leading_links h (object_links image objects)
   objects_count table n [] each kept = refl
   objects_count table n (o ∷ objects) each kept =
       let ms = messages_in image o.messages.list in
       let same : ms ≡ each.0.messages = one_messages image o.messages.header ms each.0.messages o.messages.blocks each.0.header_blocks kept.0.header.has each.0.listed in
-      let a : linking h (fields.object_links image each.0.messages) ≡ leading h (content_links image o.content)
-      = subst (λ (x : List Message). linking h (fields.object_links image x) ≡ leading h (content_links image o.content)) same (content_count ms o.content kept.0.content) in
+      let a : linking h (fields.object_links image each.0.messages) ≡ leading_links h (content_links image o.content)
+      = subst (λ (x : List Message). linking h (fields.object_links image x) ≡ leading_links h (content_links image o.content)) same (content_count ms o.content kept.0.content) in
       let b = linking-append h (fields.object_links image each.0.messages) (placed_links image table (placed_from image table (n + 1) objects) each.1) in
       let c = leading-append h (content_links image o.content) (object_links image objects) in
       let d = objects_count table (n + 1) objects each.1 kept.1 in
@@ -70,5 +70,5 @@ module _ (image : List ℕ) (h : ℕ) where
 
   -- all of them
   pub fields_count : (table : FinMap nat_cmp ℕ) (objects : List OpenedObject) (each : AllByRecursion (IsPlaced image table) (placed_from image table 0 objects))
-      → AllByRecursion (IsObjectKept image) objects → linking h (fields.all_links image table (placed_from image table 0 objects) each) ≡ leading h (all_links image objects)
+      → AllByRecursion (IsObjectKept image) objects → linking h (fields.all_links image table (placed_from image table 0 objects) each) ≡ leading_links h (all_links image objects)
   fields_count table objects each kept = ap (λ (n : ℕ). (if root_header image == h then 1 else 0) + n) (objects_count table 0 objects each kept)

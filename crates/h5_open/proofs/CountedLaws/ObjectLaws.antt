@@ -23,7 +23,7 @@ use Rattle.h5_laws.proofs.Lists.{In, in_all}
 use Rattle.h5_laws.proofs.LinkCounts.{object_count}
 use Rattle.h5_laws.proofs.AllReached.{all_reached}
 use Rattle.h5_laws.proofs.Holding.{linked_by}
-use Rattle.h5_open.specs.Counted.Links.{leading, all_links}
+use Rattle.h5_open.specs.Counted.Links.{leading_links, all_links}
 use Rattle.h5_open.specs.Counted.Counts.{IsCount}
 use Rattle.h5_open.proofs.CountedLaws.FieldCounts.{fields_count}
 
@@ -53,7 +53,7 @@ module _ (image : List ℕ) (objects : List OpenedObject) (whole : IsWholeImage 
 
   -- as many links lead to an object as the tree has
   links_are : (x : Placed) → In x (placed_of image objects)
-      → leading x.header (all_links image objects) ≡ hard_links (tree_of image (slots_of objects)) x.number + (if x.number == 0 then 1 else 0)
+      → leading_links x.header (all_links image objects) ≡ hard_links (tree_of image (slots_of objects)) x.number + (if x.number == 0 then 1 else 0)
   links_are x member =
       sym (fields_count image x.header (table_of (slots_of objects)) objects holds.each whole.each)
       ∙ object_count image (table_of (slots_of objects)) (tree_of image (slots_of objects)) (placed_of image objects) holds x member
@@ -62,7 +62,7 @@ module _ (image : List ℕ) (objects : List OpenedObject) (whole : IsWholeImage 
   pub record IsNamed (header : ℕ) : Type 0 where
     pub fields : List ℕ
     pub all : AreAllLinks image header fields
-    pub long : length fields ≡ leading header (all_links image objects)
+    pub long : length fields ≡ leading_links header (all_links image objects)
     pub depth : ℕ
     pub field : ℕ
     pub reached : Reached image (naming_of field ObjectHeader header depth)
@@ -96,8 +96,8 @@ module _ (image : List ℕ) (objects : List OpenedObject) (whole : IsWholeImage 
   one_counted n o member has =
       let known = placed_named (place n o) member in
       let links = links_are (place n o) member in
-      let is : has.0 ≡ leading o.messages.header (all_links image objects) = omega (arith, has.2.exact) in
-      let some : 1 ≤ leading o.messages.header (all_links image objects) = omega (arith, known.among.1, known.long) in record {
+      let is : has.0 ≡ leading_links o.messages.header (all_links image objects) = omega (arith, has.2.exact) in
+      let some : 1 ≤ leading_links o.messages.header (all_links image objects) = omega (arith, known.among.1, known.long) in record {
         counted = has.1 ∙ is ∙ links;
         once = λ group. let most : has.0 ≤ 1 = has.2.once (is_group_content image table (messages_in image o.messages.list) o.content group) in omega (arith, has.1, is, some, most);
         limit = omega (arith, has.2.limit, is, links);
@@ -116,7 +116,7 @@ module _ (image : List ℕ) (objects : List OpenedObject) (whole : IsWholeImage 
 
   -- ---- wrong
 
-  pub wrong_fault : (o : OpenedObject) → In o objects → reference_count (prefix_at image o.messages.header) ≢ leading o.messages.header (all_links image objects)
+  pub wrong_fault : (o : OpenedObject) → In o objects → reference_count (prefix_at image o.messages.header) ≢ leading_links o.messages.header (all_links image objects)
       → IsFault image LinkCount o.messages.header
   wrong_fault o member wrong =
       let known = object_named o member in

@@ -15,7 +15,7 @@ use Rattle.h5_model.proofs.TextOrder.{is_less}
 use Rattle.h5_group.specs.Told.{links_told}
 use Rattle.h5_group.specs.Links.{IsGroupRead}
 use Rattle.h5_open.specs.declared.opened.object.OpenedObject.{OpenedObject}
-use Rattle.h5_open.specs.Opened.Objects.{header_of, headers, numbered_from, slots_of, standing, link_to, links_by, object_in, table_of, tree_of}
+use Rattle.h5_open.specs.Opened.Objects.{header_of, headers, numbered_from, slots_of, numbered_objects, link_to, links_by, object_in, table_of, tree_of}
 use Rattle.h5_laws.proofs.Lists.{In, in_map, from_map}
 use Rattle.h5_laws.proofs.Maps.{found_value, get_of_entry}
 use Rattle.h5_laws.proofs.Ascending.{before_trans}
@@ -32,13 +32,13 @@ told_at {X = X} f slots n = ap option_flatten (slice_get-map (option_map f) slot
   go None = refl
   go (Some o) = refl
 
-pub table_entries : (slots : List (Option OpenedObject)) → entries (table_of slots) ≡ standing 0 (map (option_map header_of) slots)
+pub table_entries : (slots : List (Option OpenedObject)) → entries (table_of slots) ≡ numbered_objects 0 (map (option_map header_of) slots)
 table_entries slots = entries_standing (map (option_map header_of) slots)
 
 pub get_table : (slots : List (Option OpenedObject)) (n : ℕ) → get (table_of slots) n ≡ option_map header_of (option_flatten (slice_get slots n))
 get_table slots n = get_standing (map (option_map header_of) slots) n ∙ told_at header_of slots n
 
-pub tree_entries : (image : List ℕ) (slots : List (Option OpenedObject)) → entries (tree_of image slots) ≡ standing 0 (map (option_map (object_in image (table_of slots))) slots)
+pub tree_entries : (image : List ℕ) (slots : List (Option OpenedObject)) → entries (tree_of image slots) ≡ numbered_objects 0 (map (option_map (object_in image (table_of slots))) slots)
 tree_entries image slots = entries_standing (map (option_map (object_in image (table_of slots))) slots)
 
 pub get_tree : (image : List ℕ) (slots : List (Option OpenedObject)) (n : ℕ)
@@ -57,7 +57,7 @@ slot_of slots n h at = go (slice_get slots n) refl (sym (get_table slots n) ∙ 
 -- ---- slots of which none is empty
 
 module _ (objects : List OpenedObject) where
-  dense_told : {X : Type 0} (f : OpenedObject → X) (n : ℕ) (os : List OpenedObject) → standing n (map (option_map f) (slots_of os)) ≡ numbered_from n (map f os)
+  dense_told : {X : Type 0} (f : OpenedObject → X) (n : ℕ) (os : List OpenedObject) → numbered_objects n (map (option_map f) (slots_of os)) ≡ numbered_from n (map f os)
   dense_told f n [] = refl
   dense_told {X = X} f n (o ∷ os) = ap (λ (es : List (ℕ × X)). (n, f o) ∷ es) (dense_told f (n + 1) os)
 

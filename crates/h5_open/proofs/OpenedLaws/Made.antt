@@ -13,7 +13,7 @@ use Rattle.h5_model.proofs.TextOrder.{is_less}
 use Rattle.h5_laws.specs.Numbered.{numbered_from}
 use Rattle.h5_laws.proofs.Maps.{true_of}
 use Rattle.h5_laws.proofs.Numbered.{joined, less_holds, sorted_numbered, found_numbered}
-use Rattle.h5_open.specs.Opened.Objects.{standing}
+use Rattle.h5_open.specs.Opened.Objects.{numbered_objects}
 
 -- ---- in any order
 
@@ -47,46 +47,46 @@ len_numbered xs = len-entries (from_entries {R = nat_cmp} (numbered_from 0 xs)) 
 
 -- ---- slots, of which some may be empty
 
-below_standing : {X : Type 0} (m n : ℕ) (slots : List (Option X)) → m < n → T (below_all nat_cmp m (standing n slots))
+below_standing : {X : Type 0} (m n : ℕ) (slots : List (Option X)) → m < n → T (below_all nat_cmp m (numbered_objects n slots))
 below_standing m n [] low = tt
 below_standing m n (None ∷ slots) low = below_standing m (n + 1) slots (omega (arith, low))
 below_standing m n (Some x ∷ slots) low =
     joined _ _ (less_holds (nat_cmp m n) (sym (nat_cmp_is m n Less low))) (below_standing m (n + 1) slots (omega (arith, low)))
 
-sorted_standing : {X : Type 0} (n : ℕ) (slots : List (Option X)) → T (is_sorted nat_cmp (standing n slots))
+sorted_standing : {X : Type 0} (n : ℕ) (slots : List (Option X)) → T (is_sorted nat_cmp (numbered_objects n slots))
 sorted_standing n [] = tt
 sorted_standing n (None ∷ slots) = sorted_standing (n + 1) slots
 sorted_standing n (Some x ∷ slots) = joined _ _ (below_standing n (n + 1) slots (omega arith)) (sorted_standing (n + 1) slots)
 
-none_before : {X : Type 0} (m n : ℕ) (slots : List (Option X)) → m < n → find nat_cmp m (standing n slots) ≡ None
+none_before : {X : Type 0} (m n : ℕ) (slots : List (Option X)) → m < n → find nat_cmp m (numbered_objects n slots) ≡ None
 none_before m n [] low = refl
 none_before m n (None ∷ slots) low = none_before m (n + 1) slots (omega (arith, low))
 none_before m n (Some x ∷ slots) low =
     let other : (m == n) ≡ false = grind (arith, nat_tests, low) in
-    ap (λ b. cond b (Some x) (find nat_cmp m (standing (n + 1) slots))) (unsigned_tied m n ∙ other) ∙ none_before m (n + 1) slots (omega (arith, low))
+    ap (λ b. cond b (Some x) (find nat_cmp m (numbered_objects (n + 1) slots))) (unsigned_tied m n ∙ other) ∙ none_before m (n + 1) slots (omega (arith, low))
 
-found_standing : {X : Type 0} (m n k : ℕ) (slots : List (Option X)) → n + k ≡ m → find nat_cmp m (standing n slots) ≡ option_flatten (slice_get slots k)
+found_standing : {X : Type 0} (m n k : ℕ) (slots : List (Option X)) → n + k ≡ m → find nat_cmp m (numbered_objects n slots) ≡ option_flatten (slice_get slots k)
 found_standing m n k [] is = refl
 found_standing m n zero (None ∷ slots) is = none_before m (n + 1) slots (omega (arith, is))
 found_standing m n zero (Some x ∷ slots) is =
     let same : (m == n) ≡ true = grind (arith, nat_tests, is) in
-    ap (λ b. cond b (Some x) (find nat_cmp m (standing (n + 1) slots))) (unsigned_tied m n ∙ same)
+    ap (λ b. cond b (Some x) (find nat_cmp m (numbered_objects (n + 1) slots))) (unsigned_tied m n ∙ same)
 found_standing m n (suc k) (None ∷ slots) is = found_standing m (n + 1) k slots (omega (arith, is))
 found_standing m n (suc k) (Some x ∷ slots) is =
     let other : (m == n) ≡ false = grind (arith, nat_tests, is) in
-    ap (λ b. cond b (Some x) (find nat_cmp m (standing (n + 1) slots))) (unsigned_tied m n ∙ other) ∙ found_standing m (n + 1) k slots (omega (arith, is))
+    ap (λ b. cond b (Some x) (find nat_cmp m (numbered_objects (n + 1) slots))) (unsigned_tied m n ∙ other) ∙ found_standing m (n + 1) k slots (omega (arith, is))
 
-pub entries_standing : {X : Type 0} (slots : List (Option X)) → entries (from_entries {R = nat_cmp} (standing 0 slots)) ≡ standing 0 slots
-entries_standing slots = entries_made nat_cmp_total (standing 0 slots) (sorted_standing 0 slots)
+pub entries_standing : {X : Type 0} (slots : List (Option X)) → entries (from_entries {R = nat_cmp} (numbered_objects 0 slots)) ≡ numbered_objects 0 slots
+entries_standing slots = entries_made nat_cmp_total (numbered_objects 0 slots) (sorted_standing 0 slots)
 
-pub get_standing : {X : Type 0} (slots : List (Option X)) (n : ℕ) → get (from_entries {R = nat_cmp} (standing 0 slots)) n ≡ option_flatten (slice_get slots n)
-get_standing slots n = get-from_entries nat_cmp_total (standing 0 slots) n ∙ found_standing n 0 n slots (omega arith)
+pub get_standing : {X : Type 0} (slots : List (Option X)) (n : ℕ) → get (from_entries {R = nat_cmp} (numbered_objects 0 slots)) n ≡ option_flatten (slice_get slots n)
+get_standing slots n = get-from_entries nat_cmp_total (numbered_objects 0 slots) n ∙ found_standing n 0 n slots (omega arith)
 
-few_standing : {X : Type 0} (n : ℕ) (slots : List (Option X)) → length (standing n slots) ≤ length slots
+few_standing : {X : Type 0} (n : ℕ) (slots : List (Option X)) → length (numbered_objects n slots) ≤ length slots
 few_standing n [] = omega arith
 few_standing n (None ∷ slots) = omega (arith, few_standing (n + 1) slots)
 few_standing n (Some x ∷ slots) = omega (arith, few_standing (n + 1) slots)
 
-pub len_standing : {X : Type 0} (slots : List (Option X)) → len (from_entries {R = nat_cmp} (standing 0 slots)) ≤ length slots
+pub len_standing : {X : Type 0} (slots : List (Option X)) → len (from_entries {R = nat_cmp} (numbered_objects 0 slots)) ≤ length slots
 len_standing slots =
-    omega (arith, len-entries (from_entries {R = nat_cmp} (standing 0 slots)), ap length (entries_standing slots), few_standing 0 slots)
+    omega (arith, len-entries (from_entries {R = nat_cmp} (numbered_objects 0 slots)), ap length (entries_standing slots), few_standing 0 slots)

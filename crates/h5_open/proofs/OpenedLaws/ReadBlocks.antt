@@ -25,7 +25,7 @@ use Rattle.h5_open.specs.declared.opened.object.OpenedObject.{OpenedObject}
 use Rattle.h5_open.specs.declared.opened.object.OpenedContent.{OpenedContent}
 use Rattle.h5_open.specs.declared.opened.object.OpenedContent.TheVariants as content
 use Rattle.h5_open.specs.Opened.Kept.{IsObjectKept, IsContentKept}
-use Rattle.h5_open.specs.Opened.Objects.{header_of, objects_of, standing, content_blocks, object_blocks, opened_blocks, table_of}
+use Rattle.h5_open.specs.Opened.Objects.{header_of, objects_of, numbered_objects, content_blocks, object_blocks, opened_blocks, table_of}
 use Rattle.h5_open.proofs.DataLaws.{told_blocks}
 use Rattle.h5_open.proofs.OpenedLaws.Entries.{table_entries}
 
@@ -70,7 +70,7 @@ module _ (image : List ℕ) (table : FinMap nat_cmp ℕ) where
       })
       has
 
-  each_blocks : (n : ℕ) (slots : List (Option OpenedObject)) (placed : List Placed) → standing n (map (option_map header_of) slots) ≡ map where_of placed
+  each_blocks : (n : ℕ) (slots : List (Option OpenedObject)) (placed : List Placed) → numbered_objects n (map (option_map header_of) slots) ≡ map where_of placed
       → AllByRecursion (IsObjectKept image) (objects_of slots) → AllByRecursion (IsPlaced image table) placed
       → flat_map (object_blocks image) (objects_of slots) ≡ flat_map (λ (x : Placed). x.blocks) placed
   each_blocks n [] [] keys kept each = refl
@@ -79,7 +79,7 @@ module _ (image : List ℕ) (table : FinMap nat_cmp ℕ) where
   each_blocks n (Some p ∷ slots) [] keys kept each = cc
   each_blocks n (Some p ∷ slots) (x ∷ placed) keys kept each =
       let header : p.messages.header ≡ x.header = ap (λ (ks : List (ℕ × ℕ)). (first_or ks).1) keys in
-      let rest : standing (n + 1) (map (option_map header_of) slots) ≡ map where_of placed = ap (λ (ks : List (ℕ × ℕ)). drop 1 ks) keys in
+      let rest : numbered_objects (n + 1) (map (option_map header_of) slots) ≡ map where_of placed = ap (λ (ks : List (ℕ × ℕ)). drop 1 ks) keys in
       let here : HasObject image table p.messages.header x.object x.blocks = subst (λ (h : ℕ). HasObject image table h x.object x.blocks) (sym header) each.0 in
       ap₂ (λ (bs cs : List Block). bs ++ cs) (blocks_kept p x.object x.blocks kept.0 here) (each_blocks (n + 1) slots placed rest kept.1 each.1)
 

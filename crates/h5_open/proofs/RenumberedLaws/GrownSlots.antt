@@ -13,13 +13,13 @@ use Rattle.h5_space.specs.Space.{Space}
 use Rattle.h5_space.specs.Whole.{IsApart}
 use Rattle.h5_open.specs.declared.opened.object.OpenedObject.{OpenedObject}
 use Rattle.h5_open.specs.Opened.Kept.{IsOpened, IsIndex, IsObjectKept}
-use Rattle.h5_open.specs.Opened.Objects.{header_of, object_in, objects_of, opened_blocks, standing, table_of, tree_of}
+use Rattle.h5_open.specs.Opened.Objects.{header_of, object_in, objects_of, opened_blocks, numbered_objects, table_of, tree_of}
 
-nones_stand : {X : Type 0} (n k : ℕ) → standing {X = X} n (replicate k None) ≡ []
+nones_stand : {X : Type 0} (n k : ℕ) → numbered_objects {X = X} n (replicate k None) ≡ []
 nones_stand n zero = refl
 nones_stand n (suc k) = nones_stand (n + 1) k
 
-standing_grown : {X : Type 0} (n : ℕ) (slots : List (Option X)) (k : ℕ) → standing n (slots ++ replicate k None) ≡ standing n slots
+standing_grown : {X : Type 0} (n : ℕ) (slots : List (Option X)) (k : ℕ) → numbered_objects n (slots ++ replicate k None) ≡ numbered_objects n slots
 standing_grown n [] k = nones_stand n k
 standing_grown n (None ∷ slots) k = standing_grown (n + 1) slots k
 standing_grown {X = X} n (Some x ∷ slots) k = ap (λ (es : List (ℕ × X)). (n, x) ∷ es) (standing_grown (n + 1) slots k)
@@ -45,15 +45,15 @@ module _ (image : Space) (slots : List (Option OpenedObject)) (k : ℕ) where
   abbrev grown : List (Option OpenedObject)
   grown = slots ++ replicate k None
 
-  told_grown : {X : Type 0} (f : OpenedObject → X) → standing 0 (map (option_map f) grown) ≡ standing 0 (map (option_map f) slots)
-  told_grown {X = X} f = ap (λ (xs : List (Option X)). standing 0 xs) (map_grown f slots k) ∙ standing_grown 0 (map (option_map f) slots) k
+  told_grown : {X : Type 0} (f : OpenedObject → X) → numbered_objects 0 (map (option_map f) grown) ≡ numbered_objects 0 (map (option_map f) slots)
+  told_grown {X = X} f = ap (λ (xs : List (Option X)). numbered_objects 0 xs) (map_grown f slots k) ∙ standing_grown 0 (map (option_map f) slots) k
 
   table_grown : table_of grown ≡ table_of slots
   table_grown = ap (λ (es : List (ℕ × ℕ)). from_entries es) (told_grown header_of)
 
   tree_grown : tree_of image.bytes grown ≡ tree_of image.bytes slots
   tree_grown =
-      ap (λ (table : FinMap nat_cmp ℕ). from_entries (standing 0 (map (option_map (object_in image.bytes table)) grown))) table_grown
+      ap (λ (table : FinMap nat_cmp ℕ). from_entries (numbered_objects 0 (map (option_map (object_in image.bytes table)) grown))) table_grown
       ∙ ap (λ (es : List (ℕ × Object)). from_entries es) (told_grown (object_in image.bytes (table_of slots)))
 
   pub opened_grown : (numbers : BTreeMap ℕ ℕ) → IsOpened image slots numbers → length slots + k ≤ most_numbers → IsOpened image grown numbers

@@ -25,7 +25,7 @@ use Rattle.h5_open.specs.declared.opened.object.OpenedObject.{OpenedObject}
 use Rattle.h5_open.specs.declared.opened.object.OpenedContent.{OpenedContent}
 use Rattle.h5_open.specs.declared.opened.object.OpenedContent.TheVariants as content
 use Rattle.h5_open.specs.Opened.Kept.{IsObjectKept, IsContentKept}
-use Rattle.h5_open.specs.Opened.Objects.{header_of, objects_of, standing, link_to, links_by, content_in, object_in, table_of, tree_of}
+use Rattle.h5_open.specs.Opened.Objects.{header_of, objects_of, numbered_objects, link_to, links_by, content_in, object_in, table_of, tree_of}
 use Rattle.h5_open.proofs.DataLaws.{told_chunks}
 use Rattle.h5_open.proofs.OpenedLaws.Entries.{table_entries, tree_entries, group_entries}
 use Rattle.h5_open.proofs.OpenedLaws.HeaderNumbers.{number_is}
@@ -93,8 +93,8 @@ abbrev what_of : Placed → ℕ × Object
 what_of x = (x.number, x.object)
 
 objects_are : (image : List ℕ) (table : FinMap nat_cmp ℕ) → ((a b h : ℕ) → get table a ≡ Some h → get table b ≡ Some h → a ≡ b) → (n : ℕ) (slots : List (Option OpenedObject))
-    (placed : List Placed) → standing n (map (option_map header_of) slots) ≡ map where_of placed → AllByRecursion (IsObjectKept image) (objects_of slots)
-    → AllByRecursion (IsPlaced image table) placed → standing n (map (option_map (object_in image table)) slots) ≡ map what_of placed
+    (placed : List Placed) → numbered_objects n (map (option_map header_of) slots) ≡ map where_of placed → AllByRecursion (IsObjectKept image) (objects_of slots)
+    → AllByRecursion (IsPlaced image table) placed → numbered_objects n (map (option_map (object_in image table)) slots) ≡ map what_of placed
 objects_are image table own n [] [] keys kept each = refl
 objects_are image table own n [] (x ∷ placed) keys kept each = cc
 objects_are image table own n (None ∷ slots) placed keys kept each = objects_are image table own (n + 1) slots placed keys kept each
@@ -102,7 +102,7 @@ objects_are image table own n (Some p ∷ slots) [] keys kept each = cc
 objects_are image table own n (Some p ∷ slots) (x ∷ placed) keys kept each =
     let number : n ≡ x.number = ap (λ (ks : List (ℕ × ℕ)). (first_or ks).0) keys in
     let header : p.messages.header ≡ x.header = ap (λ (ks : List (ℕ × ℕ)). (first_or ks).1) keys in
-    let rest : standing (n + 1) (map (option_map header_of) slots) ≡ map where_of placed = ap (λ (ks : List (ℕ × ℕ)). drop 1 ks) keys in
+    let rest : numbered_objects (n + 1) (map (option_map header_of) slots) ≡ map where_of placed = ap (λ (ks : List (ℕ × ℕ)). drop 1 ks) keys in
     let here : HasObject image table p.messages.header x.object x.blocks
     = subst (λ (h : ℕ). HasObject image table h x.object x.blocks) (sym header) each.0 in
     let object : object_in image table p ≡ x.object = object_is image table own p x.object x.blocks kept.0 here in

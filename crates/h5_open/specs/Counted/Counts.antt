@@ -10,12 +10,12 @@ use Rattle.h5_model.specs.declared.open_fault.Cause.TheVariants.{TooLarge, LinkC
 use Rattle.h5_open.specs.declared.opened.object.OpenedObject.{OpenedObject}
 use Rattle.h5_open.specs.Opened.Objects.{headers}
 use Rattle.h5_open.specs.Placed.Whole.{IsGroupContent}
-use Rattle.h5_open.specs.Counted.Links.{leading, all_links}
+use Rattle.h5_open.specs.Counted.Links.{leading_links, all_links}
 
 -- The count of an object: so many links of these objects lead to it as were followed, those aside that wait. They are 65535 at most,
 -- and one to a group.
 pub record IsCount (image : List ℕ) (objects : List OpenedObject) (waiting : List (List ℕ × Target)) (o : OpenedObject) (count : ℕ) : Type 0 where
-  pub exact : count + leading o.messages.header waiting ≡ leading o.messages.header (all_links image objects)
+  pub exact : count + leading_links o.messages.header waiting ≡ leading_links o.messages.header (all_links image objects)
   pub limit : count ≤ most_hard_links
   pub once : IsGroupContent o.content → count ≤ 1
 
@@ -23,7 +23,7 @@ pub record IsCount (image : List ℕ) (objects : List OpenedObject) (waiting : L
 pub record AreCounted (image : List ℕ) (objects : List OpenedObject) (counts : List ℕ) (waiting : List (List ℕ × Target)) : Type 0 where
   pub long : length counts ≡ length objects
   pub each : (number : ℕ) (o : OpenedObject) → slice_get objects number ≡ Some o → IsCount image objects waiting o (slice_index counts number)
-  pub elsewhere : (header : ℕ) → (Contains (headers objects) header → ⊥) → leading header waiting ≡ leading header (all_links image objects)
+  pub elsewhere : (header : ℕ) → (Contains (headers objects) header → ⊥) → leading_links header waiting ≡ leading_links header (all_links image objects)
 
 -- one link more may lead to an object to which so many do
 pub record MayBeLinked (o : OpenedObject) (count : ℕ) : Type 0 where
@@ -46,4 +46,4 @@ pub record HasMiscount (image : List ℕ) (objects : List OpenedObject) (cause :
   pub among : Contains objects object
   pub header : address ≡ object.messages.header
   pub is : cause ≡ LinkCount
-  pub wrong : reference_count (prefix_at image object.messages.header) ≢ leading object.messages.header (all_links image objects)
+  pub wrong : reference_count (prefix_at image object.messages.header) ≢ leading_links object.messages.header (all_links image objects)

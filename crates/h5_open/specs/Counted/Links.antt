@@ -12,9 +12,9 @@ leads header (Header h) = h == header
 leads header (Text text) = false
 
 -- how many of these links lead to the header
-abbrev pub leading : ℕ → List (List ℕ × Target) → ℕ
-leading header [] = 0
-leading header (l ∷ ls) = (if leads header l.1 then 1 else 0) + leading header ls
+abbrev pub leading_links : ℕ → List (List ℕ × Target) → ℕ
+leading_links header [] = 0
+leading_links header (l ∷ ls) = (if leads header l.1 then 1 else 0) + leading_links header ls
 
 -- what the superblock names, as a link that has no name
 abbrev pub root_link : List ℕ → List ℕ × Target

@@ -26,10 +26,10 @@ abbrev pub objects_of : List (Option OpenedObject) → List OpenedObject
 objects_of slots = filter_map (λ o. o) slots
 
 -- what the slots have, by their numbers, from n on
-abbrev pub standing : {X : Type 0} → ℕ → List (Option X) → List (ℕ × X)
-standing n [] = []
-standing n (None ∷ slots) = standing (n + 1) slots
-standing n (Some x ∷ slots) = (n, x) ∷ standing (n + 1) slots
+abbrev pub numbered_objects : {X : Type 0} → ℕ → List (Option X) → List (ℕ × X)
+numbered_objects n [] = []
+numbered_objects n (None ∷ slots) = numbered_objects (n + 1) slots
+numbered_objects n (Some x ∷ slots) = (n, x) ∷ numbered_objects (n + 1) slots
 
 -- a slot for each of these objects, in their order
 abbrev pub slots_of : List OpenedObject → List (Option OpenedObject)
@@ -50,7 +50,7 @@ headers objects = map header_of objects
 
 -- each object's header by its number
 abbrev pub table_of : List (Option OpenedObject) → FinMap nat_cmp ℕ
-table_of slots = from_entries (standing 0 (map (option_map header_of) slots))
+table_of slots = from_entries (numbered_objects 0 (map (option_map header_of) slots))
 
 -- the number of the object whose header stands at this address: the first in the table that has it
 abbrev pub number_by : List (ℕ × ℕ) → ℕ → ℕ
@@ -99,4 +99,4 @@ opened_blocks image objects = block 0 (superblock_length image) ∷ flat_map (ob
 
 -- the objects by their numbers
 abbrev pub tree_of : List ℕ → List (Option OpenedObject) → Tree
-tree_of image slots = from_entries (standing 0 (map (option_map (object_in image (table_of slots))) slots))
+tree_of image slots = from_entries (numbered_objects 0 (map (option_map (object_in image (table_of slots))) slots))

@@ -24,7 +24,7 @@ use Rattle.h5_model.specs.declared.link.LinkTo.{LinkTo}
 use Rattle.h5_model.specs.declared.link.LinkTo.TheVariants as target
 use Rattle.h5_model.specs.Tree.Links.{tree_link, tree_target}
 use Rattle.h5_repack.specs.Objects.Objects.{IsFilled, IsNewContent, IsNewObject, AreObjects, SlotsHold}
-use Rattle.h5_repack.specs.Objects.Targets.{new_links, object_in, slot_links, targets, waiting, times}
+use Rattle.h5_repack.specs.Objects.Targets.{new_links, object_in, slot_links, targets, waiting_objects, times}
 use Rattle.h5_laws.proofs.Lists.{In}
 use Rattle.h5_laws.proofs.Maps.{value_of}
 use Rattle.h5_laws.proofs.Numbered.{joined, less_holds}
@@ -174,10 +174,10 @@ unturned ls other at =
 
 -- a link of the tree leads where one of the slot does
 pub link_waits : (objects : List (Option NewObject)) (tree : Tree) → AreObjects objects tree → (number other : ℕ) (name : List ℕ)
-    → link_in tree number name ≡ Some (ToObject other) → (x : Option NewObject) × (slice_get objects number ≡ Some x) × In other (waiting x)
+    → link_in tree number name ≡ Some (ToObject other) → (x : Option NewObject) × (slice_get objects number ≡ Some x) × In other (waiting_objects x)
 link_waits objects tree are number other name is = elim (get tree number) as (λ found. get tree number ≡ found
     → option_and_then (λ links. get links name) (option_and_then (λ o. links_in o.content) found) ≡ Some (ToObject other)
-    → (x : Option NewObject) × (slice_get objects number ≡ Some x) × In other (waiting x)) [
+    → (x : Option NewObject) × (slice_get objects number ≡ Some x) × In other (waiting_objects x)) [
       | None ↦ λ _ no. absurd (cc)
       | Some o ↦ λ found there.
           let x = object_from objects tree are number o found in
@@ -201,7 +201,7 @@ target_filled objects tree are sound number other x is at =
     filled_of objects tree are other (sound.linked number other linked.0 linked.1)
 
 pub waiting_filled : (objects : List (Option NewObject)) (tree : Tree) → AreObjects objects tree → IsSoundTree tree → (number other : ℕ) (x : Option NewObject)
-    → slice_get objects number ≡ Some x → In other (waiting x) → IsFilled objects other
+    → slice_get objects number ≡ Some x → In other (waiting_objects x) → IsFilled objects other
 waiting_filled objects tree are sound number other x is at =
     target_filled objects tree are sound number other x is (unturned (slot_links x) other at)
 

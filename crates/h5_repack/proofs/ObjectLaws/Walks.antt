@@ -11,7 +11,7 @@ use Rattle.h5_laws.proofs.SoundLaws.LinksThere.{group_stands}
 use Rattle.h5_repack.specs.declared.objects.object.NewObject.{NewObject}
 use Rattle.h5_repack.specs.Objects.Objects.{AreObjects, IsFilled}
 use Rattle.h5_repack.specs.Objects.Order.{AreMet}
-use Rattle.h5_repack.specs.Objects.Targets.{waiting}
+use Rattle.h5_repack.specs.Objects.Targets.{waiting_objects}
 use Rattle.h5_laws.proofs.Lists.{In, all_in, in_left, in_either, in_right, in_contains, contains_in}
 use Rattle.h5_laws.proofs.Pigeonhole.{Apart, distinct_of_apart, apart_push}
 use Rattle.h5_repack.proofs.ObjectLaws.Members.{in_front, in_last}
@@ -26,7 +26,7 @@ pub record IsWalk (objects : List (Option NewObject)) (order stack : List ℕ) (
   pub filled : (number : ℕ) → In number order → IsFilled objects number
   pub waits_filled : (number : ℕ) → In number stack → IsFilled objects number
   pub apart : Apart order
-  pub closed : (number other : ℕ) (x : Option NewObject) → In number order → slice_get objects number ≡ Some x → In other (waiting x) → In other order ⊎ In other stack
+  pub closed : (number other : ℕ) (x : Option NewObject) → In number order → slice_get objects number ≡ Some x → In other (waiting_objects x) → In other order ⊎ In other stack
   pub first : ((order ≡ []) × (stack ≡ 0 ∷ [])) ⊎ ((others : List ℕ) × (order ≡ 0 ∷ others))
 
 -- ---- the root waits, and nothing is met
@@ -93,7 +93,7 @@ walk_left objects order stack marks number walk marked = record {
 
 -- a number that is not met yet is met now, and what its links lead to waits
 module _ (objects : List (Option NewObject)) (order stack : List ℕ) (marks : List Bool) (number : ℕ) (x : Option NewObject) (walk : IsWalk objects order (stack ++ number ∷ []) marks)
-    (unmarked : get_or marks number false ≡ false) (is : slice_get objects number ≡ Some x) (all_filled : (other : ℕ) → In other (waiting x) → IsFilled objects other) where
+    (unmarked : get_or marks number false ≡ false) (is : slice_get objects number ≡ Some x) (all_filled : (other : ℕ) → In other (waiting_objects x) → IsFilled objects other) where
   within : number < length marks
   within = omega (arith, walk.same, slice_get_within objects number x is)
 
@@ -123,27 +123,27 @@ module _ (objects : List (Option NewObject)) (order stack : List ℕ) (marks : L
     | inr e ↦ subst (λ (k : ℕ). IsFilled objects k) e (walk.waits_filled number (in_last number stack))
   ]
 
-  waits_filled_now : (n : ℕ) → In n (stack ++ waiting x) → IsFilled objects n
-  waits_filled_now n at = elim (in_either n stack (waiting x) at) [
+  waits_filled_now : (n : ℕ) → In n (stack ++ waiting_objects x) → IsFilled objects n
+  waits_filled_now n at = elim (in_either n stack (waiting_objects x) at) [
     | inl before ↦ walk.waits_filled n (in_left n stack (number ∷ []) before)
     | inr new ↦ all_filled n new
   ]
 
-  still_closed : (n other : ℕ) (y : Option NewObject) → In n order → slice_get objects n ≡ Some y → In other (waiting y) → In other (order ++ number ∷ []) ⊎ In other (stack ++ waiting x)
+  still_closed : (n other : ℕ) (y : Option NewObject) → In n order → slice_get objects n ≡ Some y → In other (waiting_objects y) → In other (order ++ number ∷ []) ⊎ In other (stack ++ waiting_objects x)
   still_closed n other y at there leads = elim (walk.closed n other y at there leads) [
     | inl before ↦ inl (in_left other order (number ∷ []) before)
     | inr waits ↦ elim (in_front other number stack waits) [
-      | inl still ↦ inr (in_left other stack (waiting x) still)
+      | inl still ↦ inr (in_left other stack (waiting_objects x) still)
       | inr e ↦ inl (subst (λ (m : ℕ). In m (order ++ number ∷ [])) e (in_last number order))
     ]
   ]
 
-  closed_now : (n other : ℕ) (y : Option NewObject) → In n (order ++ number ∷ []) → slice_get objects n ≡ Some y → In other (waiting y) → In other (order ++ number ∷ []) ⊎ In other (stack ++ waiting x)
+  closed_now : (n other : ℕ) (y : Option NewObject) → In n (order ++ number ∷ []) → slice_get objects n ≡ Some y → In other (waiting_objects y) → In other (order ++ number ∷ []) ⊎ In other (stack ++ waiting_objects x)
   closed_now n other y at there leads = elim (in_front n number order at) [
     | inl before ↦ still_closed n other y before there leads
     | inr e ↦
         let same : y ≡ x = same_Some y x (sym there ∙ ap (slice_get objects) (sym e) ∙ is) in
-        inr (in_right other stack (waiting x) (subst (λ (z : Option NewObject). In other (waiting z)) same leads))
+        inr (in_right other stack (waiting_objects x) (subst (λ (z : Option NewObject). In other (waiting_objects z)) same leads))
   ]
 
   first_now : (others : List ℕ) × (order ++ number ∷ [] ≡ 0 ∷ others)
@@ -152,7 +152,7 @@ module _ (objects : List (Option NewObject)) (order stack : List ℕ) (marks : L
     | inr begun ↦ (begun.0 ++ number ∷ [], ap (λ (ns : List ℕ). ns ++ number ∷ []) begun.1)
   ]
 
-  pub walk_met : IsWalk objects (order ++ number ∷ []) (stack ++ waiting x) (set marks number true)
+  pub walk_met : IsWalk objects (order ++ number ∷ []) (stack ++ waiting_objects x) (set marks number true)
   walk_met = record {
     same = length-set marks number true ∙ walk.same;
     marked = marked_now;
@@ -191,14 +191,14 @@ abbrev pub left_over : List (Option NewObject) → List Bool → ℕ
 left_over [] marks = 0
 left_over (x ∷ xs) [] = 0
 left_over (x ∷ xs) (true ∷ marks) = left_over xs marks
-left_over (x ∷ xs) (false ∷ marks) = 1 + length (waiting x) + left_over xs marks
+left_over (x ∷ xs) (false ∷ marks) = 1 + length (waiting_objects x) + left_over xs marks
 
 pub left_met : (objects : List (Option NewObject)) (marks : List Bool) (number : ℕ) (x : Option NewObject) → number < length marks → slice_get objects number ≡ Some x
-    → get_or marks number false ≡ false → left_over objects (set marks number true) + (1 + length (waiting x)) ≡ left_over objects marks
+    → get_or marks number false ≡ false → left_over objects (set marks number true) + (1 + length (waiting_objects x)) ≡ left_over objects marks
 left_met [] marks number x low is unmarked = absurd (cc)
 left_met (y ∷ ys) [] number x low is unmarked = absurd (omega (arith, low))
 left_met (y ∷ ys) (true ∷ marks) zero x low is unmarked = absurd (cc)
 left_met (y ∷ ys) (false ∷ marks) zero x low is unmarked =
-    let same : length (waiting y) ≡ length (waiting x) = ap (λ (z : Option NewObject). length (waiting z)) (same_Some y x is) in omega (arith, same)
+    let same : length (waiting_objects y) ≡ length (waiting_objects x) = ap (λ (z : Option NewObject). length (waiting_objects z)) (same_Some y x is) in omega (arith, same)
 left_met (y ∷ ys) (true ∷ marks) (suc number) x low is unmarked = left_met ys marks number x (omega (arith, low)) is unmarked
 left_met (y ∷ ys) (false ∷ marks) (suc number) x low is unmarked = omega (arith, left_met ys marks number x (omega (arith, low)) is unmarked)

@@ -27,8 +27,8 @@ abbrev pub targets : List (Link ObjectNo) → List ℕ
 targets links = filter_map (λ (l : Link ObjectNo). object_in l.to) links
 
 -- the objects that a slot's links lead to, that of the first name last
-abbrev pub waiting : Option NewObject → List ℕ
-waiting slot = targets (reverse (slot_links slot))
+abbrev pub waiting_objects : Option NewObject → List ℕ
+waiting_objects slot = targets (reverse (slot_links slot))
 
 -- how many of these numbers are the number
 abbrev pub times : ℕ → List ℕ → ℕ

@@ -5,7 +5,7 @@ ghost use Rattle.h5_model.specs.Tree.Objects.{Tree};
 ghost use Rattle.h5_laws.specs.Trees.Sound.{IsSoundTree};
 ghost use Rattle.h5_repack.specs.Objects.Objects.{AreObjects};
 ghost use Rattle.h5_repack.specs.Objects.Order.{AreMet};
-ghost use Rattle.h5_repack.specs.Objects.Targets.{waiting};
+ghost use Rattle.h5_repack.specs.Objects.Targets.{waiting_objects};
 
 use crate::objects::object::{NewObject, links_of};
 use h5_model::LinkTo;
@@ -40,7 +40,7 @@ pub fn met_order(alloc: Global, objects: &[Option<NewObject<'_>>]) -> Result<Vec
 
 /// Lets the objects wait to which an object's links lead, so that the first name's is the next that is taken.
 fn push_waiting(object: &Option<NewObject<'_>>, stack: &mut Vec<u32>) -> Result<(), AllocError>
-    ensures { IfOk result (λ _. stack.new.items ≡ stack.old.items ++ waiting object.now) }
+    ensures { IfOk result (λ _. stack.new.items ≡ stack.old.items ++ waiting_objects object.now) }
 {
     for link in links_of(object).iter().rev() {
         if let LinkTo::Object(number) = link.to {

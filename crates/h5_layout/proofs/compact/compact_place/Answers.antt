@@ -2,11 +2,12 @@ use Rattle.std.proofs.Common.{◌≡◌, ◌==◌, length, ap, arith}
 use Rattle.std.specs.Option.{option_copied}
 use Rattle.std.specs.List.{find}
 use Rattle.h5_header.specs.declared.message.Message.{Message as Placed}
+use Rattle.h5_model.specs.Format.MessageTypes.{data_layout_kind}
 use Rattle.h5_layout.proofs.CompactLaws.{message_found, message_within, place_told}
 use Rattle.h5_layout.proofs.compact.compact_place.Goals as goal
 use Rattle.h5_layout.proofs.compact.compact_place.Goals.{After-find_message}
 
-found : (c : After-find_message) → option_copied c.find_message.result ≡ find (λ (m : Placed). m.kind == 8) c.args.header.now.list
+found : (c : After-find_message) → option_copied c.find_message.result ≡ find (λ (m : Placed). m.kind == data_layout_kind) c.args.header.now.list
 found c = rw c.messages.ensures.list at c.find_message.ensures
 
 pub unwrap-requires : goal.unwrap-requires

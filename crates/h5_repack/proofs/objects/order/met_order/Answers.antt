@@ -2,7 +2,7 @@ use Rattle.std.proofs.Common.{rules, ◌≡◌, ℕ, ◌+◌, ◌<◌, List, [],
 use Rattle.std.proofs.lemmas.List.{nil_from_length}
 use Rattle.std.proofs.lemmas.Option.{slice_get_read}
 use Rattle.std.specs.Prelude.{slice_get}
-use Rattle.h5_repack.specs.Objects.Targets.{waiting}
+use Rattle.h5_repack.specs.Objects.Targets.{waiting_objects}
 use Rattle.h5_repack.proofs.ObjectLaws.Trees.{waiting_filled}
 use Rattle.h5_repack.proofs.ObjectLaws.Walks.{IsWalk, walk_begun, walk_left, walk_met, walk_done, left_over, left_met, last_below, mark_read}
 use Rattle.h5_repack.proofs.objects.order.met_order.Goals as goal
@@ -42,9 +42,9 @@ loop-number-smaller-in-Continue-branch-4 c =
     let within : number < length marks = omega (arith, low, c.loop-number.invariant.same) in
     let held : slice_get objects number ≡ Some x = slice_get_read objects (length objects) number x refl low c.index-objects-number.is in
     let unmarked : get_or marks number false ≡ false = mark_read marks number c.index.result.now false within c.index.ensures c.if-not-index.true in
-    let less : left_over objects (set marks number true) + (1 + length (waiting x)) ≡ left_over objects marks = left_met objects marks number x within held unmarked in
-    let new : length c.push_waiting.new.stack.items ≡ length c.pop.new.self.items + length (waiting x)
-    = ap length c.in_ok-push_waiting.ensures ∙ length-append c.pop.new.self.items (waiting x) in
+    let less : left_over objects (set marks number true) + (1 + length (waiting_objects x)) ≡ left_over objects marks = left_met objects marks number x within held unmarked in
+    let new : length c.push_waiting.new.stack.items ≡ length c.pop.new.self.items + length (waiting_objects x)
+    = ap length c.in_ok-push_waiting.ensures ∙ length-append c.pop.new.self.items (waiting_objects x) in
     let old : length c.loop-number.stack.items ≡ length c.pop.new.self.items + 1
     = ap length c.in-Some.ensures.items ∙ length-append c.pop.new.self.items (number ∷ []) in
     omega (arith, less, new, old)
