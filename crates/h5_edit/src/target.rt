@@ -37,7 +37,7 @@ pub(crate) struct MissingRun {
     pub(crate) missing: Missing,
     /// The type of each cell.
     pub(crate) fixed: Fixed,
-    /// The place of the first of them in the array, in row-major order.
+    /// The place of the first of them in the array, in row-major order. Contracts alone read it.
     pub(crate) place: u64,
     /// Its place in the chunk or the block, in cells.
     pub(crate) inner: u64,

@@ -114,7 +114,7 @@ impl File {
         ensures joined { IsSpaced self.now.free (length self.now.image) }
     {
         let image = self.opened.image();
-        // What an image keeps to.
+        // No two free blocks of an image stand side by side.
         let _free = image.free();
         let bytes = image.bytes();
         bytes

@@ -104,6 +104,7 @@ impl Session {
         ensures file { result.now ≡ self.now.file }
         ensures sound { IsSession (session_of self.now) }
     {
+        // A file holds a sound tree.
         let _image = self.file.image();
         &self.file
     }

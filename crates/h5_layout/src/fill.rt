@@ -17,6 +17,7 @@ const TILE: usize = 64;
 #[derive(Drop)]
 pub(crate) struct FillTile {
     fixed: Fixed,
+    // The value of each cell. Contracts alone read it.
     fill: i128,
     bytes: [u8; 512],
 }

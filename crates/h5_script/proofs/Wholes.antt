@@ -18,7 +18,7 @@ same_file f after whole same = subst IsWholeFile (sym same) whole
 
 -- whatever a line leaves
 whole_left : (outcome : script.Outcome) (command : Command) (f after : FileState) → IsWholeFile f → Leaves outcome command f after → IsWholeFile after
-whole_left script.Accepted (Change edit) f after whole left = left.1.whole whole
+whole_left script.Accepted (Change edit) f after whole left = left.1.changed.whole whole
 whole_left script.Accepted Repack f after whole left = left.anew.whole
 whole_left script.Accepted (OpenView path hyper) f after whole left = same_file f after whole left
 whole_left script.Accepted (Show number) f after whole left = same_file f after whole left

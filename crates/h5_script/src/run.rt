@@ -109,7 +109,7 @@ pub fn run_script<R: Read, W: Write>(
     ensures whole { IsWholeFile session.old.file → IsWholeFile session.new.file }
 {
     let ran = run_buffered(alloc, session, input, output);
-    // What a session keeps to.
+    // A file holds a sound tree, and no two of its free blocks stand side by side.
     let _image = session.file().image();
     ran
 }

@@ -1,5 +1,5 @@
 -- Accepted edits keep a sound tree sound.
-use Rattle.std.proofs.Common.{◌≡◌, ℕ, ◌≤◌, true, false, List, [], ◌∷◌, length, refl, sym, ap, ◌∙◌, subst, Option, Some, None, inl, arith, nat_le}
+use Rattle.std.proofs.Common.{◌≡◌, ◌<◌, ℕ, ◌≤◌, true, false, List, [], ◌∷◌, length, refl, sym, ap, ◌∙◌, subst, Option, Some, None, inl, arith, nat_le}
 use Rattle.std.proofs.lemmas.Bool.Decides.{nat_tests}
 use Rattle.std.specs.Prelude.{IsSome, is_some, ◌==◌}
 use Rattle.std.specs.Option.{option_and_then, option_map_or}
@@ -34,7 +34,7 @@ linked_is tree path link f =
 -- ---- an object more
 
 module _ (tree : Tree) (path : List ℕ) (number : ℕ) (o : Object) (sound : IsSoundTree tree) (f : IsFree tree path) (fresh : get tree number ≡ None) (bare : IsBare o) where
-  unnamed : (n : ℕ) → ToObject number ≡ ToObject n → hard_links tree n ≤ 65534
+  unnamed : (n : ℕ) → ToObject number ≡ ToObject n → hard_links tree n < most_hard_links
   unnamed n e =
       let same : number ≡ n = cc in
       let none : hard_links tree n ≡ 0
@@ -85,7 +85,7 @@ module _ (tree : Tree) (path : List ℕ) (sound : IsSoundTree tree) (f : IsFree 
       } in
       subst IsSoundTree (sym (linked_is tree path (Soft text) f)) (sound_grown tree more f.parent f.name (Soft text) sound grows fit)
 
-  pub sound_hard : (n : ℕ) → IsSome (get tree n) → (IsSome (links_of tree n) → ⊥) → hard_links tree n ≤ 65534 → IsSoundTree (with_link_at tree path (ToObject n))
+  pub sound_hard : (n : ℕ) → IsSome (get tree n) → (IsSome (links_of tree n) → ⊥) → hard_links tree n < most_hard_links → IsSoundTree (with_link_at tree path (ToObject n))
   sound_hard n stands no_group room =
       let more = one_more tree f.parent f.name (ToObject n) f.group f.free in
       let grows = grown_linked tree more f.parent f.name (ToObject n) (linked_one_more tree f.parent f.name (ToObject n) f.group f.free) in
@@ -97,7 +97,7 @@ module _ (tree : Tree) (path : List ℕ) (sound : IsSoundTree tree) (f : IsFree 
         spelled = λ text e. absurd (let never : ToObject n ≡ Soft text = e in cc);
         there = λ m e. let same : n ≡ m = cc in grows.kept m (subst (λ (k : ℕ). IsSome (get tree k)) same stands);
         bare = λ m e group. let same : n ≡ m = cc in no_group (subst (λ (k : ℕ). IsSome (links_of tree k)) (sym same) group);
-        room = λ m e. let same : n ≡ m = cc in subst (λ (k : ℕ). hard_links tree k ≤ 65534) same room;
+        room = λ m e. let same : n ≡ m = cc in subst (λ (k : ℕ). hard_links tree k < most_hard_links) same room;
       } in
       subst IsSoundTree (sym (linked_is tree path (ToObject n) f)) (sound_grown tree more f.parent f.name (ToObject n) sound grows fit)
 
@@ -141,7 +141,7 @@ sound_linked_to tree target path sound f group many = go (object_at tree target)
       → option_map_or (λ number. nat_le most_hard_links (hard_links tree number)) o false ≡ false → IsSoundTree (option_map_or (λ number. with_link_at tree path (ToObject number)) o tree)
   go None is no_group few = sound
   go (Some n) is no_group few =
-      let room : hard_links tree n ≤ 65534 = grind (arith, nat_tests, few) in
+      let room : hard_links tree n < most_hard_links = grind (arith, nat_tests, few) in
       sound_hard tree path sound f n (object_stands tree target n sound is) (λ some. let never : true ≡ false = sym some ∙ no_group in absurd (cc)) room
 
 text_rule : (tree : Tree) (next : ℕ) (text path : List ℕ) → refusal_of tree next (SoftLink text path) ≡ None → has_zero text ≡ false

@@ -1,5 +1,5 @@
 -- A sound tree stays sound with one link more, from a group that few names lead to, to a text or to an object without links.
-use Rattle.std.proofs.Common.{◌≡◌, ℕ, suc, ◌+◌, ◌≤◌, Bool, true, false, List, [], ◌∷◌, ◌++◌, length, length-append, refl, sym, ap, ◌∙◌, subst, Option, Some, None, ◌⊎◌, inl, inr, arith}
+use Rattle.std.proofs.Common.{◌≡◌, ◌<◌, ℕ, suc, ◌+◌, ◌≤◌, Bool, true, false, List, [], ◌∷◌, ◌++◌, length, length-append, refl, sym, ap, ◌∙◌, subst, Option, Some, None, ◌⊎◌, inl, inr, arith}
 use Rattle.std.proofs.lemmas.Bool.Decides.{nat_tests}
 use Rattle.std.specs.Prelude.{IsSome, is_some, ◌==◌, if◌then◌else◌}
 use Rattle.std.specs.Option.{option_and_then}
@@ -36,7 +36,7 @@ pub record IsFit (tree grown : Tree) (parent : ℕ) (name : List ℕ) (link : Li
   pub spelled : (text : List ℕ) → link ≡ Soft text → has_zero text ≡ false
   pub there : (n : ℕ) → link ≡ ToObject n → IsSome (get grown n)
   pub bare : (n : ℕ) → link ≡ ToObject n → IsSome (links_of tree n) → ⊥
-  pub room : (n : ℕ) → link ≡ ToObject n → hard_links tree n ≤ 65534
+  pub room : (n : ℕ) → link ≡ ToObject n → hard_links tree n < most_hard_links
 
 module _ (tree grown : Tree) (parent : ℕ) (name : List ℕ) (link : Link) (sound : IsSoundTree tree) (grows : IsGrown tree grown parent name link)
     (fit : IsFit tree grown parent name link) where

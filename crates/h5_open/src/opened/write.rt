@@ -29,7 +29,7 @@ use h5_space::Image;
 pub struct StandingCells {
     /// The type of each.
     pub fixed: Fixed,
-    /// The place of the first of them in the array, in row-major order.
+    /// The place of the first of them in the array, in row-major order. Contracts alone read it.
     pub place: u64,
     /// Its address.
     pub at: u64,
