@@ -4,7 +4,7 @@ ghost use Rattle.std.specs.Prelude.{◌≡◌, ◌<◌, ◌≤◌, ◌+◌, ◌%
 ghost use Rattle.std.specs.FinMap.{insert, remove as without};
 ghost use Rattle.h5_model.specs.Format.AttributeBody.{attribute_of};
 ghost use Rattle.h5_model.specs.Format.Limits.{most_cells};
-ghost use Rattle.h5_model.specs.Format.Messages.{most_messages, prefix_at, reference_count};
+ghost use Rattle.h5_model.specs.Format.Messages.{prefix_at, reference_count};
 ghost use Rattle.h5_model.specs.Format.MessageTypes.{attribute_kind};
 ghost use Rattle.h5_model.specs.Format.Reads.{HasAttributes};
 ghost use Rattle.h5_model.specs.Tree.Objects.{Attribute, Attributes};
@@ -36,7 +36,7 @@ pub fn set(image: &mut Image, messages: &mut Messages, body: &[u8])
     requires movable { HasMovable (messages_in image.old.bytes messages.old.list) }
     requires padded { length body.now % 8 ≡ 0 }
     requires low { length body.now < 2 ^ 16 }
-    requires total { length messages.old.list + 2 ≤ most_messages }
+    requires total { length messages.old.list < 65534 }
     requires room { 1 ≤ messages.old.room }
     requires bytes { 32 + length body.now ≤ image.old.room_bytes }
     requires calls { 1 ≤ image.old.room_blocks }

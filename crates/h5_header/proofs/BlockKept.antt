@@ -15,7 +15,7 @@ use Rattle.h5_bytes.proofs.FieldLaws.{number_at-with_field}
 use Rattle.h5_space.specs.Moves.{Moves}
 use Rattle.h5_space.specs.Space.{Space}
 use Rattle.h5_model.specs.Format.MessageTypes.{datatype_kind, continuation_kind, symbol_table_kind}
-use Rattle.h5_model.specs.Format.Messages.{Message, IsContinued, continuations, first_block, first_size, most_messages, prefix_at, reference_count}
+use Rattle.h5_model.specs.Format.Messages.{Message, IsContinued, continuations, first_block, first_size, prefix_at, reference_count}
 use Rattle.h5_model.specs.Format.Plain.{messages_bytes}
 use Rattle.h5_model.proofs.PlainMessages.{IsPlain}
 use Rattle.h5_header.specs.Added.{IsPutInBlock, lengths, named_in, spans}
@@ -61,7 +61,7 @@ module _ (old : List ℕ) (m : Listed) (is : IsStanding old m) (k : ℕ) (low : 
     (may : ((kept_at m.list k).kind ≡ symbol_table_kind) ⊎ ((kept_at m.list k).kind ≡ datatype_kind)) (wide : 16 ≤ (kept_at m.list k).size)
     (b : Block) (there : b.at + b.len ≤ length old) (apart : (p : ℕ) → cover p m.blocks + holds p b.at b.len ≤ 1) (at_low : b.at < 2 ^ 64)
     (kind : ℕ) (kind_low : kind < 65536) (own : kind ≢ continuation_kind) (body : List ℕ) (body_padded : length body % 8 ≡ 0) (body_low : length body < 65536)
-    (sized : b.len ≡ 32 + length body) (total_low : length m.list + 2 ≤ most_messages) where
+    (sized : b.len ≡ 32 + length body) (total_low : length m.list < 65534) where
   abbrev pub x : Placed
   x = kept_at m.list k
 

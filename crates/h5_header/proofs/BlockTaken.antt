@@ -9,7 +9,7 @@ use Rattle.h5_space.specs.Space.{Space}
 use Rattle.h5_space.specs.Whole.{IsApart}
 use Rattle.h5_space.proofs.MovesLaws.{moves_kept}
 use Rattle.h5_model.specs.Format.MessageTypes.{datatype_kind, continuation_kind, symbol_table_kind}
-use Rattle.h5_model.specs.Format.Messages.{Message, most_messages, prefix_at, reference_count}
+use Rattle.h5_model.specs.Format.Messages.{Message, prefix_at, reference_count}
 use Rattle.h5_header.specs.Added.{IsPutInBlock, lengths, named_in, spans}
 use Rattle.h5_header.specs.Listed.{Listed, messages_in}
 use Rattle.h5_header.specs.Standing.{IsStanding, kept_at}
@@ -33,7 +33,7 @@ pub record IsTaken (s t : Space) (m : Listed) (k : ℕ) (b : Block) (kind : ℕ)
   pub own : kind ≢ continuation_kind
   pub padded : length body % 8 ≡ 0
   pub low : length body < 65536
-  pub total : length m.list + 2 ≤ most_messages
+  pub total : length m.list < 65534
 
 module _ {s t : Space} {m : Listed} {k : ℕ} {b : Block} {kind : ℕ} {body : List ℕ} (can : IsTaken s t m k b kind body) where
   pub is_t : IsStanding t.bytes m

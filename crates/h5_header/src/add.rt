@@ -54,7 +54,7 @@ impl Messages {
         requires padded { length body.now % 8 ≡ 0 }
         requires low { length body.now < 2 ^ 16 }
         requires own { kind ≢ continuation_kind }
-        requires total { length self.old.list + 2 ≤ most_messages }
+        requires total { length self.old.list < 65534 }
         requires room { 1 ≤ self.old.room }
         requires bytes { 32 + length body.now ≤ image.old.room_bytes }
         requires calls { 1 ≤ image.old.room_blocks }

@@ -4,7 +4,7 @@
 ghost use Rattle.std.specs.Prelude.{◌≡◌, ◌≢◌, ◌⊎◌, ℕ, ◌<◌, ◌≤◌, ◌+◌, ◌-◌, ◌^◌, ◌%◌, ◌==◌, [], ◌∷◌, ◌++◌, length, take, count_by};
 ghost use Rattle.h5_bytes.specs.Numbers.{word};
 ghost use Rattle.h5_model.specs.Format.MessageTypes.{datatype_kind, continuation_kind, symbol_table_kind};
-ghost use Rattle.h5_model.specs.Format.Messages.{most_messages, prefix_at, reference_count};
+ghost use Rattle.h5_model.specs.Format.Messages.{prefix_at, reference_count};
 ghost use Rattle.h5_model.specs.Format.Plain.{messages_bytes};
 ghost use Rattle.h5_space.specs.Moves.{Moves, Spends};
 ghost use Rattle.h5_space.specs.Whole.{IsApart};
@@ -122,7 +122,7 @@ impl Messages {
         requires padded { length body.now % 8 ≡ 0 }
         requires low { length body.now < 2 ^ 16 }
         requires own { kind ≢ continuation_kind }
-        requires total { length self.old.list + 2 ≤ most_messages }
+        requires total { length self.old.list < 65534 }
         requires room { 1 ≤ self.old.room }
         requires bytes { 32 + length body.now ≤ image.old.room_bytes }
         requires calls { 1 ≤ image.old.room_blocks }

@@ -5,7 +5,7 @@ use Rattle.h5_model.specs.Format.Limits.{most_cells}
 use Rattle.h5_model.specs.Edits.Refusal.{is_chunked, some_above}
 use Rattle.h5_model.specs.Format.Extent.{has_maxima}
 use Rattle.h5_model.specs.Format.MessageTypes.{dataspace_kind}
-use Rattle.h5_model.specs.Format.Messages.{Message, first_body, most_messages}
+use Rattle.h5_model.specs.Format.Messages.{Message, first_body}
 use Rattle.h5_model.specs.Format.Described.{storage_of, Described}
 use Rattle.h5_model.specs.Tree.Places.{extent_cells}
 use Rattle.h5_space.specs.Space.{Space}
@@ -33,7 +33,7 @@ extent_room messages sizes = if lacks_maxima messages then 40 + 16 * length size
 -- there is room for such a message, where it is needed
 pub record HasExtentRoom (s : Space) (m : Listed) (sizes : List ℕ) : Type 0 where
   pub messages : 1 ≤ m.room
-  pub total : length m.list + 2 ≤ most_messages
+  pub total : length m.list < 65534
   pub bytes : 40 + 16 * length sizes ≤ s.room_bytes
   pub calls : 1 ≤ s.room_blocks
 
