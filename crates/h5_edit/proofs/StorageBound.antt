@@ -36,7 +36,7 @@ use Rattle.h5_model.proofs.Members.{contains_in, in_contains}
 use Rattle.h5_model.proofs.RowLaws.{equal_number}
 use Rattle.h5_laws.proofs.SoundLaws.NewPaths.{none_any}
 use Rattle.h5_layout.specs.Storage.{IsDeepFor, IsDeepIn, IsFullInNewTree, IsFullInTurn, chunks_room_in, storage_bytes}
-use Rattle.h5_layout.specs.Lacking.{IsMissing, IsMissingIn, lacks_cells}
+use Rattle.h5_layout.specs.Lacking.{IsMissingIn, lacks_cells}
 use Rattle.h5_layout.specs.declared.lacking.Missing.{Missing}
 use Rattle.h5_layout.specs.declared.lacking.Missing.TheVariants as missing
 use Rattle.h5_layout.proofs.ChosenPlaces.{selected_place}
