@@ -1,6 +1,6 @@
 -- The tree of every group that was read, and of the chunks of every array, has at most 16 levels, and needs no more where it is written
 -- anew (File Format Specification 3.0, sections III.A.1 and III.B).
-use Rattle.std.proofs.Common.{◌≡◌, ℕ, ◌+◌, ◌*◌, ◌≤◌, not, List, [], ◌∷◌, length, refl, sym, ap, ◌∙◌, subst, inl, inr, arith, Option, Some, None}
+use Rattle.std.proofs.Common.{◌≡◌, ℕ, ◌+◌, ◌*◌, ◌≤◌, not, List, [], ◌∷◌, length, refl, sym, ap, ◌∙◌, subst, inl, inr, arith, Some, None}
 use Rattle.std.proofs.lemmas.List.{length-map}
 use Rattle.std.proofs.lemmas.List.Filters.{length-filter_both}
 use Rattle.std.proofs.lemmas.List.FromFn.{length-map-range_with_len}
@@ -114,7 +114,7 @@ module _ (f : FileState) (sound : IsSound f) (stored : StoredIn) (are : (number 
   storage_low number o d there is (Contiguous held) of = tt
   storage_low number o d there is (Chunked chunk) of =
       let (header, chunks, listed, has, offsets) = are number d (dataset_is f.tree number o (Array d) there is) chunk of in
-      let stands = subst (λ (stored : Chunks). HasData f.image has.dataset.fixed has.array.layout stored has.data_blocks) has.chunks_are has.array.stored in
+      let stands = subst (λ (those : Chunks). HasData f.image has.dataset.fixed has.array.layout those has.data_blocks) has.chunks_are has.array.stored in
       stored_low f.image sound.reads.holds.superblock.chunk_low (length (stored number)) has.dataset.fixed has.array.layout chunks has.data_blocks stands
       (omega (arith, held_few d.sizes chunks, ap length offsets))
 

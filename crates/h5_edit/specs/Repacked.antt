@@ -19,7 +19,8 @@ use Rattle.h5_edit.specs.declared.made.Made.{Made}
 
 -- ---- the length
 
--- if the array of this number is in chunks, these are the offsets of its stored chunks that hold a cell of its extent, ascending
+-- If the object of this number is an array in chunks, it has a header, and these are the offsets of the chunks that are stored there and hold a
+-- cell of its extent, ascending.
 abbrev pub AreStoredAt : FileState → ℕ → List (List ℕ) → Type 0
 AreStoredAt f number offsets =
     (d : Dataset) → dataset_of f.tree number ≡ Some d → (chunk : List ℕ) → d.storage ≡ Chunked chunk → (header : ℕ) × (chunks : Chunks)
@@ -40,7 +41,7 @@ pub record IsAnew (f : FileState) (image : List ℕ) (headers : List (Option ℕ
   pub numbered : length headers ≡ f.next
   pub few : f.next ≤ most_numbers
 
--- the image is written, and has at most 2^31 bytes
+-- the same tree is written anew, with the numbers of its objects as before, in at most 2^31 bytes
 pub record IsRepackMade (f : FileState) (made : Made) : Type 0 where
   pub anew : IsAnew f made.image.items made.headers.items
   pub long : HasLengthAnew f (length made.image.items)
