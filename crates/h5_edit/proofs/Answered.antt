@@ -1,5 +1,5 @@
 -- What a repack is answered by what was written of the tree.
-use Rattle.std.proofs.Common.{◌≡◌, ℕ, ◌≤◌, List, length, sym, ap, ◌∙◌, subst, Option, arith}
+use Rattle.std.proofs.Common.{◌≡◌, ℕ, ◌≤◌, List, length, refl, sym, ap, ◌∙◌, subst, Option, arith}
 use Rattle.std.specs.Prelude.{IfOk, IfErr, MatchResult, Result, Ok, Err}
 use Rattle.std.specs.Ordering.{nat_cmp}
 use Rattle.std.specs.FinMap.{FinMap}
@@ -27,12 +27,10 @@ use Rattle.h5_repack.specs.declared.write.Written.{Written}
 use Rattle.h5_repack.specs.declared.write.WriteFault.{WriteFault}
 use Rattle.h5_repack.specs.declared.write.WriteFault.TheVariants.{TooLong, TooDeep, NoMemory}
 use Rattle.h5_edit.specs.Answers.{answer_to, fault_of_write}
-use Rattle.h5_edit.specs.Repacked.{IsRepackMade, IsRepackRefused}
-use Rattle.h5_edit.specs.StoredChunks.{AreStoredAfter}
+use Rattle.h5_edit.specs.Repacked.{AreStoredAt, IsRepackMade, IsRepackRefused}
 use Rattle.h5_repack.proofs.ImageLaws.PlainImages.{plain_reads, plain_ends}
 use Rattle.h5_edit.proofs.LowRead.{read_low}
 use Rattle.h5_edit.proofs.Numbered.{standing_map}
-use Rattle.h5_edit.proofs.StoredLaws.{length_with}
 
 -- ---- one tree, written
 
@@ -83,13 +81,14 @@ module _ {f : FileState} (sound : IsSound f) where
 
   -- ---- a repack
 
-  module _ (low : AreBytes f.image) (new : List (Option NewObject)) (are : AreObjects new f.tree) (kept : AreStoredAfter f f.tree (stored_in new)) where
+  module _ (low : AreBytes f.image) (new : List (Option NewObject)) (are : AreObjects new f.tree)
+      (kept : (number : ℕ) → AreStoredAt f number (stored_in new number)) where
     pub tree_there : IsTreeToWrite new f.tree
     tree_there = record { objects_are = are; sound = sound_there; plain = opened_plain f low sound }
 
     not_repacked : (fault : WriteFault) → IsUnwritten k (stored_in new) f.tree fault → IsRepackRefused f (fault_of_write fault)
     not_repacked TooLong long =
-        (plain_length k (counts_of (stored_in new)) f.tree, length_with f f.tree (stored_in new) kept, long)
+        (plain_length k (counts_of (stored_in new)) f.tree, record { stored = stored_in new; chunks = kept; counted = refl }, long)
     not_repacked TooDeep deep = absurd (deep.3 (read_low f sound (stored_in new) kept deep.0 deep.1 deep.2))
     not_repacked NoMemory no_memory = tt
 

@@ -1,6 +1,6 @@
 -- The tree of every group that was read, and of the chunks of every array, has at most 16 levels, and needs no more where it is written
 -- anew (File Format Specification 3.0, sections III.A.1 and III.B).
-use Rattle.std.proofs.Common.{◌≡◌, ℕ, ◌+◌, ◌*◌, ◌≤◌, not, List, [], ◌∷◌, length, refl, sym, ap, ◌∙◌, subst, inl, inr, arith, Option, Some, None}
+use Rattle.std.proofs.Common.{◌≡◌, ℕ, ◌+◌, ◌*◌, ◌≤◌, not, List, [], ◌∷◌, length, refl, sym, ap, ◌∙◌, subst, inl, inr, arith, Some, None}
 use Rattle.std.proofs.lemmas.List.{length-map}
 use Rattle.std.proofs.lemmas.List.Filters.{length-filter_both}
 use Rattle.std.proofs.lemmas.List.FromFn.{length-map-range_with_len}
@@ -36,7 +36,7 @@ use Rattle.h5_query.specs.Opened.State.{FileState}
 use Rattle.h5_repack.specs.Bodies.Headers.{IsLowStorage}
 use Rattle.h5_repack.specs.Image.Plain.{AreLow, IsLowContent}
 use Rattle.h5_repack.specs.Image.Written.{StoredIn}
-use Rattle.h5_edit.specs.StoredChunks.{AreStoredAfter, AreStoredOf}
+use Rattle.h5_edit.specs.Repacked.{AreStoredAt}
 use Rattle.h5_edit.proofs.FitLaws.OpenedTrees.{IsRead, object_read}
 use Rattle.h5_edit.proofs.Levels.{flat_few, only_few, rows_fit, level_read}
 use Rattle.h5_edit.proofs.StoredLaws.{dataset_is}
@@ -106,19 +106,17 @@ module _ (image : List ℕ) (some : 1 ≤ chunk_k image) (n : ℕ) where
 
 -- ---- all objects
 
-module _ (f : FileState) (sound : IsSound f) (stored : StoredIn) (are : AreStoredAfter f f.tree stored) where
+module _ (f : FileState) (sound : IsSound f) (stored : StoredIn) (are : (number : ℕ) → AreStoredAt f number (stored number)) where
   -- chunks that are stored of an array
-  storage_low : (number header : ℕ) (o : Object) (d : Dataset) → get f.tree number ≡ Some o → get f.table number ≡ Some header → o.content ≡ Array d
-      → (s : Storage) → d.storage ≡ s → IsLowStorage (chunk_k f.image) (length (stored number)) s
-  storage_low number header o d there listed is Compact of = tt
-  storage_low number header o d there listed is (Contiguous held) of = tt
-  storage_low number header o d there listed is (Chunked chunk) of =
-      let kept : AreStoredOf f.image d.sizes (Some header) (stored number)
-      = subst (λ (found : Option ℕ). AreStoredOf f.image d.sizes found (stored number)) listed (are number d (dataset_is f.tree number o (Array d) there is) chunk of) in
-      let has = kept.1 in
-      let stands = subst (λ (chunks : Chunks). HasData f.image has.dataset.fixed has.array.layout chunks has.data_blocks) has.chunks_are has.array.stored in
-      stored_low f.image sound.reads.holds.superblock.chunk_low (length (stored number)) has.dataset.fixed has.array.layout kept.0 has.data_blocks stands
-      (omega (arith, held_few d.sizes kept.0, ap length kept.2))
+  storage_low : (number : ℕ) (o : Object) (d : Dataset) → get f.tree number ≡ Some o → o.content ≡ Array d → (s : Storage) → d.storage ≡ s
+      → IsLowStorage (chunk_k f.image) (length (stored number)) s
+  storage_low number o d there is Compact of = tt
+  storage_low number o d there is (Contiguous held) of = tt
+  storage_low number o d there is (Chunked chunk) of =
+      let (header, chunks, listed, has, offsets) = are number d (dataset_is f.tree number o (Array d) there is) chunk of in
+      let stands = subst (λ (those : Chunks). HasData f.image has.dataset.fixed has.array.layout those has.data_blocks) has.chunks_are has.array.stored in
+      stored_low f.image sound.reads.holds.superblock.chunk_low (length (stored number)) has.dataset.fixed has.array.layout chunks has.data_blocks stands
+      (omega (arith, held_few d.sizes chunks, ap length offsets))
 
   content_low : (number : ℕ) (o : Object) (there : get f.tree number ≡ Some o) → IsRead f sound number o there
       → IsLowContent (k_values f.image) (length (stored number)) o.content
@@ -131,7 +129,7 @@ module _ (f : FileState) (sound : IsSound f) (stored : StoredIn) (are : AreStore
             subst (IsLowContent (k_values f.image) (length (stored number))) (sym e)
             (subst (λ (n : ℕ). root_level (k_values f.image).internal (rows_of (2 * (k_values f.image).leaf) n) ≤ highest_level) count low)
         | inr (d, e, array) ↦
-            subst (IsLowContent (k_values f.image) (length (stored number))) (sym e) (storage_low number r.header o d there r.listed e d.storage refl)
+            subst (IsLowContent (k_values f.image) (length (stored number))) (sym e) (storage_low number o d there e d.storage refl)
       ]
 
   -- where these chunks are stored

@@ -1,6 +1,4 @@
-pub mod StoredChunks
 pub mod Carried
-pub mod Made
 pub mod Repacked
 pub mod Edited
 pub mod StorageFacts

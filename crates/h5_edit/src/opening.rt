@@ -1,14 +1,13 @@
 //! Images that were written anew, opened (File Format Specification 3.0, sections II.A, III and IV.A).
 
-ghost use Rattle.std.specs.Prelude.{◌≡◌, ℕ, [], IfOk, length};
+ghost use Rattle.std.specs.Prelude.{◌≡◌, [], IfOk, length};
 ghost use Rattle.std.specs.FinMap.{len};
-ghost use Rattle.h5_model.specs.Format.Superblock.{IsSuperblock, end_of_file};
-ghost use Rattle.h5_model.specs.Tree.Objects.{Tree};
+ghost use Rattle.h5_model.specs.Format.Superblock.{IsSuperblock, end_of_file, k_values};
 ghost use Rattle.h5_query.specs.Opened.Refused.{ReadsSome};
-ghost use Rattle.h5_query.specs.Opened.Sound.{IsSound};
-ghost use Rattle.h5_query.specs.Opened.State.{FileState};
+ghost use Rattle.h5_query.specs.Opened.Sound.{IsSound, IsWholeFile};
+ghost use Rattle.h5_query.specs.Opened.State.{FileState, state_of};
 ghost use Rattle.h5_query.specs.Renumbered.Headers.{table_with};
-ghost use Rattle.h5_edit.specs.Made.{HoldsAnew, IsAnew};
+ghost use Rattle.h5_edit.specs.Repacked.{IsAnew};
 
 use h5_model::Cause;
 use h5_query::Opened;
@@ -25,9 +24,10 @@ pub fn open_made(
     image: Vec<u8>,
     headers: &[Option<u64>],
 ) -> Result<Opened, AllocError>
-    requires { (f : FileState) × (tree : Tree) × (next : ℕ) × IsAnew f tree next image.items headers.now }
-    ensures anew { IfOk result (λ o. (f : FileState) (tree : Tree) (next : ℕ)
-        → IsAnew f tree next image.items headers.now → HoldsAnew f tree next o) }
+    requires { (f : FileState) × IsAnew f image.items headers.now }
+    ensures anew { IfOk result (λ o. (f : FileState) → IsAnew f image.items headers.now
+        → (state_of o ≡ state_of f) × (k_values o.image ≡ k_values f.image)) }
+    ensures whole { IfOk result (λ o. IsSound o × IsWholeFile o × (o.free ≡ [])) }
     ensures image { IfOk result (λ o. o.image ≡ image.items) }
     ensures table { IfOk result (λ o. o.table ≡ table_with headers.now) }
 {

@@ -1,12 +1,10 @@
 //! Edits of a file. Each is made where its objects stand; to repack a file is to write its image anew (File Format Specification 3.0,
 //! sections II.A, III and IV.A).
 
-ghost use Rattle.std.specs.Prelude.{◌≡◌, ℕ, IfOk, OnErr, MatchResult};
+ghost use Rattle.std.specs.Prelude.{◌≡◌, MatchResult};
 ghost use Rattle.h5_model.specs.declared.edits.Edit.TheVariants.{CreateGroup, CreateDataset, HardLink, SoftLink, Unlink, SetAttr, RemoveAttr, Write, Resize};
 ghost use Rattle.h5_edit.specs.Carried.{IsRefused};
-ghost use Rattle.h5_edit.specs.Made.{HoldsAnew, IsAnew};
 ghost use Rattle.h5_edit.specs.Repacked.{IsRepackRefused};
-ghost use Rattle.h5_model.specs.Tree.Objects.{Tree};
 ghost use Rattle.h5_edit.specs.Edited.{IsEdited};
 ghost use Rattle.h5_file.specs.Anew.{IsRepacked};
 
@@ -16,7 +14,6 @@ use h5_edit::{
     resize, set_attr, soft_link, unlink, write,
 };
 use h5_model::{AttrSpec, Edit, EditFault, Edited, Spec};
-use std::alloc::AllocError;
 
 impl File {
     /// Carries an edit out. The image is then that of the tree that the edit gives.
@@ -353,20 +350,7 @@ impl File {
             IsRepackRefused self.old e × (self.new ≡ self.old)) }
     {
         let made = repack(self.alloc, &self.opened)?;
-        self.replace(made.image, &made.headers)?;
-        Ok(())
-    }
-
-    /// Takes an image that was written anew in place of the file's own, and gives its objects the numbers of these headers. Fails where
-    /// memory is refused; the file is then as it was.
-    fn replace(&mut self, image: Vec<u8>, headers: &[Option<u64>]) -> Result<(), AllocError>
-        requires { (tree : Tree) × (next : ℕ) × IsAnew self.old tree next image.items headers.now }
-        ensures anew { IfOk result (λ _. (tree : Tree) (next : ℕ)
-            → IsAnew self.old tree next image.items headers.now → HoldsAnew self.old tree next self.new) }
-        ensures image { IfOk result (λ _. self.new.image ≡ image.items) }
-        ensures same { OnErr result (self.new ≡ self.old) }
-    {
-        self.opened = open_made(self.alloc, image, headers)?;
+        self.opened = open_made(self.alloc, made.image, &made.headers)?;
         Ok(())
     }
 }

@@ -117,7 +117,7 @@ repack_accepted before after is = record {
   given = None;
   run = record {
     allowed = (length after.file.image, is.file.long, is.file.few);
-    session_is = same_views _ _ before.views after.views before.next_view after.next_view is.file.anew.state is.views is.next_view;
+    session_is = same_views _ _ before.views after.views before.next_view after.next_view is.file.state is.views is.next_view;
     left = is.file;
   };
   text_is = refl;

@@ -19,7 +19,7 @@ same_file f after whole same = subst IsWholeFile (sym same) whole
 -- whatever a line leaves
 whole_left : (outcome : script.Outcome) (command : Command) (f after : FileState) → IsWholeFile f → Leaves outcome command f after → IsWholeFile after
 whole_left script.Accepted (Change edit) f after whole left = left.1.changed.whole whole
-whole_left script.Accepted Repack f after whole left = left.anew.whole
+whole_left script.Accepted Repack f after whole left = left.whole
 whole_left script.Accepted (OpenView path hyper) f after whole left = same_file f after whole left
 whole_left script.Accepted (Show number) f after whole left = same_file f after whole left
 whole_left script.Accepted (Close number) f after whole left = same_file f after whole left
@@ -36,7 +36,7 @@ anew s line is run =
     let after = line.after.file in
     let left : Leaves script.Accepted Repack f after = subst (λ (command : Command). Leaves script.Accepted command f after) is.command
     (subst (λ (o : script.Outcome). Leaves o line.command f after) is.outcome run.left) in
-    left.anew.whole
+    left.whole
 
 pub whole_after : (s t : SessionState) (lines : List Line) → AreRun s lines t → IsWholeFile s.file ⊎ HasAcceptedRepack s lines → IsWholeFile t.file
 unfolding AreRun HasAcceptedRepack

@@ -14,13 +14,13 @@ use Rattle.h5_layout.proofs.KnownLaws.{known_in}
 use Rattle.h5_model.specs.Format.Addresses.{SymbolTable}
 use Rattle.h5_model.specs.Format.Messages.{Message}
 use Rattle.h5_model.specs.Format.Reads.{HasDataset}
-use Rattle.h5_model.specs.Tree.Objects.{Tree, Object, Content, Links, Group, Array, Dataset, dataset_in}
+use Rattle.h5_model.specs.Tree.Objects.{Object, Content, Links, Group, Array, Dataset, dataset_in, dataset_of}
 use Rattle.h5_model.proofs.DescribedLaws.{has_dataset}
 use Rattle.h5_query.specs.Data.{data_blocks, stored_chunks}
 use Rattle.h5_query.specs.Kept.{array_dataset}
 use Rattle.h5_query.specs.Opened.Kept.{IsContentKept}
 use Rattle.h5_query.specs.GroupTold.{links_told}
-use Rattle.h5_query.specs.Opened.Objects.{content_in, links_by, object_in}
+use Rattle.h5_query.specs.Opened.Objects.{content_in, links_by}
 use Rattle.h5_query.specs.OpenedObjectType.{OpenedObject}
 use Rattle.h5_query.specs.OpenedContentType.{OpenedContent}
 use Rattle.h5_query.specs.OpenedContentType.TheVariants as content
@@ -32,7 +32,7 @@ use Rattle.h5_repack.specs.Objects.Objects.{content_chunks, slot_chunks, stored_
 use Rattle.h5_repack.specs.declared.objects.object.NewContent.{NewContent}
 use Rattle.h5_repack.specs.declared.objects.object.NewObject.{NewObject}
 use Rattle.h5_edit.specs.Changed.Cells.{AreChunksKept}
-use Rattle.h5_edit.specs.StoredChunks.{AreChunksOf, AreStoredAfter, AreStoredAt, AreStoredOf}
+use Rattle.h5_edit.specs.Repacked.{AreStoredAt}
 use Rattle.h5_edit.proofs.ChangedLaws.NumberedLaws.{found_one_more}
 
 -- the stored chunks of a slot more
@@ -50,8 +50,8 @@ group_array (Array e) links d is array = cc
 
 module _ (f : FileState) where
   -- where no object has the number
-  pub none_at : (tree : Tree) (number : ℕ) (offsets : List (List ℕ)) → get tree number ≡ None → AreStoredAt f tree number offsets
-  none_at tree number offsets none d array = absurd (let never : None ≡ Some d = sym (ap (option_and_then (λ (x : Object). dataset_in x.content)) none) ∙ array in cc)
+  pub none_at : (number : ℕ) (offsets : List (List ℕ)) → get f.tree number ≡ None → AreStoredAt f number offsets
+  none_at number offsets none d array = absurd (let never : None ≡ Some d = sym (ap (option_and_then (λ (x : Object). dataset_in x.content)) none) ∙ array in cc)
 
   -- ---- of an object of the image
 
@@ -62,32 +62,26 @@ module _ (f : FileState) where
     abbrev told : OpenedContent → Content
     told = content_in f.image f.table ms
 
-    abbrev there : Object
-    there = object_in f.image f.table o
+    array_in : (c : Content) (d : Dataset) → dataset_in c ≡ Some d → c ≡ Array d
+    array_in (Group links) d is = absurd (cc)
+    array_in (Array e) d is = ap Array (same_Some e d is)
 
-    array_there : (c : Content) (d : Dataset) → dataset_in c ≡ Some d → c ≡ Array d
-    array_there (Group links) d is = absurd (cc)
-    array_there (Array e) d is = ap Array (same_Some e d is)
-
-    -- under its number
-    pub stored_at : (offsets : List (List ℕ)) → AreChunksOf f there o.messages.header offsets → AreStoredAt f f.tree number offsets
-    stored_at offsets are d array chunk chunked =
-        let content : there.content ≡ Array d
-        = array_there there.content d (sym (ap (option_and_then (λ (x : Object). dataset_in x.content)) of.there) ∙ array) in
-        subst (λ (found : Option ℕ). AreStoredOf f.image d.sizes found offsets) (sym of.header) (are d content chunk chunked)
+    -- the array of its number is its content
+    array_there : (d : Dataset) → dataset_of f.tree number ≡ Some d → told o.content ≡ Array d
+    array_there d array = array_in (told o.content) d (sym (ap (option_and_then (λ (x : Object). dataset_in x.content)) of.there) ∙ array)
 
     -- a group has none
-    pub group_stored : (g : SymbolTable) → o.content ≡ content.Group g → (offsets : List (List ℕ)) → AreChunksOf f there o.messages.header offsets
-    group_stored g is offsets d array = absurd (group_array there.content (links_by f.table (links_told f.image g)) d (ap told is) array)
+    pub group_stored : (g : SymbolTable) → o.content ≡ content.Group g → (offsets : List (List ℕ)) → AreStoredAt f number offsets
+    group_stored g is offsets d array = absurd (group_array (told o.content) (links_by f.table (links_told f.image g)) d (ap told is) (array_there d array))
 
     -- those of an array that are handed over
     pub array_stored : o.content ≡ content.Array → (x : NewContent) → AreChunksKept f.image ms (array_dataset f.image ms) x
-        → AreChunksOf f there o.messages.header (content_chunks x)
+        → AreStoredAt f number (content_chunks x)
     array_stored is x kept d array chunk chunked =
         let a = array_told ms in
         let read = subst (IsContentKept f.image ms) is of.kept.content in
         let same : array_dataset f.image ms ≡ d
-        = (let both : Array (array_dataset f.image ms) ≡ Array d = sym (ap told is) ∙ array in cc) in
+        = (let both : Array (array_dataset f.image ms) ≡ Array d = sym (ap told is) ∙ array_there d array in cc) in
         let has : HasDataset f.image ms (array_dataset f.image ms) (data_blocks f.image a.fixed a.layout)
         = has_dataset f.image ms a (stored_chunks f.image a.fixed a.layout) (data_blocks f.image a.fixed a.layout) read.0.array
         (known_in f.image o.messages.list of.kept.known (read.0.kinds).no_table) (data_there f.image a.fixed a.layout read.1) in
@@ -101,7 +95,9 @@ module _ (f : FileState) where
           chunks_are = told_chunks f.image a.fixed has.layout has.chunks (data_blocks f.image a.fixed a.layout) has.stored
               ∙ ap (stored_chunks f.image a.fixed) (same_Some has.layout a.layout (sym has.array.laid_out ∙ read.0.array.laid_out));
         } in (
+          o.messages.header,
           stored_chunks f.image a.fixed a.layout,
+          of.header,
           chunks,
           subst (λ (e : Dataset). content_chunks x ≡ held_chunks e.sizes (stored_chunks f.image a.fixed a.layout)) same
               (kept chunk (ap (λ (e : Dataset). e.storage) same ∙ chunked)),
@@ -110,35 +106,32 @@ module _ (f : FileState) where
   -- ---- of the slots
 
   -- of the first so many slots
-  pub record AreStoredBelow (tree : Tree) (slots : List (Option NewObject)) (n : ℕ) : Type 0 where
+  pub record AreStoredBelow (slots : List (Option NewObject)) (n : ℕ) : Type 0 where
     pub long : length slots ≡ n
-    pub each : (k : ℕ) → k < n → AreStoredAt f tree k (stored_in slots k)
+    pub each : (k : ℕ) → k < n → AreStoredAt f k (stored_in slots k)
 
-  pub stored_none : (tree : Tree) → AreStoredBelow tree [] 0
-  stored_none tree = record { long = refl; each = λ k low. absurd (omega (arith, low)) }
-
-  pub stored_more : (tree : Tree) (slots more : List (Option NewObject)) (n : ℕ) (slot : Option NewObject) → AreStoredBelow tree slots n
-      → AreStoredAt f tree n (slot_chunks slot) → more ≡ slots ++ slot ∷ [] → AreStoredBelow tree more (n + 1)
-  stored_more tree slots more n slot so here longer = subst (λ list. AreStoredBelow tree list (n + 1)) (sym longer) (record {
+  pub stored_more : (slots more : List (Option NewObject)) (n : ℕ) (slot : Option NewObject) → AreStoredBelow slots n
+      → AreStoredAt f n (slot_chunks slot) → more ≡ slots ++ slot ∷ [] → AreStoredBelow more (n + 1)
+  stored_more slots more n slot so here longer = subst (λ list. AreStoredBelow list (n + 1)) (sym longer) (record {
     long = length-append slots (slot ∷ []) ∙ ap (λ m. m + 1) so.long;
     each = λ k low. by_test k low (k == length slots) refl;
   }) where
-    by_test : (k : ℕ) → k < n + 1 → (b : Bool) → (k == length slots) ≡ b → AreStoredAt f tree k (stored_in (slots ++ slot ∷ []) k)
+    by_test : (k : ℕ) → k < n + 1 → (b : Bool) → (k == length slots) ≡ b → AreStoredAt f k (stored_in (slots ++ slot ∷ []) k)
     by_test k low true last =
         let long = so.long in
         let same : n ≡ k = grind (arith, nat_tests, last, long) in
-        subst (AreStoredAt f tree k) (sym (stored_one_more slots slot k true last)) (subst (λ m. AreStoredAt f tree m (slot_chunks slot)) same here)
+        subst (AreStoredAt f k) (sym (stored_one_more slots slot k true last)) (subst (λ m. AreStoredAt f m (slot_chunks slot)) same here)
     by_test k low false other =
         let long = so.long in
-        subst (AreStoredAt f tree k) (sym (stored_one_more slots slot k false other)) (so.each k (grind (arith, nat_tests, other, low, long)))
+        subst (AreStoredAt f k) (sym (stored_one_more slots slot k false other)) (so.each k (grind (arith, nat_tests, other, low, long)))
 
   -- of all
-  pub all_stored : (slots : List (Option NewObject)) → AreStoredBelow f.tree slots f.next → ((k : ℕ) → IsSome (get f.tree k) → k < f.next)
-      → AreStoredAfter f f.tree (stored_in slots)
+  pub all_stored : (slots : List (Option NewObject)) → AreStoredBelow slots f.next → ((k : ℕ) → IsSome (get f.tree k) → k < f.next)
+      → (k : ℕ) → AreStoredAt f k (stored_in slots k)
   all_stored slots so given k = elim (cases_lt k f.next) [
     | inl low ↦ so.each k low
     | inr past ↦ past_all (get f.tree k) refl past
   ] where
-    past_all : (found : Option Object) → get f.tree k ≡ found → f.next ≤ k → AreStoredAt f f.tree k (stored_in slots k)
-    past_all None is past = none_at f.tree k (stored_in slots k) is
+    past_all : (found : Option Object) → get f.tree k ≡ found → f.next ≤ k → AreStoredAt f k (stored_in slots k)
+    past_all None is past = none_at k (stored_in slots k) is
     past_all (Some o) is past = absurd (omega (arith, past, given k (rw is refl)))

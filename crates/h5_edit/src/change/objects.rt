@@ -7,7 +7,7 @@ ghost use Rattle.h5_repack.specs.Image.Plain.{ArePlain, IsPlain};
 ghost use Rattle.h5_query.specs.Opened.Objects.{object_in};
 ghost use Rattle.h5_query.specs.Opened.Sound.{IsObjectOf};
 ghost use Rattle.h5_repack.specs.Objects.Objects.{AreObjects, IsNewObject, SlotsHold, content_chunks, slot_chunks, stored_in};
-ghost use Rattle.h5_edit.specs.StoredChunks.{AreChunksOf, AreStoredAfter, AreStoredAt};
+ghost use Rattle.h5_edit.specs.Repacked.{AreStoredAt};
 
 use crate::change::attributes::others_in;
 use crate::change::cells::kept_array;
@@ -28,8 +28,8 @@ pub(crate) fn opened_objects(
     requires { ArePlain opened.now.tree }
     ensures objects { IfOk result (λ objects. AreObjects objects.items opened.now.tree) }
     ensures counted { IfOk result (λ objects. length objects.items ≡ opened.now.next) }
-    ensures stored { IfOk result (λ objects.
-        AreStoredAfter opened.now opened.now.tree (stored_in objects.items)) }
+    ensures stored { IfOk result (λ objects. (number : ℕ)
+        → AreStoredAt opened.now number (stored_in objects.items number)) }
 {
     let mut objects = Vec::new(alloc);
     for number in 0..opened.next() {
@@ -46,8 +46,7 @@ fn opened_slot(
 ) -> Result<Option<NewObject<'_>>, AllocError>
     requires { (o : Object) → get opened.now.tree number ≡ Some o → IsPlain o }
     ensures object { IfOk result (λ slot. SlotsHold IsNewObject slot (get opened.now.tree number)) }
-    ensures stored { IfOk result (λ slot.
-        AreStoredAt opened.now opened.now.tree number (slot_chunks slot)) }
+    ensures stored { IfOk result (λ slot. AreStoredAt opened.now number (slot_chunks slot)) }
 {
     match opened.object(number) {
         Some(object) => Ok(Some(opened_object(alloc, opened, object)?)),
@@ -65,10 +64,8 @@ fn opened_object<'a>(
     requires plain { IsPlain (object_in opened.now.image opened.now.table object.now) }
     ensures object { IfOk result (λ x.
         IsNewObject x (object_in opened.now.image opened.now.table object.now)) }
-    ensures stored { IfOk result (λ x.
-        (number : ℕ) → IsObjectOf opened.now number object.now
-        → AreChunksOf opened.now (object_in opened.now.image opened.now.table object.now)
-        object.now.messages.header (content_chunks x.content)) }
+    ensures stored { IfOk result (λ x. (number : ℕ) → IsObjectOf opened.now number object.now
+        → AreStoredAt opened.now number (content_chunks x.content)) }
 {
     let header = HeaderRef::new(opened.image(), &object.messages);
     let others = others_in(alloc, &header)?;

@@ -2,7 +2,7 @@ use Rattle.std.proofs.Common.{sym, subst, rules}
 use Rattle.h5_query.specs.Opened.Objects.{object_in}
 use Rattle.h5_repack.specs.Objects.Objects.{content_chunks}
 use Rattle.h5_repack.specs.declared.objects.object.NewContent.{NewContent}
-use Rattle.h5_edit.specs.StoredChunks.{AreChunksOf}
+use Rattle.h5_edit.specs.Repacked.{AreStoredAt}
 use Rattle.h5_edit.proofs.ChangedLaws.StoredSlots.{array_stored, group_stored}
 use Rattle.h5_edit.proofs.change.objects.opened_object.Goals.{in-Group+in_ok-links_in-in-Group, in-Array+in_ok-content-in-Array}
 use Rattle.h5_query.proofs.Indexed.{group_read}
@@ -30,6 +30,6 @@ returns-clause-stored c number of =
     elim c.match-object.branch [
       | in-Group+in_ok-links_in-in-Group w ↦ group_stored f number c.args.object.now of w.in-Group.table w.in-Group.is (content_chunks c.match-object.content)
       | in-Array+in_ok-content-in-Array w ↦
-          subst (λ (x : NewContent). AreChunksOf f (object_in f.image f.table c.args.object.now) c.args.object.now.messages.header (content_chunks x)) (sym w.content-is)
+          subst (λ (x : NewContent). AreStoredAt f number (content_chunks x)) (sym w.content-is)
           (array_stored f number c.args.object.now of w.in-Array.is w.in_ok-content-in-Array.content (rw (c.new-header.ensures, c.image.ensures.bytes) at w.in_ok-content-in-Array.ensures.chunks))
     ]

@@ -12,7 +12,7 @@ loop-number-preserved c =
     record {
       objects = written_more f.tree c.loop-number.objects.items c.push.new.self.items c.loop-number.number
           c.in_ok-opened_slot.field-0 c.loop-number.invariant.objects c.in_ok-opened_slot.ensures.object c.in_ok-push.ensures.items;
-      chunks = stored_more f f.tree c.loop-number.objects.items c.push.new.self.items c.loop-number.number
+      chunks = stored_more f c.loop-number.objects.items c.push.new.self.items c.loop-number.number
           c.in_ok-opened_slot.field-0 c.loop-number.invariant.chunks c.in_ok-opened_slot.ensures.stored c.in_ok-push.ensures.items;
     }
 
@@ -35,4 +35,4 @@ returns-clause-stored c =
     let f = c.args.opened.now in
     let last : c.loop-number.number ≡ f.next = omega (arith, c.loop-number-test.false, c.loop-number.auto.number-end, c.next-number-end.ensures.next) in
     all_stored f c.loop-number.objects.items
-    (subst (AreStoredBelow f f.tree c.loop-number.objects.items) last c.loop-number.invariant.chunks) c.next-number-end.ensures.sound.numbers.given
+    (subst (AreStoredBelow f c.loop-number.objects.items) last c.loop-number.invariant.chunks) c.next-number-end.ensures.sound.numbers.given

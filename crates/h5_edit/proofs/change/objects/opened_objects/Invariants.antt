@@ -5,5 +5,5 @@ use Rattle.h5_edit.proofs.change.objects.opened_objects.Given as goal
 abbrev pub invariant-loop-number : goal.invariant-loop-number
 invariant-loop-number l = record {
   objects : AreWritten l.opened.tree l.objects.items l.number;
-  chunks : AreStoredBelow l.opened l.opened.tree l.objects.items l.number;
+  chunks : AreStoredBelow l.opened l.objects.items l.number;
 }
