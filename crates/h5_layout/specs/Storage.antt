@@ -37,11 +37,6 @@ abbrev pub storage_bytes : List ℕ → Described → Missing → ℕ
 storage_bytes image a missing.Block = cells a.sizes * a.fixed.size
 storage_bytes image a (missing.Chunks array new) = chunks_room_in image a (length new.offsets) a.layout
 
--- and how many calls of `take`
-abbrev pub storage_calls : Missing → ℕ
-storage_calls missing.Block = 1
-storage_calls (missing.Chunks array new) = 18 * length new.offsets + 1
-
 -- ---- whether a tree has no room
 
 -- a root so low that its tree never gets too deep, or one that is to be made, at level 0

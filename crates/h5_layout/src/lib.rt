@@ -32,7 +32,6 @@ mod pieces;
 mod places;
 mod read;
 mod resize;
-mod resized;
 mod storage;
 mod stored;
 mod stored_extent;

@@ -1,15 +1,13 @@
 //! Messages of a header that stand behind those of its content: kept messages and attributes (File Format Specification 3.0,
 //! sections IV.A.1.a and IV.A.2).
 ghost use Rattle.std.specs.Prelude.{◌≡◌, ℕ, ◌*◌, ◌%◌, ◌<◌, ◌≤◌, [], ◌∷◌, ◌++◌, List, OnOk, length};
-ghost use Rattle.h5_model.specs.Edits.Applied.{attribute_from};
 ghost use Rattle.h5_model.specs.Format.Messages.{most_messages};
 ghost use Rattle.h5_repack.specs.Bodies.Bodies.{attribute_message};
 ghost use Rattle.h5_repack.specs.Bodies.Sound.{IsPlainAttribute};
 ghost use Rattle.h5_repack.specs.Blocks.Written.{AreOthers};
 
-use crate::blocks::attribute::{push_new_attribute, push_stored_attribute};
+use crate::blocks::attribute::push_stored_attribute;
 use crate::blocks::header::push_message;
-use h5_model::AttrSpec;
 use h5_msg::AttributeBody;
 use std::alloc::{AllocError, Global};
 use std::marker::Model;
@@ -73,26 +71,6 @@ impl Others {
     {
         let before = self.bytes.len();
         let Ok(()) = push_message(&mut self.bytes, kind, body) else {
-            self.bytes.truncate(before);
-            return Err(AllocError);
-        };
-        self.count += 1;
-        Ok(())
-    }
-
-    /// Appends the message of an attribute that is new.
-    ///
-    /// # Errors
-    ///
-    /// `AllocError` if memory is refused.
-    pub fn push_new(&mut self, attr: &AttrSpec) -> Result<(), AllocError>
-        requires plain { IsPlainAttribute (attr.now.name, attribute_from attr.now) }
-        requires few { self.old.count ≤ most_messages }
-        ensures { OnOk result ((ms : List (ℕ × List ℕ)) → AreOthers ms self.old
-            → AreOthers (ms ++ attribute_message (attr.now.name, attribute_from attr.now) ∷ []) self.new) }
-    {
-        let before = self.bytes.len();
-        let Ok(()) = push_new_attribute(&mut self.bytes, attr) else {
             self.bytes.truncate(before);
             return Err(AllocError);
         };
