@@ -107,7 +107,7 @@ class LineMaker(Maker):
             edit = edit_of(line.split(b" "))
         except BadLine:
             return None
-        return None if edit is None or refusal(self.session.tree, self.session.given, edit, today.STAGE) else edit
+        return None if edit is None or refusal(self.session.tree, self.session.given, edit) else edit
 
     def are_stored(self, edit):
         """Whether all cells that the edit writes are stored."""

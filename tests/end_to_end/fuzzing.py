@@ -98,7 +98,7 @@ class Case:
         """What the library does otherwise than the reference, or `None`."""
         session, refused = library.opened(self.image)
         try:
-            today.reader.open_image(self.image, today.STAGE)
+            today.reader.open_image(self.image)
         except OpenFault as fault:
             return differ("opening", refused and b"%d at %d" % refused, b"%d at %d" % (fault.number, fault.address))
         if refused:

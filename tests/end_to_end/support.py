@@ -89,13 +89,9 @@ def h5i(*words, **options):
     return run_command(PROGRAM, *words, **options)
 
 
-# The reference as the program is: with all that it can do.
-STAGE = "15"
-
-
 def reference(*words, **options):
-    """Runs the reference implementation, as it is at this stage."""
-    return run_command(sys.executable, REFERENCE, "--stage", STAGE, *words, **options)
+    """Runs the reference implementation."""
+    return run_command(sys.executable, REFERENCE, *words, **options)
 
 
 def library(code, *words):

@@ -301,7 +301,7 @@ class Foreign(AsTheReference):
             with self.subTest(seed=seed):
                 path = self.written("odd.h5", image)
                 self.assert_run(path, b"attr / y i8 1 -1\ndump /\nunattr /far x\nattr /far new u8 0 -\ndump /far\nunattr / y\n")
-                kept = [thing.kept for thing in open_image(self.read(path), today.STAGE).tree.objects.values()]
+                kept = [thing.kept for thing in open_image(self.read(path)).tree.objects.values()]
                 self.assertEqual(kept, [thing.kept for thing in tree.objects.values()])
 
     def test_a_full_image(self):
@@ -353,7 +353,7 @@ class Library(AsTheReference):
         def shown(thing):
             return [[name.hex(), ("|" if a.fixed.size == 1 else ">" if a.fixed.big else "<") + ("i" if a.fixed.signed else "u") + str(a.fixed.size),
                      list(a.dims), list(a.values)] for name, a in sorted(thing.attrs.items())]
-        tree = open_image(self.read(path), today.STAGE).tree
+        tree = open_image(self.read(path)).tree
         arrays = {name.decode(): shown(tree.objects[number]) for name, (_, number) in tree.objects[0].links.items()}
         self.assertEqual(self.told(path), [shown(tree.objects[0]), arrays])
 

@@ -1,4 +1,4 @@
-"""The reference implementation, held to what the program carries today, which is all of it.
+"""The reference implementation, as the tests ask it.
 
 Which images are opened, what is listed and dumped of them, and what is answered to scripts is the reference's own answer.
 """
@@ -14,9 +14,8 @@ sys.path.insert(0, os.path.dirname(support.REFERENCE))
 from h5oracle import judge, model, reader  # noqa: E402
 from h5oracle.script import attr_line, dump_lines, ls_lines, path_text, run_script, tree_text, unescape  # noqa: E402, F401
 from h5oracle.session import Session  # noqa: E402
-from h5oracle.values import OpenFault, Stage  # noqa: E402
+from h5oracle.values import OpenFault  # noqa: E402
 
-STAGE = Stage.read(support.STAGE)
 # How lines begin that count as refused.
 REFUSED = (b"bad line", b"refused ", b"fault ")
 
@@ -24,14 +23,14 @@ REFUSED = (b"bad line", b"refused ", b"fault ")
 def opened(data):
     """The reading of an image, or what `h5i` says where it is refused: number, name and address."""
     try:
-        return reader.open_image(data, STAGE), None
+        return reader.open_image(data), None
     except OpenFault as fault:
         return None, str(fault)
 
 
 def wrong_with(before, after, line):
     """What is wrong with an edit in place by a line of a script: nothing where its list is empty."""
-    return judge.step(before, after, line, STAGE)
+    return judge.step(before, after, line)
 
 
 def kept_bodies(thing):
@@ -108,7 +107,7 @@ def unlike(after, image, script):
 
 def session_of(image):
     """The reference's session on an image."""
-    return Session.open(image, STAGE)
+    return Session.open(image)
 
 
 def status_of(output):
