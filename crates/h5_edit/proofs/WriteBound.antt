@@ -1,5 +1,5 @@
 -- The chunks that hold a written cell and are not stored, by the boxes of an array's grid (File Format Specification 3.0, section III.A.1).
-use Rattle.std.proofs.Common.{◌≡◌, ℕ, ◌<◌, ◌&&◌, List, [], ◌∷◌, Bool, true, false, not, length, map, refl, sym, ap, ap₂, ◌∙◌, subst, arith}
+use Rattle.std.proofs.Common.{◌≡◌, ℕ, ◌<◌, ◌&&◌, List, Bool, true, false, not, length, map, sym, ap, ap₂, ◌∙◌, subst}
 use Rattle.std.specs.Prelude.{ℤ, filter}
 use Rattle.std.proofs.lemmas.Bool.{not-true, and_parts}
 use Rattle.h5_repack.proofs.ChunkLaws.ChunkCells.{long_index}

@@ -1,5 +1,5 @@
 -- How many bytes at most an edit in place adds to the image, by its tree and by what the image says of the edit.
-use Rattle.std.specs.Prelude.{ℕ, ◌+◌, ◌*◌, ◌==◌, ◌&&◌, Bool, not, nat_lt, if◌then◌else◌, List, [], map, filter, length}
+use Rattle.std.specs.Prelude.{ℕ, ◌+◌, ◌*◌, ◌==◌, ◌&&◌, not, nat_lt, if◌then◌else◌, List, [], map, filter, length}
 use Rattle.std.specs.Option.{option_map_or}
 use Rattle.h5_bytes.specs.Texts.{pad8}
 use Rattle.h5_model.specs.Tree.Places.{cells}
