@@ -7,7 +7,7 @@ use Rattle.h5_model.specs.declared.dataset.Store.{Store}
 use Rattle.h5_model.specs.declared.edits.Edit.{Edit}
 use Rattle.h5_model.specs.declared.edits.Edit.TheVariants.{CreateDataset, SetAttr}
 use Rattle.h5_c.specs.Calls.{HasEdited, HasMadeAndEdited, IsRefusedEarly}
-use Rattle.h5_c.specs.Given.{ByTest, IsArrayMadeWith, IsMadeOf, IsMadeWith, IsStorageThere, creation_edit, given_array, given_attribute, is_one, is_whole, number_of, attribute_edit}
+use Rattle.h5_c.specs.Given.{ByTest, IsArrayMadeWith, IsMadeOf, IsMadeWith, IsStorageThere, array_edit, given_array, given_attribute, is_one, is_whole, number_of, attribute_edit}
 use Rattle.h5_c.specs.declared.given.Unmade.{Unmade}
 use Rattle.h5_c.specs.declared.given.Unmade.TheVariants.{NoMemory, NoSuchType, WrongRoom}
 use Rattle.h5_c.specs.declared.held.Held.{Held}
@@ -65,13 +65,13 @@ module _ (before after : Held) (status : ℕ) where
   module _ (path dims maxima fill : List ℕ) (fixed : Option Fixed) (store : Option (Store (List ℕ))) (made : Result Spec Unmade)
       (asked : IsArrayMadeWith fixed fill store (λ t s. IsMadeOf (given_array t dims maxima s fill) made) (λ v. made ≡ Err v)) where
     pub uncreated : (u : Unmade) → made ≡ Err u → after ≡ before → status ≡ number_of u
-        → IsArrayMadeWith fixed fill store (λ t s. HasMadeAndEdited before (creation_edit path t dims maxima s fill) after status) (λ v. IsRefusedEarly before after (number_of v) status)
+        → IsArrayMadeWith fixed fill store (λ t s. HasMadeAndEdited before (array_edit path t dims maxima s fill) after status) (λ v. IsRefusedEarly before after (number_of v) status)
     uncreated u is same number =
-        array_made_as (λ t s. short u made is same number (creation_edit path t dims maxima s fill) (given_array t dims maxima s fill)) (early u made is same number) fixed fill store asked
+        array_made_as (λ t s. short u made is same number (array_edit path t dims maxima s fill) (given_array t dims maxima s fill)) (early u made is same number) fixed fill store asked
 
     -- an array was asked for
     pub created : (spec : Spec) → made ≡ Ok spec → HasEdited before (CreateDataset path spec) after status
-        → IsArrayMadeWith fixed fill store (λ t s. HasMadeAndEdited before (creation_edit path t dims maxima s fill) after status) (λ v. IsRefusedEarly before after (number_of v) status)
+        → IsArrayMadeWith fixed fill store (λ t s. HasMadeAndEdited before (array_edit path t dims maxima s fill) after status) (λ v. IsRefusedEarly before after (number_of v) status)
     created spec is edited =
         let gives = λ (t : Fixed) (s : Store (List ℕ)) (of : IsMadeOf (given_array t dims maxima s fill) made).
         inl (subst (λ (x : Spec). HasEdited before (CreateDataset path x) after status) (subst (IsMadeOf (given_array t dims maxima s fill)) is of) edited)

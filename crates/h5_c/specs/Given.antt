@@ -71,8 +71,8 @@ abbrev pub given_array : Fixed → List ℕ → List ℕ → Store (List ℕ) �
 given_array t dims maxima store fill = record { fixed = t; dims = dims; maxima = map maximum_of maxima; store = store; fill = value_of t fill }
 
 -- the edit that creates it
-abbrev pub creation_edit : List ℕ → Fixed → List ℕ → List ℕ → Store (List ℕ) → List ℕ → Edit
-creation_edit path t dims maxima store fill = CreateDataset path (given_array t dims maxima store fill)
+abbrev pub array_edit : List ℕ → Fixed → List ℕ → List ℕ → Store (List ℕ) → List ℕ → Edit
+array_edit path t dims maxima store fill = CreateDataset path (given_array t dims maxima store fill)
 
 abbrev pub IsStorageThere : Option (Store (List ℕ)) → (Store (List ℕ) → Type 0) → (Unmade → Type 0) → Type 0
 IsStorageThere None holds refused = refused unmade.NoSuchType

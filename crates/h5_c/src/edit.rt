@@ -4,7 +4,7 @@ ghost use Rattle.std.specs.Prelude.{◌≡◌, true};
 ghost use Rattle.h5_model.specs.declared.edits.Edit.TheVariants as edits;
 ghost use Rattle.h5_model.specs.Format.Fixed.{fixed_from};
 ghost use Rattle.h5_c.specs.Calls.{HasEdited, HasMadeAndEdited, HasRepacked, IsKeptOpen, IsRefusedEarly};
-ghost use Rattle.h5_c.specs.Given.{IsArrayMadeWith, IsMadeWith, creation_edit, is_whole, number_of, attribute_edit, store_of_number};
+ghost use Rattle.h5_c.specs.Given.{IsArrayMadeWith, IsMadeWith, array_edit, is_whole, number_of, attribute_edit, store_of_number};
 
 use crate::given::{CType, NewArray, array_spec, attr_spec};
 use crate::held::Held;
@@ -165,7 +165,7 @@ pub extern "C" fn h5i_create_array(
     ensures kept { IsKeptOpen slot.old.is_open slot.new.is_open result }
     ensures edited { slot.old.is_open ≡ true
         → IsArrayMadeWith (fixed_from of.size of.signed of.big) fill.now (store_of_number storage chunks.now)
-        (λ t store. HasMadeAndEdited slot.old.held (creation_edit path.now t dims.now maxima.now store fill.now)
+        (λ t store. HasMadeAndEdited slot.old.held (array_edit path.now t dims.now maxima.now store fill.now)
         slot.new.held result)
         (λ u. IsRefusedEarly slot.old.held slot.new.held (number_of u) result) }
 {
