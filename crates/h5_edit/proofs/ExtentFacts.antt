@@ -49,11 +49,15 @@ module _ (f : FileState) (path dims : List ℕ) (number : ℕ) (at : IsAt f.tree
   }
 
   are_facts : AreFacts f edit facts_of
-  are_facts = record { long = refl; k = refl; at = record {
-    total = refl;
-    maxima = subst (λ (found : Option ℕ). LacksMaxima f.image (option_and_then (get f.table) found) (not (not lacks))) (sym at.object)
-        (subst (LacksMaxima f.image (get f.table number)) (sym (not-not lacks)) told);
-  } }
+  are_facts = record {
+    long = refl;
+    k = refl;
+    at = record {
+      total = refl;
+      maxima = subst (λ (found : Option ℕ). LacksMaxima f.image (option_and_then (get f.table) found) (not (not lacks))) (sym at.object)
+          (subst (LacksMaxima f.image (get f.table number)) (sym (not-not lacks)) told);
+    };
+  }
 
   -- what they may add
   bound_is : bound_of facts_of f.tree edit ≡ extent_bytes lacks dims
