@@ -26,7 +26,7 @@ use Rattle.h5_group.specs.Told.{symbol_nodes_told}
 use Rattle.h5_group.proofs.DropLaws.{internal_is, leaf_is, nodes_cover, nodes_stay, there, tree}
 use Rattle.h5_group.proofs.ExactTrees.{keys_so, told_so}
 use Rattle.h5_group.proofs.ToldLaws.{symbol_nodes_are_told}
-use Rattle.h5_group.proofs.Ways.{cover_parts}
+use Rattle.h5_group.proofs.Ways.{cover_parts, level_there}
 
 -- the first byte of a symbol node is one of the symbol nodes
 pub begins_in : (leaf x : ℕ) (xs : List ℕ) → In x xs → 1 ≤ cover x (map (symbol_block leaf) xs)
@@ -72,9 +72,6 @@ module _ (s u : Space) (table : SymbolTable) (links : List (List ℕ × Target))
       (all_so (λ at. symbol_bytes t.bytes leaf at ≡ symbol_bytes s.bytes leaf at) (λ at. symbols_at t.bytes leaf at ≡ symbols_at s.bytes leaf at) list
       (λ at is. ap entries_of is) (nodes_stay s u table links spare blocks group way k e taken t bytes given bare size))
 
-  was_level : (V table.tree).level ≡ (group.linked).level
-  was_level = level_is s.bytes kind table.tree (group.linked).level (group.linked).owned list (group.linked).tree
-
   now_level : (W table.tree).level ≡ taken.3
   now_level = level_is t.bytes kind table.tree taken.3 taken.4 rest (tree s u table links spare blocks group way k e taken t bytes given bare size)
 
@@ -83,7 +80,7 @@ module _ (s u : Space) (table : SymbolTable) (links : List (List ℕ × Target))
       let end = (there s u table links spare blocks group way k e taken).1 in
       let short = group.short in
       let here : AreKeysExact (λ key. ⊥) (entry_keys leaf s.bytes) V (group.linked).level table.tree
-      = subst (λ (l : ℕ). AreKeysExact (λ key. ⊥) (entry_keys leaf s.bytes) V l table.tree) was_level exact in
+      = subst (λ (l : ℕ). AreKeysExact (λ key. ⊥) (entry_keys leaf s.bytes) V l table.tree) (level_there s table links spare blocks group) exact in
       let then : AreKeysExact (λ key. ⊥) (entry_keys leaf t.bytes) (node_at u.bytes kind) taken.3 table.tree
       = dropped_exact (entry_keys leaf s.bytes) (entry_keys leaf t.bytes) (λ key. ⊥) s kind table.tree (group.linked).level way (group.linked).owned list k e
       (all_so (λ at. symbols_at t.bytes leaf at ≡ symbols_at s.bytes leaf at) (λ at. entry_keys leaf t.bytes at ≡ entry_keys leaf s.bytes at) rest (λ at is. ap name_keys is) same)

@@ -39,6 +39,7 @@ use Rattle.h5_btree.proofs.WayEnds.{end_listed}
 use Rattle.h5_group.specs.Edited.{HasGroupMoved, IsGroupIn, superblock_block}
 use Rattle.h5_group.specs.Nodes.Trees.{kind_in}
 use Rattle.h5_group.proofs.EditFrames.{group_apart, group_moves, internal_kept, k_kept, leaf_kept, rest_kept, still_long}
+use Rattle.h5_group.proofs.Ways.{others_inside, trees_parted}
 
 -- ---- blocks and lists
 
@@ -150,13 +151,13 @@ module _ (s u : Space) (table : SymbolTable) (links : List (List ℕ × Target))
       )
 
   parted : (p : ℕ) → cover p blocks ≡ cover p (T ++ (N ++ H))
-  parted p = ap (cover p) (has.laid ∙ append_assoc T N H)
+  parted = trees_parted s table links spare blocks group
 
   some_each : AllByRecursion (λ (b : Block). 1 ≤ b.len) (N ++ H)
   some_each = all_append (λ (b : Block). 1 ≤ b.len) N H (some_symbols leaf list) (omega arith, (omega (arith, has.listed.heap_form.size), tt))
 
   within : Inside (length s.bytes) (N ++ H)
-  within = inside_apart (N ++ H) s.free (length s.bytes) (λ p. omega (arith, group.apart p, parted p, cover-append p T (N ++ H))) some_each
+  within = others_inside s table links spare blocks group
 
   kept : Keeps s.bytes u.bytes (N ++ H)
   kept = rest_kept s u table links spare blocks group T T' (N ++ H) done.moves parted within

@@ -33,38 +33,38 @@ use Rattle.h5_group.proofs.ToldLaws.{links_are_told, symbol_nodes_are_told}
 
 module _ (s : Space) (table : SymbolTable) (links : List (List ℕ × Target)) (spare : List ℕ) (blocks : List Block) (group : IsGroupIn s table links spare blocks)
     (node : ℕ) (told : Contains (symbol_nodes_told s.bytes table) node) where
-  listed : In node (group.linked).symbol_nodes
-  listed = subst (In node) (sym (symbol_nodes_are_told s.bytes table links blocks group.linked)) (in_contains node (symbol_nodes_told s.bytes table) told)
+  pub told_listed : In node (group.linked).symbol_nodes
+  told_listed = subst (In node) (sym (symbol_nodes_are_told s.bytes table links blocks group.linked)) (in_contains node (symbol_nodes_told s.bytes table) told)
 
-  abbrev front : List ℕ
-  front = (split_in node (group.linked).symbol_nodes listed).0
+  abbrev pub told_front : List ℕ
+  told_front = (split_in node (group.linked).symbol_nodes told_listed).0
 
-  abbrev back : List ℕ
-  back = (split_in node (group.linked).symbol_nodes listed).1
+  abbrev pub told_back : List ℕ
+  told_back = (split_in node (group.linked).symbol_nodes told_listed).1
 
-  cut : (group.linked).symbol_nodes ≡ front ++ node ∷ back
-  cut = (split_in node (group.linked).symbol_nodes listed).2
+  pub told_cut : (group.linked).symbol_nodes ≡ told_front ++ node ∷ told_back
+  told_cut = (split_in node (group.linked).symbol_nodes told_listed).2
 
   pub symbols_stand : IsSymbolsAt s.bytes node
   symbols_stand = record {
-    formed = in_all (λ at. IsSymbolNode (leaf_k s.bytes) (symbol_bytes s.bytes (leaf_k s.bytes) at)) node (group.linked).symbol_nodes (group.linked).formed listed;
-    inside = node_within s s table links spare blocks group node front back cut;
+    formed = in_all (λ at. IsSymbolNode (leaf_k s.bytes) (symbol_bytes s.bytes (leaf_k s.bytes) at)) node (group.linked).symbol_nodes (group.linked).formed told_listed;
+    inside = node_within s s table links spare blocks group node told_front told_back told_cut;
   }
 
   module _ (t : Space) (entries : List Entry) (set : IsSymbolsRewritten s t (leaf_k s.bytes) node entries) where
     pub heap_set : segment_of t.bytes table.heap ≡ segment_of s.bytes table.heap
-    heap_set = segment_same s t table links spare blocks group node front back cut set.moves
+    heap_set = segment_same s t table links spare blocks group node told_front told_back told_cut set.moves
 
     pub entries_set : symbols_at t.bytes (leaf_k t.bytes) node ≡ entries
-    entries_set = ap (λ (l : ℕ). symbols_at t.bytes l node) (leaf_same s t table links spare blocks group node front back cut set.moves) ∙ set.says
+    entries_set = ap (λ (l : ℕ). symbols_at t.bytes l node) (leaf_same s t table links spare blocks group node told_front told_back told_cut set.moves) ∙ set.says
 
     kind_set : kind_in t.bytes ≡ kind_in s.bytes
-    kind_set = ap group_kind (internal_same s t table links spare blocks group node front back cut set.moves)
+    kind_set = ap group_kind (internal_same s t table links spare blocks group node told_front told_back told_cut set.moves)
 
     module _ (level : ℕ) (way : List Step) (owned list : List ℕ) (k : ℕ) (e : EndsInTree s (kind_in s.bytes) table.tree level way owned list k) where
       nodes_set : Keeps s.bytes t.bytes (tree_blocks (kind_in s.bytes) owned)
       nodes_set = subst (λ (ns : List ℕ). Keeps s.bytes t.bytes (tree_blocks (kind_in s.bytes) ns)) (sym (owned_same s table links spare blocks group level way owned list k e))
-          (trees_kept s t table links spare blocks group node front back cut set.moves)
+          (trees_kept s t table links spare blocks group node told_front told_back told_cut set.moves)
 
       pub ends_set : EndsInTree t (kind_in t.bytes) table.tree level way owned list k
       ends_set = subst (λ (kind : Kind). EndsInTree t kind table.tree level way owned list k) (sym kind_set)

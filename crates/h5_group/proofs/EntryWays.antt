@@ -1,27 +1,25 @@
 -- Ways down a group's tree to one of its symbol nodes: where the symbol node stands among them all, and that ways stay where the nodes do
 -- (File Format Specification 3.0, section III.A.1).
 use Rattle.std.proofs.Common.{◌≡◌, ℕ, suc, ◌+◌, ◌<◌, List, [], ◌∷◌, ◌++◌, length, get_or, take, drop, sym, ap, ◌∙◌, subst, arith}
-use Rattle.std.proofs.lemmas.List.{get_or-append-add, get_or_append_left, length-append}
-use Rattle.std.proofs.lemmas.Grind.{flat_map-append}
 use Rattle.std.specs.List.{AllByRecursion}
 use Rattle.h5_bytes.specs.Bytes.{undefined_address}
 use Rattle.h5_bytes.specs.Blocks.{Keeps}
 use Rattle.h5_bytes.specs.declared.Block.{Block}
 use Rattle.h5_model.specs.Format.Addresses.{SymbolTable}
 use Rattle.h5_model.specs.Format.Nodes.{Kind, node_at, node_length, node_of, reading_of, tree_blocks}
-use Rattle.h5_model.specs.Format.Rows.{Node, Reading, IsRow, leaves, next_row}
+use Rattle.h5_model.specs.Format.Rows.{Node, Reading, IsRow, next_row}
 use Rattle.h5_model.specs.Format.Symbols.{Target}
 use Rattle.h5_model.proofs.Frames.{reading-same, tree-same, read-same}
 use Rattle.h5_model.proofs.OneTree.{one_children, one_level, one_owned}
-use Rattle.h5_model.proofs.RowLaws.{at_listed, root_level}
+use Rattle.h5_model.proofs.RowLaws.{at_listed}
 use Rattle.h5_space.specs.Space.{Space}
 use Rattle.h5_space.specs.Whole.{IsApart}
 use Rattle.h5_btree.specs.Climb.{IsWay}
 use Rattle.h5_btree.specs.Removal.{EndsInTree}
 use Rattle.h5_btree.specs.declared.way.Step.{Step}
 use Rattle.h5_btree.proofs.KeyedTrees.{cut_at}
-use Rattle.h5_btree.proofs.TreeReadings.{Listed, owned_at}
-use Rattle.h5_btree.proofs.WayRows.{leaves_here}
+use Rattle.h5_btree.proofs.TreeReadings.{Listed}
+use Rattle.h5_btree.proofs.WayEnds.{end_here, end_listed}
 use Rattle.h5_btree.proofs.WaySteps.{way_owned}
 use Rattle.h5_group.specs.Edited.{IsGroupIn}
 use Rattle.h5_group.specs.Nodes.Trees.{kind_in}
@@ -38,37 +36,14 @@ module _ (s : Space) (kind : Kind) (root level : ℕ) (way : List Step) (owned l
   abbrev i : ℕ
   i = (e.step).place
 
-  bottom : list ≡ next_row Y e.front ++ ((Y p).children ++ next_row Y e.back)
-  bottom =
-      let here = leaves_here Y root p e.above e.front e.back e.leads e.row in
-      let depth : level ≡ length e.above = sym (root_level Y level root (e.tree).rows) ∙ root_level Y (length e.above) root here.0 in
-      (e.tree).all ∙ ap (λ (l : ℕ). leaves Y l (root ∷ [])) depth ∙ here.1 ∙ flat_map-append (λ (n : ℕ). (Y n).children) e.front (p ∷ e.back)
-
-  listed : AllByRecursion (λ (step : Step). Listed owned step.node) (e.step ∷ e.above)
-  listed = subst (AllByRecursion (λ (step : Step). Listed owned step.node)) e.way_is (way_owned s kind root level way owned list k e)
-
-  here_is : Y p ≡ node_at s.bytes kind p
-  here_is = owned_at (node_at s.bytes kind) owned p listed.0
-
   pub place_low : i < length (node_at s.bytes kind p).children
-  place_low = subst (λ (o : Node). i < length o.children) here_is e.place
+  place_low = subst (λ (o : Node). i < length o.children) (end_here s kind root level way owned list k e) e.place
 
-  pub end_low : k < length list
-  end_low =
-      let long = ap (λ (xs : List ℕ). length xs) bottom in
-      omega (arith, long, e.number, e.place, length-append (next_row Y e.front) ((Y p).children ++ next_row Y e.back), length-append (Y p).children (next_row Y e.back))
-
-  pub end_is : get_or list k 0 ≡ get_or (node_at s.bytes kind p).children i 0
-  end_is =
-      ap (λ (xs : List ℕ). get_or xs k 0) bottom
-      ∙ ap (λ (n : ℕ). get_or (next_row Y e.front ++ ((Y p).children ++ next_row Y e.back)) n 0) e.number
-      ∙ get_or-append-add (next_row Y e.front) ((Y p).children ++ next_row Y e.back) i 0
-      ∙ get_or_append_left (Y p).children (next_row Y e.back) 0 i e.place
-      ∙ ap (λ (o : Node). get_or o.children i 0) here_is
-
-  -- so they are cut there
+  -- those at the bottom are cut there
   pub end_cut : list ≡ take k list ++ get_or (node_at s.bytes kind p).children i 0 ∷ drop (suc k) list
-  end_cut = cut_at list k 0 end_low ∙ ap (λ (c : ℕ). take k list ++ c ∷ drop (suc k) list) end_is
+  end_cut =
+      let end = end_listed s kind root level way owned list k e in
+      cut_at list k 0 end.0 ∙ ap (λ (c : ℕ). take k list ++ c ∷ drop (suc k) list) end.1
 
   -- the way ends there still, where the nodes keep their bytes, and no block is taken or given
   pub ends_kept : (t : Space) → Keeps s.bytes t.bytes (tree_blocks kind owned) → t.free ≡ s.free → length t.bytes ≡ length s.bytes

@@ -80,6 +80,16 @@ filled_so old new table list leaf was is entries filled =
     (λ at both. subst (λ (l : ℕ). 1 ≤ length (symbols_at new l at)) (sym leaf) (subst (λ (es : List Entry). 1 ≤ length es) (sym both.0) both.1))
     (all_both Same Some list entries (subst (AllByRecursion Some) was filled)))
 
+-- ---- nodes whose bytes stay keep their entries
+
+pub keeps_read : (old new : List ℕ) (kind : Kind) (n : ℕ) → node_at new kind n ≡ node_at old kind n → KeepsEntries old new kind n
+keeps_read old new kind n same = (ap (λ (o : Node). o.keys) same, ap (λ (o : Node). o.children) same, ap (λ (o : Node). o.level) same)
+
+pub keeps_kept : (old new : List ℕ) (kind : Kind) (owned : List ℕ) → Keeps old new (tree_blocks kind owned) → (n : ℕ) → Owns owned n → KeepsEntries old new kind n
+keeps_kept old new kind owned kept n owns =
+    keeps_read old new kind n
+    (at_listed (λ m. node_at new kind m ≡ node_at old kind m) owned n (read-same old new (node_of kind) (node_length kind) owned kept) owns)
+
 -- ---- a group's tree, in two images
 
 module _ (old new : List ℕ) (table : SymbolTable) (leaf : leaf_k new ≡ leaf_k old) (kind : kind_in new ≡ kind_in old) (level : ℕ) (owned list : List ℕ)
@@ -152,9 +162,7 @@ module _ (s t : Space) (table : SymbolTable) (links : List (List ℕ × Target))
   IsNodeKept n = IsSame n × AllByRecursion (λ key. heap_text t table (offset_in key) ≡ heap_text s table (offset_in key)) (node_at s.bytes kind n).keys
 
   keeps : (n : ℕ) → Owns (g.linked).owned n → KeepsEntries s.bytes t.bytes kind n
-  keeps n owns =
-      let here = (at_listed IsNodeKept (g.linked).owned n kept owns).0 in
-      (ap (λ (o : Node). o.keys) here, ap (λ (o : Node). o.children) here, ap (λ (o : Node). o.level) here)
+  keeps n owns = keeps_read s.bytes t.bytes kind n (at_listed IsNodeKept (g.linked).owned n kept owns).0
 
   entries : AllByRecursion (λ at. symbols_at t.bytes (leaf_k s.bytes) at ≡ symbols_at s.bytes (leaf_k s.bytes) at) (g.linked).symbol_nodes
   entries = all_in (λ at. symbols_at t.bytes (leaf_k s.bytes) at ≡ symbols_at s.bytes (leaf_k s.bytes) at) (g.linked).symbol_nodes (λ at there.
@@ -184,14 +192,9 @@ module _ (old new : List ℕ) (leaf : leaf_k new ≡ leaf_k old) (internal : int
   both : Keeps old new (trees ++ symbols)
   both = all_left (IsKept old new) (trees ++ symbols) (heap_blocks old t.heap) laid
 
-  nodes_read : AllByRecursion (λ n. node_at new (kind_in old) n ≡ node_at old (kind_in old) n) has.owned
-  nodes_read = read-same old new (node_of (kind_in old)) (node_length (kind_in old)) has.owned (all_left (IsKept old new) trees symbols both)
-
   pub exact-same : HasExactKeys old t → HasExactKeys new t
   exact-same = exact_kept old new t leaf (ap group_kind internal) has.level has.owned has.symbol_nodes has.tree
-      (λ n owns.
-      let here = at_listed (λ m. node_at new (kind_in old) m ≡ node_at old (kind_in old) m) has.owned n nodes_read owns in
-      (ap (λ (o : Node). o.keys) here, ap (λ (o : Node). o.children) here, ap (λ (o : Node). o.level) here))
+      (keeps_kept old new (kind_in old) has.owned (all_left (IsKept old new) trees symbols both))
       (read-same old new entries_of (8 + 80 * leaf_k old) has.symbol_nodes (all_right (IsKept old new) trees symbols both))
 
 -- ---- a group without symbol nodes

@@ -11,12 +11,9 @@ use Rattle.h5_model.specs.Format.Addresses.{SymbolTable}
 use Rattle.h5_model.specs.Format.Superblock.{leaf_k}
 use Rattle.h5_model.specs.Format.Heap.{segment_of}
 use Rattle.h5_model.specs.Format.Links.{Before, IsBetween, NotAfter}
-use Rattle.h5_model.specs.Format.Nodes.{Kind, group_kind, node_at, node_length, node_of}
-use Rattle.h5_model.specs.Format.Rows.{Node}
+use Rattle.h5_model.specs.Format.Nodes.{Kind, group_kind, node_at}
 use Rattle.h5_model.specs.Format.Symbols.{Entry, Target, symbols_at}
 use Rattle.h5_model.specs.Tree.Paths.{is_name}
-use Rattle.h5_model.proofs.RowLaws.{at_listed}
-use Rattle.h5_model.proofs.Frames.{read-same}
 use Rattle.h5_model.proofs.Members.{all_both}
 use Rattle.h5_laws.specs.KeyEdits.{IsPut}
 use Rattle.h5_laws.specs.NameLadders.{key_text}
@@ -36,7 +33,7 @@ use Rattle.h5_group.specs.Retired.{entry_keys, name_keys}
 use Rattle.h5_group.specs.SymbolEdits.{IsSymbolsRewritten}
 use Rattle.h5_group.proofs.EntryFrames.{backs_same, fronts_same, internal_same, leaf_same, trees_kept}
 use Rattle.h5_group.proofs.EntryWays.{end_cut, ends_own}
-use Rattle.h5_group.proofs.ExactTrees.{keys_so, root_level_kept, told_kept}
+use Rattle.h5_group.proofs.ExactTrees.{keeps_kept, keys_so, root_level_kept, told_kept}
 use Rattle.h5_group.proofs.NameKeys.{keys_in_order, lowest_empty, name_low}
 use Rattle.h5_group.proofs.NewKeys.{each_keyed, exact_for, key_put, new_above, new_text}
 use Rattle.h5_group.proofs.SplitEntry.{insert_cut}
@@ -96,14 +93,9 @@ module _ (s t : Space) (table : SymbolTable) (node k : ℕ) (e : Entry) (set : I
   kind_is : kind_in t.bytes ≡ kind
   kind_is = ap group_kind (internal_same s t table links (offsets_of e ++ spare) blocks group node (take w.number list) (drop (suc w.number) list) cut set.moves)
 
-  nodes_same : AllByRecursion (λ n. node_at t.bytes kind n ≡ node_at s.bytes kind n) own
-  nodes_same = read-same s.bytes t.bytes (node_of kind) (node_length kind) own
-      (trees_kept s t table links (offsets_of e ++ spare) blocks group node (take w.number list) (drop (suc w.number) list) cut set.moves)
-
   keeps : (n : ℕ) → Owns own n → KeepsEntries s.bytes t.bytes kind n
-  keeps n owns =
-      let same = at_listed (λ m. node_at t.bytes kind m ≡ node_at s.bytes kind m) own n nodes_same owns in
-      (ap (λ (o : Node). o.keys) same, ap (λ (o : Node). o.children) same, ap (λ (o : Node). o.level) same)
+  keeps = keeps_kept s.bytes t.bytes kind own
+      (trees_kept s t table links (offsets_of e ++ spare) blocks group node (take w.number list) (drop (suc w.number) list) cut set.moves)
 
   abbrev IsSame : ℕ → Type 0
   IsSame at = symbols_at t.bytes leaf at ≡ symbols_at s.bytes leaf at

@@ -20,7 +20,6 @@ use Rattle.h5_model.proofs.Frames.{tree-same}
 use Rattle.h5_model.proofs.KLaws.{same_internal, same_leaf}
 use Rattle.h5_model.proofs.OneTree.{level_is}
 use Rattle.h5_model.proofs.RowLaws.{only_here}
-use Rattle.h5_heap.proofs.RefusedLaws.{empty_text}
 use Rattle.h5_laws.specs.KeyEdits.{IsPut}
 use Rattle.h5_laws.specs.NameLadders.{key_text, name_sides}
 use Rattle.h5_laws.proofs.KeyInstances.{name_let_in, name_through}
@@ -45,6 +44,7 @@ use Rattle.h5_group.proofs.ExactTrees.{keys_so, told_so}
 use Rattle.h5_group.proofs.GrownGroup.{entry_grown}
 use Rattle.h5_group.proofs.Ways.{all_inside}
 use Rattle.h5_group.proofs.MovedNames.{names_of}
+use Rattle.h5_group.proofs.NameKeys.{low_empty}
 use Rattle.h5_group.proofs.EntryOrder.{above_empty}
 
 -- ---- a group's blocks are there
@@ -56,16 +56,13 @@ module _ (s : Space) (table : SymbolTable) (links : List (List ℕ × Target)) (
   abbrev symbols : List Block
   symbols = map (symbol_block (leaf_k s.bytes)) (group.linked).symbol_nodes
 
-  group_inside : Inside (length s.bytes) blocks
-  group_inside = all_inside s table links spare blocks group
-
   -- a new block is taken beside them
   module _ (u : Space) (new : Block) (taken : Moves s u [] (new ∷ [])) where
     pub all_kept : Keeps s.bytes u.bytes blocks
-    all_kept = rest_kept s u table links spare blocks group [] (new ∷ []) blocks taken (λ p. refl) group_inside
+    all_kept = rest_kept s u table links spare blocks group [] (new ∷ []) blocks taken (λ p. refl) (all_inside s table links spare blocks group)
 
     pub all_apart : IsApart (superblock_block u.bytes ∷ new ∷ blocks) u.free (length u.bytes)
-    all_apart = group_apart s u table links spare blocks group [] (new ∷ []) blocks taken (λ p. refl) group_inside (new ∷ blocks) (λ p. refl)
+    all_apart = group_apart s u table links spare blocks group [] (new ∷ []) blocks taken (λ p. refl) (all_inside s table links spare blocks group) (new ∷ blocks) (λ p. refl)
 
     laid_kept : Keeps s.bytes u.bytes ((trees ++ symbols) ++ heap_blocks s.bytes table.heap)
     laid_kept = subst (Keeps s.bytes u.bytes) (group.linked).laid all_kept
@@ -180,9 +177,6 @@ module _ (s u t : Space) (table : SymbolTable) (links : List (List ℕ × Target
     abbrev new_rows : ℕ → Node
     new_rows = reading_of t.bytes kind all
 
-    low_text : key_text segment low ≡ []
-    low_text = ap (text_at segment) low_is ∙ empty_text segment (group.linked).listed.spans.empty
-
     high_text : key_text segment high ≡ x
     high_text = ap (text_at segment) high_is
 
@@ -190,7 +184,7 @@ module _ (s u t : Space) (table : SymbolTable) (links : List (List ℕ × Target
       ordered : AllByRecursion (λ at. IsOrdered new_rows S segment (new_rows at)) all
       ordered =
           let text : List ℕ → List ℕ = key_text segment in
-          let ends = name_let_in text x low high low_text high_text (above_empty x named) in
+          let ends = name_let_in text x low high (low_empty s table links (offsets_of e ++ spare) blocks group low low_is) high_text (above_empty x named) in
           group_ordered t.bytes kind root 0 all (new ∷ []) put.tree S segment
           (first_sorted (name_sides text) (λ (b : List (List ℕ)). b) (λ (b : List (List ℕ)). ⊤) x t.bytes kind root (names_at_child S segment) low high new
           keys children tt names ends.right ends.left (name_through text low high x ends.right ends.left)).0

@@ -6,7 +6,6 @@ use Rattle.std.specs.List.{AllByRecursion, flat_map}
 use Rattle.h5_bytes.specs.Blocks.{block, cover, Inside, Keeps}
 use Rattle.h5_bytes.specs.Texts.{text_at}
 use Rattle.h5_bytes.specs.declared.Block.{Block}
-use Rattle.h5_bytes.proofs.BlockLaws.{cover-append}
 use Rattle.h5_model.specs.Format.Addresses.{SymbolTable}
 use Rattle.h5_model.specs.Format.Superblock.{leaf_k, internal_k}
 use Rattle.h5_model.specs.Format.Heap.{HasNames, KeyNames, heap_blocks, heap_header, segment_of, segment_place, segment_size}
@@ -20,12 +19,12 @@ use Rattle.h5_laws.specs.KeyEdits.{IsPut}
 use Rattle.h5_space.specs.Moves.{Moves}
 use Rattle.h5_space.specs.Space.{Space}
 use Rattle.h5_btree.proofs.KeyedNames.{AreAscending, ascending_put}
-use Rattle.h5_btree.proofs.BlocksInside.{inside_held}
 use Rattle.h5_group.specs.Edited.{HasGroupMoved, IsGroupIn, IsLinkPut, offsets_of}
 use Rattle.h5_group.specs.Nodes.Trees.{group_nodes_blocks, kind_in}
 use Rattle.h5_group.proofs.EditFrames.{group_apart, group_moves, internal_kept, k_kept, leaf_kept, rest_kept, still_long}
 use Rattle.h5_group.proofs.LinkLists.{all_put, ascend_names, link_names, names_ascend, names_of_links}
 use Rattle.h5_group.proofs.MovedNames.{entry_named, names_of}
+use Rattle.h5_group.proofs.Ways.{heap_inside}
 
 -- other keys, which name what they may
 pub keys_named : (segment : List ℕ) (free : List Block) (names texts keys keys' loose : List ℕ) → HasNames segment free names texts keys loose
@@ -58,9 +57,7 @@ module _ (s t : Space) (table : SymbolTable) (links : List (List ℕ × Target))
   parted p = ap (cover p) (group.linked).laid
 
   pub within : Inside (length s.bytes) heap
-  within =
-      let size = (group.linked).listed.heap_form.size in
-      inside_held (length s.bytes) heap (λ p. omega (arith, group.apart p, parted p, cover-append p a heap)) (omega arith, (omega (arith, size), tt))
+  within = heap_inside s table links spare blocks group
 
   pub heap_kept : Keeps s.bytes t.bytes heap
   heap_kept = rest_kept s t table links spare blocks group a b heap moves parted within

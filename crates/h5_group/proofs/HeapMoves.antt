@@ -3,12 +3,12 @@ use Rattle.std.proofs.Common.{◌≡◌, ℕ, ◌+◌, ◌*◌, ◌^◌, ◌<◌
 use Rattle.std.specs.List.{AllByRecursion, Contains, flat_map}
 use Rattle.h5_bytes.specs.Blocks.{holds, cover, Inside, Keeps}
 use Rattle.h5_bytes.specs.declared.Block.{Block}
-use Rattle.h5_bytes.proofs.BlockLaws.{all_so, cover-append, holds-le, all_append, all_left, all_right}
+use Rattle.h5_bytes.proofs.BlockLaws.{all_so, cover-append, holds-le, all_left, all_right}
 use Rattle.h5_model.specs.Format.Addresses.{SymbolTable}
 use Rattle.h5_model.specs.Format.Superblock.{leaf_k, internal_k}
 use Rattle.h5_model.specs.Format.Heap.{HasNames, KeyNames, heap_header, segment_of, heap_blocks}
 use Rattle.h5_model.specs.Format.Rows.{Node, Reading, blank}
-use Rattle.h5_model.specs.Format.Nodes.{Kind, group_kind, node_at, node_block, node_length, node_of, reading_of, tree_blocks}
+use Rattle.h5_model.specs.Format.Nodes.{Kind, group_kind, node_at, node_length, node_of, reading_of, tree_blocks}
 use Rattle.h5_model.specs.Format.Symbols.{Entry, Target, IsSymbolNode, symbol_block, symbols_at, symbols_of, entries_of, texts_of}
 use Rattle.h5_model.specs.Format.Links.{AreLinks, HasLinks, Symbols, offset_in, key_offsets}
 use Rattle.h5_model.proofs.Frames.{reading-same, tree-same, read-same, each-same}
@@ -20,7 +20,6 @@ use Rattle.h5_space.specs.Moves.{Moves}
 use Rattle.h5_space.specs.Whole.{IsApart}
 use Rattle.h5_heap.specs.Edited.{IsStandingHeap, free_blocks}
 use Rattle.h5_heap.proofs.EditedLaws.{standing_heap}
-use Rattle.h5_btree.proofs.BlocksInside.{inside_held, made_long}
 use Rattle.h5_btree.proofs.KeyedKeys.{all_unmapped}
 use Rattle.h5_group.specs.Edited.{IsGroupIn, HasGroupMoved}
 use Rattle.h5_group.specs.KeptNodes.{AreNodesKept, keys_told}
@@ -29,6 +28,7 @@ use Rattle.h5_group.specs.Told.{nodes_told, symbol_nodes_told}
 use Rattle.h5_group.proofs.ToldLaws.{nodes_are_told, symbol_nodes_are_told}
 use Rattle.h5_group.proofs.EditFrames.{rest_kept, k_kept, leaf_kept, internal_kept, group_apart, group_moves, still_long}
 use Rattle.h5_group.proofs.HeapLinks.{IsTextKept, begin_kept, keys_kept, links_stay}
+use Rattle.h5_group.proofs.Ways.{heap_inside, nodes_inside}
 
 -- the offsets in the keys of a tree's nodes, as they stand
 pub keys_there : (image : List ℕ) (kind : Kind) (ns : List ℕ) → key_offsets (node_at image kind) ns ≡ key_offsets (reading_of image kind ns) ns
@@ -97,17 +97,13 @@ module _ (s : Space) (table : SymbolTable) (links : List (List ℕ × Target)) (
   all_apart p = omega (arith, g.apart p, parted p, cover-append p old_heap node_blocks)
 
   within : Inside (length s.bytes) node_blocks
-  within = inside_held (length s.bytes) node_blocks (λ p. omega (arith, all_apart p))
-      (all_append (λ (b : Block). 1 ≤ b.len) (tree_blocks kind owned) (map (symbol_block leaf) symbol_nodes) (made_long (node_block kind) owned (λ n. omega arith)) (made_long (symbol_block leaf) symbol_nodes (λ n. omega arith)))
-
-  heap_within : Inside (length s.bytes) old_heap
-  heap_within = inside_held (length s.bytes) old_heap (λ p. omega (arith, all_apart p)) (omega arith, (omega (arith, (g.linked).listed.heap_form.size), tt))
+  within = nodes_inside s table links spare blocks g
 
   pub heap_apart : IsApart old_heap s.free (length s.bytes)
   heap_apart p = omega (arith, all_apart p)
 
   both : IsStandingHeap s.bytes table.heap × (free_blocks s.bytes table.heap ≡ (g.linked).listed.free)
-  both = standing_heap s.bytes table.heap (g.linked).listed.free heap_within (λ p. omega (arith, all_apart p, holds-le p 0 (length s.bytes))) (g.linked).listed.heap_form
+  both = standing_heap s.bytes table.heap (g.linked).listed.free (heap_inside s table links spare blocks g) (λ p. omega (arith, all_apart p, holds-le p 0 (length s.bytes))) (g.linked).listed.heap_form
 
   -- it stands, and its names are sound
   pub heap_stands : IsStandingHeap s.bytes table.heap

@@ -1,14 +1,14 @@
 -- Ways down a group's tree that stay where its heap is edited, and where keys of its nodes give way.
-use Rattle.std.proofs.Common.{◌≡◌, ℕ, ◌+◌, ◌*◌, ◌^◌, ◌<◌, ◌≤◌, Bool, true, false, List, [], ◌∷◌, ◌++◌, length, map, slice_index, refl, sym, ap, ◌∙◌, subst, arith, ◌==◌, if◌then◌else◌}
+use Rattle.std.proofs.Common.{◌≡◌, ℕ, ◌+◌, ◌*◌, ◌^◌, ◌<◌, Bool, true, false, List, [], ◌∷◌, ◌++◌, length, map, slice_index, refl, sym, ap, ◌∙◌, subst, arith, ◌==◌, if◌then◌else◌}
 use Rattle.std.specs.List.{AllByRecursion, Contains, list_any}
 use Rattle.h5_bytes.specs.Bytes.{undefined_address}
 use Rattle.h5_bytes.specs.Blocks.{cover, Inside, IsKept, Keeps}
 use Rattle.h5_bytes.specs.declared.Block.{Block}
-use Rattle.h5_bytes.proofs.BlockLaws.{all_append, all_left, all_right, cover-append}
+use Rattle.h5_bytes.proofs.BlockLaws.{all_left, all_right, cover-append}
 use Rattle.h5_model.specs.Format.Addresses.{SymbolTable}
 use Rattle.h5_model.specs.Format.Superblock.{leaf_k}
 use Rattle.h5_model.specs.Format.Heap.{heap_blocks}
-use Rattle.h5_model.specs.Format.Nodes.{HasTree, Kind, group_kind, node_at, node_length, node_of, reading_of, tree_blocks}
+use Rattle.h5_model.specs.Format.Nodes.{HasTree, Kind, group_kind, node_at, reading_of, tree_blocks}
 use Rattle.h5_model.specs.Format.Rows.{Node, Reading, blank}
 use Rattle.h5_model.specs.Format.Symbols.{Target, entries_of, symbol_block, symbols_at}
 use Rattle.h5_model.proofs.RowLaws.{at_listed}
@@ -17,7 +17,6 @@ use Rattle.h5_laws.proofs.Lists.{In, in_all, in_contains}
 use Rattle.h5_space.specs.Moves.{Moves}
 use Rattle.h5_space.specs.Space.{Space}
 use Rattle.h5_btree.specs.Climb.{KeepsRows}
-use Rattle.h5_btree.specs.Insertion.{KeepsEntries, Owns}
 use Rattle.h5_btree.specs.Removal.{EndsInTree}
 use Rattle.h5_btree.specs.declared.way.Step.{Step}
 use Rattle.h5_btree.proofs.KeyedWays.{children-keyed, IsWay-keyed}
@@ -29,9 +28,9 @@ use Rattle.h5_group.specs.Told.{symbol_nodes_told}
 use Rattle.h5_group.specs.Ways.{AreWaysKept}
 use Rattle.h5_group.proofs.EditFrames.{internal_kept, leaf_kept, rest_kept}
 use Rattle.h5_group.proofs.EntryWays.{below_kept, ends_kept, owned_same}
-use Rattle.h5_group.proofs.ExactTrees.{told_kept}
+use Rattle.h5_group.proofs.ExactTrees.{keeps_kept, told_kept}
 use Rattle.h5_group.proofs.ToldLaws.{symbol_nodes_are_told}
-use Rattle.h5_group.proofs.Ways.{cover_parts, symbols_inside, trees_inside}
+use Rattle.h5_group.proofs.Ways.{cover_parts, nodes_inside}
 
 -- ---- one step after another
 
@@ -70,7 +69,7 @@ module _ (s t : Space) (table : SymbolTable) (links : List (List ℕ × Target))
   parted p = let all = cover_parts s table links spare blocks g p in omega (arith, all, cover-append p heap (trees ++ symbols), cover-append p trees symbols)
 
   within : Inside (length s.bytes) (trees ++ symbols)
-  within = all_append (λ (b : Block). b.at + b.len ≤ length s.bytes) trees symbols (trees_inside s table links spare blocks g) (symbols_inside s table links spare blocks g)
+  within = nodes_inside s table links spare blocks g
 
   kept : Keeps s.bytes t.bytes (trees ++ symbols)
   kept = rest_kept s t table links spare blocks g heap heap (trees ++ symbols) moves parted within
@@ -83,14 +82,6 @@ module _ (s t : Space) (table : SymbolTable) (links : List (List ℕ × Target))
 
   kind_same : kind_in t.bytes ≡ kind
   kind_same = ap group_kind (internal_kept s t table links spare blocks g heap heap (trees ++ symbols) moves parted within)
-
-  nodes_same : AllByRecursion (λ n. node_at t.bytes kind n ≡ node_at s.bytes kind n) owned
-  nodes_same = read-same s.bytes t.bytes (node_of kind) (node_length kind) owned trees_kept
-
-  keeps : (n : ℕ) → Owns owned n → KeepsEntries s.bytes t.bytes kind n
-  keeps n owns =
-      let here = at_listed (λ m. node_at t.bytes kind m ≡ node_at s.bytes kind m) owned n nodes_same owns in
-      (ap (λ (o : Node). o.keys) here, ap (λ (o : Node). o.children) here, ap (λ (o : Node). o.level) here)
 
   module _ (way : List Step) (level : ℕ) (owned' list : List ℕ) (number : ℕ) (e : EndsInTree s kind table.tree level way owned' list number) where
     own_kept : Keeps s.bytes t.bytes (tree_blocks kind owned')
@@ -113,7 +104,7 @@ module _ (s t : Space) (table : SymbolTable) (links : List (List ℕ × Target))
     below = λ step above level owned' list number e.
         ap (λ (k : Kind). slice_index (node_at t.bytes k step.node).children step.place) kind_same
         ∙ ap (λ (o : Node). slice_index o.children step.place) (step_kept (step ∷ above) level owned' list number e).0;
-    told = told_kept s.bytes t.bytes table leaf_same kind_same (g.linked).level owned (g.linked).symbol_nodes (g.linked).tree keeps;
+    told = told_kept s.bytes t.bytes table leaf_same kind_same (g.linked).level owned (g.linked).symbol_nodes (g.linked).tree (keeps_kept s.bytes t.bytes kind owned trees_kept);
     entries = λ node there.
         ap (λ (l : ℕ). symbols_at t.bytes l node) leaf_same
         ∙ in_all (λ at. symbols_at t.bytes leaf at ≡ symbols_at s.bytes leaf at) node (g.linked).symbol_nodes symbols_same

@@ -24,10 +24,10 @@ use Rattle.h5_group.specs.Nodes.Trees.{kind_in, group_nodes_blocks}
 use Rattle.h5_group.specs.Texts.Named.{AreTexts}
 use Rattle.h5_group.specs.Order.Ordered.{AreNamesOrdered}
 use Rattle.h5_group.specs.Links.{IsGroupRead}
-use Rattle.h5_group.specs.Told.{nodes_told, symbol_nodes_told, links_told, blocks_told}
+use Rattle.h5_group.specs.Told.{nodes_told, symbol_nodes_told, blocks_told}
 use Rattle.h5_laws.proofs.NameLadders.{own_order}
 use Rattle.h5_btree.proofs.KeyedKeys.{all_mapped}
-use Rattle.h5_group.proofs.ToldLaws.{links_are_told}
+use Rattle.h5_group.proofs.ToldLaws.{told_linked}
 use Rattle.h5_group.proofs.NodeLaws.GroupLaws.{nodes_formed, entries_known}
 
 module _ (image : List ℕ) (table : SymbolTable) (owned symbol_nodes : List ℕ) (tree : IsTree image OfGroup table.tree owned symbol_nodes) where
@@ -48,9 +48,6 @@ module _ (image : List ℕ) (table : SymbolTable) (owned symbol_nodes : List ℕ
 
   abbrev links : List (List ℕ × Target)
   links = map (link_of segment) entries
-
-  own_are : entries ≡ flat_map own symbol_nodes
-  own_are = own_entries image symbol_nodes
 
   level_is_told : level_at image (kind_in image) table.tree ≡ tree.level
   level_is_told = level_is image (kind_in image) table.tree tree.level owned symbol_nodes tree.tree
@@ -87,15 +84,15 @@ module _ (image : List ℕ) (table : SymbolTable) (owned symbol_nodes : List ℕ
 
     listed : AreLinks W own (heap_header image table.heap) segment owned symbol_nodes links
     listed = record {
-      cached = subst (AllByRecursion IsEntry) own_are (entries_known image symbol_nodes tree.formed);
-      all = ap (map (link_of segment)) own_are;
+      cached = subst (AllByRecursion IsEntry) (own_entries image symbol_nodes) (entries_known image symbol_nodes tree.formed);
+      all = ap (map (link_of segment)) (own_entries image symbol_nodes);
       ascending = order.ascending;
       named = all_mapped (λ (l : List ℕ × Target). IsTrue (is_name l.0)) (link_of segment) entries texts.named;
       ordered = own_order image segment (leaf_k image) (kind_in image) table.tree tree.level owned symbol_nodes tree.tree order.ordered;
       free = free;
       loose = texts.loose;
       heap_form = heap;
-      spans = subst (λ (ks : List ℕ). Spans (flat_map own symbol_nodes) ks) keys_are (subst (λ (es : List Entry). Spans es (key_offsets V owned)) own_are texts.spans);
+      spans = subst (λ (ks : List ℕ). Spans (flat_map own symbol_nodes) ks) keys_are (subst (λ (es : List Entry). Spans es (key_offsets V owned)) (own_entries image symbol_nodes) texts.spans);
     }
 
     linked : HasLinks image (leaf_k image) (internal_k image) table.tree table.heap links blocks
@@ -109,14 +106,10 @@ module _ (image : List ℕ) (table : SymbolTable) (owned symbol_nodes : List ℕ
       laid = refl;
     }
 
-    told : HasLinks image (leaf_k image) (internal_k image) table.tree table.heap (links_told image table) (blocks_told image table)
-    told = subst (HasLinks image (leaf_k image) (internal_k image) table.tree table.heap (links_told image table)) blocks_are
-        (subst (λ (ls : List (List ℕ × Target)). HasLinks image (leaf_k image) (internal_k image) table.tree table.heap ls blocks) (links_are_told image table links blocks linked) linked)
-
     pub group_read : Inside (length image) (group_nodes_blocks image owned symbol_nodes) → Inside (length image) (heap_blocks image table.heap) → internal_k image ≤ highest_k
         → IsGroupRead image table
     group_read trees inside few = record {
-      linked = told;
+      linked = told_linked image table links blocks linked;
       inside = subst (Inside (length image)) blocks_are
           (all_append (λ (b : Block). b.at + b.len ≤ length image) (group_nodes_blocks image owned symbol_nodes) (heap_blocks image table.heap) trees inside);
       few = few;

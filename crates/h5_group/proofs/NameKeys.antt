@@ -90,8 +90,12 @@ module _ (s : Space) (table : SymbolTable) (links : List (List ℕ × Target)) (
       let own : symbols_at s.bytes leaf c ≡ S c = in_all (λ n. symbols_at s.bytes leaf n ≡ S n) c list (only_here [] (symbols_at s.bytes leaf) list) in_list in
       ap (map (λ (e : Entry). text_at segment e.name)) (append-nil (S c) ∙ sym own) ∙ texts_of_keys (symbols_at s.bytes leaf c) (name_low c in_list))
 
+  -- the key with the offset 0 names the empty text
+  pub low_empty : (low : List ℕ) → offset_in low ≡ 0 → key_text segment low ≡ []
+  low_empty low is = ap (text_at segment) is ∙ empty_text segment (group.linked).listed.spans.empty
+
   pub lowest_empty : key_text segment lowest_key ≡ []
-  lowest_empty = ap (text_at segment) lowest_is ∙ empty_text segment (group.linked).listed.spans.empty
+  lowest_empty = low_empty lowest_key lowest_is
 
   -- THE KEYS OF ITS TREE ARE IN ORDER with those of its names
   pub keys_in_order : IsInOrder (key_sides (key_text segment)) (λ (b : List (List ℕ)). b) (λ (b : List (List ℕ)). ⊤) s.bytes (kind_in s.bytes) (λ key c. entry_keys leaf s.bytes c)

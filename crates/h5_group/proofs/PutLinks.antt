@@ -5,7 +5,7 @@ use Rattle.std.proofs.lemmas.Bool.{cases_lt}
 use Rattle.h5_bytes.specs.declared.Block.{Block}
 use Rattle.h5_model.specs.Format.Limits.{most_bytes}
 use Rattle.h5_model.specs.Format.Addresses.{SymbolTable}
-use Rattle.h5_model.specs.Format.Superblock.{leaf_k, internal_k, k_values}
+use Rattle.h5_model.specs.Format.Superblock.{leaf_k, k_values}
 use Rattle.h5_model.specs.Format.Heap.{segment_block, segment_of}
 use Rattle.h5_model.specs.Format.Nodes.{node_length}
 use Rattle.h5_model.specs.Format.Sizes.{symbol_node}
@@ -89,22 +89,16 @@ module _ (s t : Space) (table : SymbolTable) (links : List (List ℕ × Target))
 
 module _ (s t : Space) (table : SymbolTable) (occupied : ℕ) (spent : Spends s t (2 * (segment_block s.bytes table.heap).len + occupied + 16) 2)
     (k_same : k_values t.bytes ≡ k_values s.bytes) (steps : ℕ) (few : steps ≤ 16) where
-  internal : internal_k t.bytes ≡ internal_k s.bytes
-  internal = same_internal t.bytes s.bytes k_same
-
-  leaf : leaf_k t.bytes ≡ leaf_k s.bytes
-  leaf = same_leaf t.bytes s.bytes k_same
-
   rows : (steps + 1) * node_length (kind_in t.bytes) ≤ 17 * node_length (kind_in t.bytes)
   rows = mul-le-mul_right (node_length (kind_in t.bytes)) (omega (arith, few))
 
   pub room_left : link_room s.bytes table occupied ≤ s.room_bytes → symbol_node (leaf_k t.bytes) + (steps + 1) * node_length (kind_in t.bytes) ≤ t.room_bytes
-  room_left room = let left = spent.bytes_left in omega (arith, room, left, rows, internal, leaf)
+  room_left room = let left = spent.bytes_left in omega (arith, room, left, rows, same_internal t.bytes s.bytes k_same, same_leaf t.bytes s.bytes k_same)
 
   pub still_small : length s.bytes + link_room s.bytes table occupied ≤ most_bytes
       → length t.bytes + (symbol_node (leaf_k t.bytes) + (steps + 1) * node_length (kind_in t.bytes)) ≤ most_bytes
-  still_small room = let grown = spent.grown in omega (arith, room, grown, rows, internal, leaf)
+  still_small room = let grown = spent.grown in omega (arith, room, grown, rows, same_internal t.bytes s.bytes k_same, same_leaf t.bytes s.bytes k_same)
 
   pub spent_then : (u : Space) → Spends t u (symbol_node (leaf_k t.bytes) + (steps + 1) * node_length (kind_in t.bytes)) (steps + 2) → Spends s u (link_room s.bytes table occupied) 20
   spent_then u then =
-      spends_within s u _ _ _ _ (omega (arith, rows, internal, leaf)) (omega (arith, few)) (spends_then s t u _ _ _ _ spent then)
+      spends_within s u _ _ _ _ (omega (arith, rows, same_internal t.bytes s.bytes k_same, same_leaf t.bytes s.bytes k_same)) (omega (arith, few)) (spends_then s t u _ _ _ _ spent then)

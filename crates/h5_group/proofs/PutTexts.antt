@@ -1,5 +1,5 @@
 -- The texts of a link that come into a group's heap, one after another.
-use Rattle.std.proofs.Common.{◌≡◌, ℕ, zero, suc, ◌^◌, ◌<◌, ◌≤◌, ◌==◌, ◌||◌, ◌&&◌, not, Bool, true, false, List, [], ◌∷◌, ◌++◌, length, slice_index, refl, sym, ap, ap₂, ◌∙◌, subst, arith}
+use Rattle.std.proofs.Common.{◌≡◌, ℕ, ◌^◌, ◌<◌, ◌≤◌, ◌==◌, ◌||◌, ◌&&◌, not, Bool, true, false, List, [], ◌∷◌, ◌++◌, length, slice_index, refl, sym, ap, ap₂, ◌∙◌, subst, arith}
 use Rattle.std.specs.List.{AllByRecursion, list_any}
 use Rattle.h5_bytes.specs.Bytes.{number_at}
 use Rattle.h5_bytes.specs.Numbers.{zeros}
@@ -8,7 +8,7 @@ use Rattle.h5_bytes.specs.declared.Block.{Block}
 use Rattle.h5_bytes.proofs.BlockLaws.{all_so}
 use Rattle.h5_model.specs.Edits.Refusal.{has_zero}
 use Rattle.h5_model.specs.Format.Addresses.{SymbolTable}
-use Rattle.h5_model.specs.Format.Superblock.{internal_k, k_values}
+use Rattle.h5_model.specs.Format.Superblock.{k_values}
 use Rattle.h5_model.specs.Format.Links.{offset_in}
 use Rattle.h5_model.specs.Format.Nodes.{Kind, group_kind, node_at}
 use Rattle.h5_model.specs.Format.Rows.{Node, Reading, leaves, nodes}
@@ -33,6 +33,8 @@ use Rattle.h5_group.specs.Nodes.Trees.{kind_in}
 use Rattle.h5_group.specs.Told.{symbol_nodes_told}
 use Rattle.h5_group.proofs.TextEdits.{spare_span}
 use Rattle.h5_group.proofs.Ways.{heap_inside}
+use Rattle.h5_group.proofs.ExactTrees.{root_of}
+use Rattle.h5_group.proofs.PutWays.{same_kind}
 
 -- ---- a name has no zero byte
 
@@ -96,12 +98,6 @@ module _ (s t : Space) (table : SymbolTable) (links : List (List ℕ × Target))
   abbrev W : Reading
   W = node_at t.bytes (kind_in t.bytes)
 
-  internal : internal_k t.bytes ≡ internal_k s.bytes
-  internal = same_internal t.bytes s.bytes k_same
-
-  node_there : (n : ℕ) → W n ≡ node_at t.bytes (kind_in s.bytes) n
-  node_there n = ap (λ (k : ℕ). node_at t.bytes (group_kind k) n) internal
-
   abbrev IsKeptNode : ℕ → Type 0
   IsKeptNode n = (node_at t.bytes (kind_in s.bytes) n ≡ V n) × AllByRecursion (λ key. heap_text t table (offset_in key) ≡ heap_text s table (offset_in key)) (V n).keys
 
@@ -112,11 +108,7 @@ module _ (s t : Space) (table : SymbolTable) (links : List (List ℕ × Target))
   same_nodes =
       let has = g.linked in
       subst (AllByRecursion IsSameNode) (owned_is s.bytes (kind_in s.bytes) table.tree has.level has.owned has.symbol_nodes has.tree)
-      (all_so IsKeptNode IsSameNode has.owned (λ n is. node_there n ∙ is.0) kept)
-
-  first_node : (level : ℕ) → AllByRecursion IsSameNode (nodes V level (table.tree ∷ [])) → IsSameNode table.tree
-  first_node zero all = all.0
-  first_node (suc level) all = all.0
+      (all_so IsKeptNode IsSameNode has.owned (λ n is. same_kind s.bytes t.bytes k_same n ∙ is.0) kept)
 
   -- the tree has the same nodes
   pub owned_stays : (h.linked).owned ≡ (g.linked).owned
@@ -125,7 +117,7 @@ module _ (s t : Space) (table : SymbolTable) (links : List (List ℕ × Target))
       let new = h.linked in
       let level : new.level ≡ old.level
       = sym (level_is t.bytes (kind_in t.bytes) table.tree new.level new.owned new.symbol_nodes new.tree)
-      ∙ ap (λ (n : Node). n.level) (first_node old.level same_nodes)
+      ∙ ap (λ (n : Node). n.level) (root_of IsSameNode V old.level table.tree same_nodes)
       ∙ level_is s.bytes (kind_in s.bytes) table.tree old.level old.owned old.symbol_nodes old.tree in
       owned_is t.bytes (kind_in t.bytes) table.tree new.level new.owned new.symbol_nodes new.tree
       ∙ ap (λ (l : ℕ). nodes W l (table.tree ∷ [])) level ∙ nodes-same V W old.level (table.tree ∷ []) same_nodes
@@ -135,7 +127,7 @@ module _ (s t : Space) (table : SymbolTable) (links : List (List ℕ × Target))
   pub symbols_told : symbol_nodes_told t.bytes table ≡ symbol_nodes_told s.bytes table
   symbols_told =
       let old = g.linked in
-      let root : (W table.tree).level ≡ (V table.tree).level = ap (λ (n : Node). n.level) (first_node old.level same_nodes) in
+      let root : (W table.tree).level ≡ (V table.tree).level = ap (λ (n : Node). n.level) (root_of IsSameNode V old.level table.tree same_nodes) in
       let level = level_is s.bytes (kind_in s.bytes) table.tree old.level old.owned old.symbol_nodes old.tree in
       ap (λ (l : ℕ). leaves W l (table.tree ∷ [])) (root ∙ level) ∙ leaves-same V W old.level (table.tree ∷ []) same_nodes
       ∙ ap (λ (l : ℕ). leaves V l (table.tree ∷ [])) (sym level)
@@ -170,5 +162,5 @@ module _ (s t : Space) (table : SymbolTable) (links : List (List ℕ × Target))
     nodes_then =
         let owned = (g.linked).owned in
         let later : AllByRecursion (IsKeptBy (kind_in s.bytes)) owned
-        = subst (λ (k : ℕ). AllByRecursion (IsKeptBy (group_kind k)) owned) internal (subst (AllByRecursion (IsKeptBy (kind_in t.bytes))) owned_stays then) in
+        = subst (λ (k : ℕ). AllByRecursion (IsKeptBy (group_kind k)) owned) (same_internal t.bytes s.bytes k_same) (subst (AllByRecursion (IsKeptBy (kind_in t.bytes))) owned_stays then) in
         all_so AreBoth IsKeptSince owned since (all_both IsKeptNode (IsKeptBy (kind_in s.bytes)) owned kept later)

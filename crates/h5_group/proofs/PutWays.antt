@@ -6,11 +6,11 @@ use Rattle.std.specs.Ordering.{is_lt, nat_cmp}
 use Rattle.h5_bytes.specs.declared.Block.{Block}
 use Rattle.h5_bytes.proofs.BlockLaws.{all_left, all_right, all_so}
 use Rattle.h5_model.specs.Format.Addresses.{SymbolTable}
-use Rattle.h5_model.specs.Format.Superblock.{leaf_k, internal_k, k_values}
+use Rattle.h5_model.specs.Format.Superblock.{leaf_k, k_values}
 use Rattle.h5_model.specs.Format.Heap.{segment_of}
 use Rattle.h5_model.specs.Format.Links.{NotAfter, IsOrdered, key_name, offset_in}
 use Rattle.h5_model.specs.Format.Nodes.{Kind, group_kind, node_at, node_bytes}
-use Rattle.h5_model.specs.Format.Rows.{Node, Reading, nodes}
+use Rattle.h5_model.specs.Format.Rows.{Node, Reading}
 use Rattle.h5_model.specs.Format.Symbols.{Target, symbols_at}
 use Rattle.h5_model.proofs.OneTree.{one_level, one_owned, level_is, owned_is}
 use Rattle.h5_model.proofs.RowLaws.{at_listed}
@@ -37,6 +37,7 @@ use Rattle.h5_group.specs.Links.{IsGroupRead}
 use Rattle.h5_group.proofs.DropCalls.{end_told}
 use Rattle.h5_group.proofs.Standing.{nodes_ordered}
 use Rattle.h5_group.proofs.Ways.{group_read, way_of}
+use Rattle.h5_group.proofs.ExactTrees.{root_of}
 
 -- ---- one way at most
 
@@ -100,6 +101,10 @@ pub full_kept : (old new : List ℕ) (kind : Kind) (way : List Step) → AllByRe
 full_kept old new kind [] same full = tt
 full_kept old new kind (step ∷ way) same full = (ap (λ (n : Node). length n.children) (sym same.0) ∙ full.0, full_kept old new kind way same.1 full.1)
 
+-- a node reads by the kind of before, where the K values stay
+pub same_kind : (old new : List ℕ) → k_values new ≡ k_values old → (n : ℕ) → node_at new (kind_in new) n ≡ node_at new (kind_in old) n
+same_kind old new same n = ap (λ (k : ℕ). node_at new (group_kind k) n) (same_internal new old same)
+
 -- ---- a group
 
 module _ (s : Space) (table : SymbolTable) (links : List (List ℕ × Target)) (spare : List ℕ) (blocks : List Block) (g : IsGroupIn s table links spare blocks) (name : List ℕ) where
@@ -137,10 +142,6 @@ module _ (s : Space) (table : SymbolTable) (links : List (List ℕ × Target)) (
   abbrev IsKeptNode : Space → ℕ → Type 0
   IsKeptNode t n = (node_at t.bytes kind n ≡ V n) × AllByRecursion (λ key. heap_text t table (offset_in key) ≡ heap_text s table (offset_in key)) (V n).keys
 
-  first_node : (P : ℕ → Type 0) (level : ℕ) → AllByRecursion P (nodes V level (table.tree ∷ [])) → P table.tree
-  first_node P zero all = all.0
-  first_node P (suc level) all = all.0
-
   -- ---- where its nodes read as before and their keys name the same texts
 
   module _ (t : Space) (links' : List (List ℕ × Target)) (spare' : List ℕ) (blocks' : List Block) (h : IsGroupIn t table links' spare' blocks')
@@ -148,18 +149,12 @@ module _ (s : Space) (table : SymbolTable) (links : List (List ℕ × Target)) (
     abbrev W : Reading
     W = node_at t.bytes (kind_in t.bytes)
 
-    internal : internal_k t.bytes ≡ internal_k s.bytes
-    internal = same_internal t.bytes s.bytes k_same
-
-    node_there : (n : ℕ) → W n ≡ node_at t.bytes kind n
-    node_there n = ap (λ (k : ℕ). node_at t.bytes (group_kind k) n) internal
-
     -- the root reads as before
     pub root_stays : W table.tree ≡ V table.tree
     root_stays =
         let has = g.linked in
-        node_there table.tree
-        ∙ (first_node (IsKeptNode t) has.level (subst (AllByRecursion (IsKeptNode t)) (owned_is s.bytes kind table.tree has.level has.owned has.symbol_nodes has.tree) kept)).0
+        same_kind s.bytes t.bytes k_same table.tree
+        ∙ (root_of (IsKeptNode t) V has.level table.tree (subst (AllByRecursion (IsKeptNode t)) (owned_is s.bytes kind table.tree has.level has.owned has.symbol_nodes has.tree) kept)).0
 
     module _ (way : List Step) (w : IsWayOf s table name way) where
       owned_is_own : (g.linked).owned ≡ w.owned
@@ -179,7 +174,7 @@ module _ (s : Space) (table : SymbolTable) (links : List (List ℕ × Target)) (
           let bytes = node_bytes s.bytes kind step.node in
           let keys = length-keys kind bytes (V step.node) refl in
           let children = length-children kind bytes (V step.node) refl in (
-            node_there step.node ∙ is.0,
+            same_kind s.bytes t.bytes k_same step.node ∙ is.0,
             omega (arith, keys, children),
             all_so (λ key. heap_text t table (offset_in key) ≡ heap_text s table (offset_in key)) (λ key. behind_of t table name key ≡ behind_of s table name key) (V step.node).keys
                 (λ key same. ap (λ (text : List ℕ). is_lt (slice_cmp nat_cmp text name)) same) is.1,
@@ -200,14 +195,14 @@ module _ (s : Space) (table : SymbolTable) (links : List (List ℕ × Target)) (
       full_before full =
           full_kept s.bytes t.bytes kind way
           (all_so (λ (step : Step). IsKeptNode t step.node) (λ (step : Step). node_at t.bytes kind step.node ≡ V step.node) way (λ step is. is.0) steps_kept)
-          (subst (λ (k : ℕ). IsFullWay t.bytes (group_kind k) way) internal full)
+          (subst (λ (k : ℕ). IsFullWay t.bytes (group_kind k) way) (same_internal t.bytes s.bytes k_same) full)
 
       -- with the symbol node at its end as it was
       module _ (step : Step) (above : List Step) (is : way ≡ step ∷ above) where
         pub below_stays : node_below t table step ≡ node_below s table step
         below_stays =
             let first = (subst (AllByRecursion (λ (st : Step). IsKeptNode t st.node)) is steps_kept).0 in
-            ap (λ (n : Node). slice_index n.children step.place) (node_there step.node ∙ first.0)
+            ap (λ (n : Node). slice_index n.children step.place) (same_kind s.bytes t.bytes k_same step.node ∙ first.0)
 
         abbrev IsKeptAt : ℕ → Type 0
         IsKeptAt n = symbols_at t.bytes (leaf_k t.bytes) n ≡ symbols_at s.bytes (leaf_k s.bytes) n

@@ -30,6 +30,7 @@ use Rattle.h5_group.proofs.ExactTrees.{keys_so, told_so}
 use Rattle.h5_group.proofs.KeptWays.{IsKeyed, ends_keyed}
 use Rattle.h5_group.proofs.ToldLaws.{symbol_nodes_are_told}
 use Rattle.h5_group.proofs.TreeMoves.{entries_kept, kind_now, leaf_now}
+use Rattle.h5_group.proofs.Ways.{level_there}
 
 module _ (s t : Space) (table : SymbolTable) (links : List (List ℕ × Target)) (spare : List ℕ) (blocks : List Block) (group : IsGroupIn s table links spare blocks) (offset : ℕ)
     (is : IsTreeRetired (is_of offset) (entry_keys (leaf_k s.bytes)) s t (kind_in s.bytes) table.tree (group.linked).level (group.linked).owned (group.linked).symbol_nodes)
@@ -64,9 +65,6 @@ module _ (s t : Space) (table : SymbolTable) (links : List (List ℕ × Target))
   same : AllByRecursion (λ at. symbols_at t.bytes leaf at ≡ symbols_at s.bytes leaf at) list
   same = entries_kept s t table links spare blocks group is.moves
 
-  was_level : (V table.tree).level ≡ level
-  was_level = level_is s.bytes kind table.tree level owned list (group.linked).tree
-
   now_level : (W table.tree).level ≡ level
   now_level = level_is t.bytes kind table.tree level owned list is.tree
 
@@ -75,7 +73,7 @@ module _ (s t : Space) (table : SymbolTable) (links : List (List ℕ × Target))
   pub exact_retired : AreExactBut offset s.bytes table → AreGroupKeys (λ key. ⊥) t.bytes table
   exact_retired exact =
       let here : AreKeysExact (λ key. is_of offset key ≡ true) (entry_keys leaf s.bytes) V level table.tree
-      = subst (λ (l : ℕ). AreKeysExact (λ key. is_of offset key ≡ true) (entry_keys leaf s.bytes) V l table.tree) was_level exact in
+      = subst (λ (l : ℕ). AreKeysExact (λ key. is_of offset key ≡ true) (entry_keys leaf s.bytes) V l table.tree) (level_there s table links spare blocks group) exact in
       let then : AreKeysExact (λ key. ⊥) (entry_keys leaf s.bytes) W level table.tree
       = retired_exact (is_of offset) (entry_keys leaf) s t kind table.tree level owned list is (λ key. is_of offset key ≡ true) (λ key. ⊥) (λ key hit no. no hit) here in
       let there : AreKeysExact (λ key. ⊥) (entry_keys leaf t.bytes) W level table.tree
@@ -96,7 +94,7 @@ module _ (s t : Space) (table : SymbolTable) (links : List (List ℕ × Target))
     way_kept =
         let low = group.short in
         let now = ends_keyed s t kind table.tree level way owned list number own keyed is.tree is.moves (omega (arith, low, short)) in
-        let up : level' ≡ level = sym (level_is s.bytes kind table.tree level' owned' list' e.tree) ∙ was_level in
+        let up : level' ≡ level = sym (level_is s.bytes kind table.tree level' owned' list' e.tree) ∙ level_there s table links spare blocks group in
         subst (λ (k : Kind). EndsInTree t k table.tree level' way owned' list' number) (sym kind_same)
         (subst (λ (l : ℕ). EndsInTree t kind table.tree l way owned' list' number) (sym up)
         (subst (λ (ns : List ℕ). EndsInTree t kind table.tree level way ns list' number) (sym (owned_same s table links spare blocks group level' way owned' list' number e))

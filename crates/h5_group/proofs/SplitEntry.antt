@@ -23,12 +23,13 @@ use Rattle.h5_btree.specs.Removal.{EndsInTree}
 use Rattle.h5_btree.specs.declared.way.Step.{Step}
 use Rattle.h5_btree.proofs.HalfLists.{halves_long, left_bounds}
 use Rattle.h5_btree.proofs.KeyedGrown.{insert_behind}
+use Rattle.h5_btree.proofs.WayEnds.{end_listed}
 use Rattle.h5_snod.specs.Names.{IsPlace, entry_names}
 use Rattle.h5_group.specs.Edited.{HasEntryPut, HasGroupMoved, IsGroupIn, IsLinkPut, IsWayFor, offsets_of}
 use Rattle.h5_group.specs.Exact.{HasExactKeys, HasKeysFor}
 use Rattle.h5_group.specs.Nodes.Trees.{kind_in}
 use Rattle.h5_group.specs.Split.{IsCutInTwo, follows_in}
-use Rattle.h5_group.proofs.EntryWays.{end_is, end_low, ends_own}
+use Rattle.h5_group.proofs.EntryWays.{ends_own}
 use Rattle.h5_group.proofs.EntryFrames.{entries_cut}
 use Rattle.h5_group.proofs.ExactTrees.{keys_so, told_so}
 use Rattle.h5_group.proofs.GrownGroup.{entry_grown}
@@ -157,9 +158,9 @@ module _ (s u t : Space) (table : SymbolTable) (e : Entry) (j new : ℕ) (way : 
     list_is : insert listed (w.number + 1) new ≡ nodes
     list_is =
         let more : w.number + 1 ≡ suc w.number = omega arith in
-        let inside = end_low s kind table.tree (group.linked).level way own listed w.number own_ends in
+        let inside = (end_listed s kind table.tree (group.linked).level way own listed w.number own_ends).0 in
         ap (λ (i : ℕ). insert listed i new) more ∙ insert_behind listed w.number 0 new inside
-        ∙ ap (λ (c : ℕ). take w.number listed ++ c ∷ new ∷ drop (suc w.number) listed) (end_is s kind table.tree (group.linked).level way own listed w.number own_ends)
+        ∙ ap (λ (c : ℕ). take w.number listed ++ c ∷ new ∷ drop (suc w.number) listed) (end_listed s kind table.tree (group.linked).level way own listed w.number own_ends).1
 
     is_put : (height : ℕ) × (all : List ℕ) × IsChildPut u t kind table.tree height (insert listed (w.number + 1) new) own all
     is_put = put table.tree (group.linked).level w.number own listed then_ends

@@ -14,12 +14,10 @@ use Rattle.h5_model.specs.Format.Addresses.{SymbolTable}
 use Rattle.h5_model.specs.Format.Superblock.{leaf_k}
 use Rattle.h5_model.specs.Format.Heap.{segment_of}
 use Rattle.h5_model.specs.Format.Links.{Before, IsBetween, NotAfter, offset_in}
-use Rattle.h5_model.specs.Format.Nodes.{Kind, node_at, node_length, node_of}
+use Rattle.h5_model.specs.Format.Nodes.{Kind, node_at}
 use Rattle.h5_model.specs.Format.Rows.{Node}
 use Rattle.h5_model.specs.Format.Symbols.{Entry, Target, symbols_at}
 use Rattle.h5_model.specs.Tree.Paths.{is_name}
-use Rattle.h5_model.proofs.RowLaws.{at_listed}
-use Rattle.h5_model.proofs.Frames.{read-same}
 use Rattle.h5_model.proofs.Members.{all_both}
 use Rattle.h5_laws.specs.ExactWays.{IsExactFor}
 use Rattle.h5_laws.specs.KeyEdits.{IsPut, Two}
@@ -43,6 +41,7 @@ use Rattle.h5_group.specs.Exact.{AreSymbolsFilled, HasKeysFor}
 use Rattle.h5_group.specs.Nodes.Trees.{kind_in}
 use Rattle.h5_group.specs.Retired.{entry_keys, name_keys}
 use Rattle.h5_group.specs.Split.{AreHalves}
+use Rattle.h5_group.proofs.ExactTrees.{keeps_kept}
 use Rattle.h5_group.proofs.NameKeys.{keys_in_order, lowest_empty, name_low}
 use Rattle.h5_group.proofs.NameTests.{name_test}
 use Rattle.h5_group.proofs.NewKeys.{each_keyed, exact_for, key_put, new_above, new_low, new_text, of_names}
@@ -87,13 +86,8 @@ module _ (s u t : Space) (table : SymbolTable) (links : List (List ℕ × Target
   list_cut = cut s u t table links spare blocks group way k ends new left right halves short
 
   -- no node has changed yet
-  nodes_same : AllByRecursion (λ n. node_at u.bytes kind n ≡ node_at s.bytes kind n) own
-  nodes_same = read-same s.bytes u.bytes (node_of kind) (node_length kind) own (nodes_kept s u table links spare blocks group here new front back list_cut left right halves)
-
   keeps : (n : ℕ) → Owns own n → KeepsEntries s.bytes u.bytes kind n
-  keeps n owns =
-      let same = at_listed (λ m. node_at u.bytes kind m ≡ node_at s.bytes kind m) own n nodes_same owns in
-      (ap (λ (o : Node). o.keys) same, ap (λ (o : Node). o.children) same, ap (λ (o : Node). o.level) same)
+  keeps = keeps_kept s.bytes u.bytes kind own (nodes_kept s u table links spare blocks group here new front back list_cut left right halves)
 
   module _ (height : ℕ) (all : List ℕ) (put : IsChildPut u t kind root height (split_nodes s u t table links spare blocks group way k ends new left right halves short) own all) (keys : List ℕ)
       (along : IsPutAlong u.bytes t.bytes kind (ends.step).node ends.above ((ends.step).place + 1) keys new)

@@ -11,17 +11,12 @@ use Rattle.h5_bytes.proofs.BlockLaws.{all_append, all_left, all_right, all_so}
 use Rattle.h5_model.specs.Format.Addresses.{SymbolTable}
 use Rattle.h5_model.specs.Format.Superblock.{leaf_k}
 use Rattle.h5_model.specs.Format.Links.{offset_in}
-use Rattle.h5_model.specs.Format.Nodes.{Kind, group_kind, node_at, node_length, node_of}
+use Rattle.h5_model.specs.Format.Nodes.{Kind, group_kind, node_at}
 use Rattle.h5_model.specs.Format.Reached.{level_at}
-use Rattle.h5_model.specs.Format.Rows.{Node}
 use Rattle.h5_model.specs.Format.Symbols.{Entry, Target, symbols_at}
-use Rattle.h5_model.proofs.OneTree.{level_is}
-use Rattle.h5_model.proofs.RowLaws.{at_listed}
-use Rattle.h5_model.proofs.Frames.{read-same}
 use Rattle.h5_model.proofs.Members.{all_both}
 use Rattle.h5_laws.specs.KeyEdits.{IsTaken}
-use Rattle.h5_laws.proofs.Lists.{In, all_in, in_contains}
-use Rattle.h5_laws.proofs.Pigeonhole.{split_in}
+use Rattle.h5_laws.proofs.Lists.{In, all_in}
 use Rattle.h5_space.specs.Space.{Space}
 use Rattle.h5_heap.proofs.TakenLaws.{contains_head}
 use Rattle.h5_btree.specs.Exact.{AreKeysExact}
@@ -41,10 +36,12 @@ use Rattle.h5_group.specs.Told.{symbol_nodes_told}
 use Rattle.h5_group.proofs.EntryFrames.{backs_same, fronts_same, internal_same, leaf_same, trees_kept}
 use Rattle.h5_group.proofs.EntrySets.{got_cut, loose_low, taken_all}
 use Rattle.h5_group.proofs.EntryWays.{end_cut, ends_kept, ends_own}
-use Rattle.h5_group.proofs.ExactTrees.{keys_so, root_level_kept, told_kept}
+use Rattle.h5_group.proofs.ExactTrees.{keeps_kept, keys_so, root_level_kept, told_kept}
 use Rattle.h5_group.proofs.NameKeys.{offset_is}
 use Rattle.h5_group.proofs.RetiredGroup.{retirable}
 use Rattle.h5_group.proofs.ToldLaws.{symbol_nodes_are_told}
+use Rattle.h5_group.proofs.EntryKept.{told_back, told_cut, told_front}
+use Rattle.h5_group.proofs.Ways.{level_there}
 
 -- ---- the keys of a symbol node without one of its entries
 
@@ -71,17 +68,14 @@ module _ (s t : Space) (table : SymbolTable) (node k : ℕ) (set : IsSymbolsRewr
   abbrev list : List ℕ
   list = (group.linked).symbol_nodes
 
-  listed : In node list
-  listed = subst (In node) (sym (symbol_nodes_are_told s.bytes table links blocks group.linked)) (in_contains node (symbol_nodes_told s.bytes table) told)
-
   abbrev front : List ℕ
-  front = (split_in node list listed).0
+  front = told_front s table links spare blocks group node told
 
   abbrev back : List ℕ
-  back = (split_in node list listed).1
+  back = told_back s table links spare blocks group node told
 
   cut : list ≡ front ++ node ∷ back
-  cut = (split_in node list listed).2
+  cut = told_cut s table links spare blocks group node told
 
   leaf_is : leaf_k t.bytes ≡ leaf
   leaf_is = leaf_same s t table links spare blocks group node front back cut set.moves
@@ -89,13 +83,8 @@ module _ (s t : Space) (table : SymbolTable) (node k : ℕ) (set : IsSymbolsRewr
   kind_is : kind_in t.bytes ≡ kind
   kind_is = ap group_kind (internal_same s t table links spare blocks group node front back cut set.moves)
 
-  nodes_same : AllByRecursion (λ n. node_at t.bytes kind n ≡ node_at s.bytes kind n) owned
-  nodes_same = read-same s.bytes t.bytes (node_of kind) (node_length kind) owned (trees_kept s t table links spare blocks group node front back cut set.moves)
-
   keeps : (n : ℕ) → Owns owned n → KeepsEntries s.bytes t.bytes kind n
-  keeps n owns =
-      let here = at_listed (λ m. node_at t.bytes kind m ≡ node_at s.bytes kind m) owned n nodes_same owns in
-      (ap (λ (o : Node). o.keys) here, ap (λ (o : Node). o.children) here, ap (λ (o : Node). o.level) here)
+  keeps = keeps_kept s.bytes t.bytes kind owned (trees_kept s t table links spare blocks group node front back cut set.moves)
 
   fronts : AllByRecursion (λ at. symbols_at t.bytes leaf at ≡ symbols_at s.bytes leaf at) front
   fronts = fronts_same s t table links spare blocks group node front back cut set.moves
@@ -112,9 +101,6 @@ module _ (s t : Space) (table : SymbolTable) (node k : ℕ) (set : IsSymbolsRewr
       let low = loose_low t table _ (offsets_of e ++ spare) m.blocks g e.name first in
       eq-eqb (offset_in (word e.name)) e.name (offset_is e.name (omega (arith, low)))
 
-  was_level : (node_at s.bytes kind table.tree).level ≡ (group.linked).level
-  was_level = level_is s.bytes kind table.tree (group.linked).level owned list (group.linked).tree
-
   now_level : (node_at t.bytes kind table.tree).level ≡ (group.linked).level
   now_level = root_level_kept s.bytes t.bytes table leaf_is kind_is (group.linked).level owned list (group.linked).tree keeps
 
@@ -126,7 +112,7 @@ module _ (s t : Space) (table : SymbolTable) (node k : ℕ) (set : IsSymbolsRewr
       (all_in (λ at. keys at ≡ keys at) list (λ at there. refl)) exact
 
   exact_before : HasExactKeys s.bytes table → AreKeysExact (λ key. ⊥) (entry_keys leaf s.bytes) (node_at s.bytes kind) (group.linked).level table.tree
-  exact_before has = subst (λ (l : ℕ). AreKeysExact (λ key. ⊥) (entry_keys leaf s.bytes) (node_at s.bytes kind) l table.tree) was_level has.exact
+  exact_before has = subst (λ (l : ℕ). AreKeysExact (λ key. ⊥) (entry_keys leaf s.bytes) (node_at s.bytes kind) l table.tree) (level_there s table links spare blocks group) has.exact
 
   filled_then : HasExactKeys s.bytes table → AreFilledBut node t.bytes table
   filled_then has =

@@ -1,9 +1,9 @@
 -- A group of whose tree the keys alone are edited: the nodes stay in their blocks, and its symbol nodes and its heap as they are.
-use Rattle.std.proofs.Common.{◌≡◌, ℕ, ◌+◌, ◌*◌, ◌≤◌, ◌<◌, ◌^◌, List, [], ◌∷◌, ◌++◌, length, map, refl, sym, ap, ◌∙◌, subst, arith}
+use Rattle.std.proofs.Common.{◌≡◌, ℕ, ◌+◌, ◌*◌, ◌<◌, ◌^◌, List, [], ◌∷◌, ◌++◌, length, map, refl, sym, ap, ◌∙◌, subst, arith}
 use Rattle.std.specs.List.{AllByRecursion, flat_map}
 use Rattle.h5_bytes.specs.Blocks.{block, cover, Inside, IsKept, Keeps}
 use Rattle.h5_bytes.specs.declared.Block.{Block}
-use Rattle.h5_bytes.proofs.BlockLaws.{all_append, all_left, all_right, cover-append}
+use Rattle.h5_bytes.proofs.BlockLaws.{all_left, all_right}
 use Rattle.h5_model.specs.Format.Addresses.{SymbolTable}
 use Rattle.h5_model.specs.Format.Superblock.{leaf_k, internal_k}
 use Rattle.h5_model.specs.Format.Heap.{KeyNames, heap_blocks, heap_header, segment_of, segment_place, segment_size}
@@ -18,7 +18,7 @@ use Rattle.h5_space.specs.Space.{Space}
 use Rattle.h5_group.specs.Edited.{HasGroupMoved, IsGroupIn}
 use Rattle.h5_group.specs.Nodes.Trees.{kind_in}
 use Rattle.h5_group.proofs.EditFrames.{group_apart, group_moves, internal_kept, k_kept, leaf_kept, rest_kept, still_long}
-use Rattle.h5_group.proofs.Ways.{cover_parts, heap_inside, symbols_inside}
+use Rattle.h5_group.proofs.Ways.{others_inside, trees_parted}
 
 abbrev AreLoose : Reading → Symbols → List ℕ → List ℕ → List ℕ → List ℕ → List (List ℕ × Target) → List ℕ → Type 0
 AreLoose V S header segment owned symbol_nodes links loose = (a : AreLinks V S header segment owned symbol_nodes links) × (a.loose ≡ loose)
@@ -58,12 +58,10 @@ module _ (s t : Space) (table : SymbolTable) (links : List (List ℕ × Target))
   heap = heap_blocks s.bytes table.heap
 
   parted : (p : ℕ) → cover p blocks ≡ cover p (trees ++ (symbols ++ heap))
-  parted p =
-      let all = cover_parts s table links spare blocks group p in
-      omega (arith, all, cover-append p trees (symbols ++ heap), cover-append p symbols heap)
+  parted = trees_parted s table links spare blocks group
 
   within : Inside (length s.bytes) (symbols ++ heap)
-  within = all_append (λ (b : Block). b.at + b.len ≤ length s.bytes) symbols heap (symbols_inside s table links spare blocks group) (heap_inside s table links spare blocks group)
+  within = others_inside s table links spare blocks group
 
   kept : Keeps s.bytes t.bytes (symbols ++ heap)
   kept = rest_kept s t table links spare blocks group trees trees (symbols ++ heap) moved parted within

@@ -1,5 +1,5 @@
 -- The way down the tree of a group ends at one of its symbol nodes.
-use Rattle.std.proofs.Common.{◌≡◌, ℕ, zero, suc, List, [], ◌∷◌, refl, sym, subst, ◌∙◌}
+use Rattle.std.proofs.Common.{◌≡◌, ℕ, List, [], ◌∷◌, refl, sym, subst, ◌∙◌}
 use Rattle.std.specs.Prelude.{Option, Some, None, IfSome, IfNone}
 use Rattle.std.specs.List.{Contains}
 use Rattle.h5_model.specs.Format.Addresses.{SymbolTable}
@@ -11,7 +11,7 @@ use Rattle.h5_model.specs.Format.Symbols.{Entry, symbols_at}
 use Rattle.h5_model.specs.Format.Links.{names_in}
 use Rattle.h5_model.proofs.OneTree.{level_is, children_are}
 use Rattle.h5_btree.specs.Descent.{EndsAt, LeadsTo}
-use Rattle.h5_btree.proofs.LeafLaws.{leaves-nil}
+use Rattle.h5_btree.proofs.EmptyTrees.{empty_tree}
 use Rattle.h5_btree.proofs.NameFound.{name_behind, name_found}
 use Rattle.h5_btree.proofs.PlaceFound.{way_ends}
 use Rattle.h5_laws.proofs.Lists.{In, contains_in}
@@ -19,11 +19,6 @@ use Rattle.h5_group.specs.Nodes.Trees.{kind_in}
 use Rattle.h5_group.specs.Told.{symbol_nodes_told}
 use Rattle.h5_group.specs.Links.{IsGroupRead}
 use Rattle.h5_group.proofs.Standing.{symbols_are, nodes_ordered}
-
-module _ (V : Reading) where
-  none_at : (level at : ℕ) → (V at).children ≡ [] → leaves V level (at ∷ []) ≡ []
-  none_at zero at none = rw none refl
-  none_at (suc level) at none = rw none (leaves-nil V level)
 
 module _ (image : List ℕ) (table : SymbolTable) (read : IsGroupRead image table) where
   abbrev root : ℕ
@@ -40,7 +35,9 @@ module _ (image : List ℕ) (table : SymbolTable) (read : IsGroupRead image tabl
   level = level_is image (kind_in image) root (read.linked).level (read.linked).owned (read.linked).symbol_nodes (read.linked).tree
 
   pub no_nodes : (V root).children ≡ [] → symbol_nodes_told image table ≡ []
-  no_nodes none = bottom ∙ none_at V (read.linked).level root none
+  no_nodes none =
+      sym (symbols_are image table read)
+      ∙ (empty_tree image (kind_in image) root (read.linked).level (read.linked).owned (read.linked).symbol_nodes (read.linked).tree none).2
 
   module _ (name : List ℕ) (leaf : ℕ) (way : LeadsTo V (name_behind (segment_of image table.heap) name) (V root).level root leaf) where
     abbrev S : ℕ → List Entry

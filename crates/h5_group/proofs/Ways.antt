@@ -49,6 +49,11 @@ module _ (s : Space) (table : SymbolTable) (links : List (List ℕ × Target)) (
       let all = ap (cover p) (group.linked).laid in
       omega (arith, all, cover-append p (trees ++ symbols) (heap_blocks s.bytes table.heap), cover-append p trees symbols)
 
+  pub trees_parted : (p : ℕ) → cover p blocks ≡ cover p (trees ++ (symbols ++ heap_blocks s.bytes table.heap))
+  trees_parted p =
+      let all = cover_parts p in
+      omega (arith, all, cover-append p trees (symbols ++ heap_blocks s.bytes table.heap), cover-append p symbols (heap_blocks s.bytes table.heap))
+
   pub trees_apart : IsApart trees s.free (length s.bytes)
   trees_apart p = omega (arith, group.apart p, cover_parts p)
 
@@ -76,11 +81,18 @@ module _ (s : Space) (table : SymbolTable) (links : List (List ℕ × Target)) (
   pub heap_inside : Inside (length s.bytes) (heap_blocks s.bytes table.heap)
   heap_inside = all_right IsWithin (trees ++ symbols) (heap_blocks s.bytes table.heap) parts_inside
 
+  pub nodes_inside : Inside (length s.bytes) (trees ++ symbols)
+  nodes_inside = all_left IsWithin (trees ++ symbols) (heap_blocks s.bytes table.heap) parts_inside
+
   pub symbols_inside : Inside (length s.bytes) symbols
-  symbols_inside = all_right IsWithin trees symbols (all_left IsWithin (trees ++ symbols) (heap_blocks s.bytes table.heap) parts_inside)
+  symbols_inside = all_right IsWithin trees symbols nodes_inside
 
   pub trees_inside : Inside (length s.bytes) trees
-  trees_inside = all_left IsWithin trees symbols (all_left IsWithin (trees ++ symbols) (heap_blocks s.bytes table.heap) parts_inside)
+  trees_inside = all_left IsWithin trees symbols nodes_inside
+
+  -- all but those of its tree
+  pub others_inside : Inside (length s.bytes) (symbols ++ heap_blocks s.bytes table.heap)
+  others_inside = all_append IsWithin symbols (heap_blocks s.bytes table.heap) symbols_inside heap_inside
 
   -- it is one that can be read
   pub group_read : IsGroupRead s.bytes table

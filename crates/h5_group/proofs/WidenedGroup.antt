@@ -42,12 +42,12 @@ use Rattle.h5_group.specs.Ways.{IsWayOf, behind_of}
 use Rattle.h5_group.proofs.EntryWays.{ends_own}
 use Rattle.h5_group.proofs.HeapMoves.{keys_there}
 use Rattle.h5_group.proofs.KeyOffsets.{offsets_joined, offsets_parts}
+use Rattle.h5_group.proofs.NameKeys.{low_empty}
 use Rattle.h5_group.proofs.ToldLaws.{symbol_nodes_are_told}
 use Rattle.h5_group.proofs.TreeMoves.{entries_kept, heap_kept, keys_moved, kind_now, leaf_now}
 use Rattle.h5_group.proofs.Way.{leaf_listed}
 use Rattle.h5_group.proofs.Ways.{group_read}
 use Rattle.h5_group.proofs.WidenedKeys.{between_now, gives_way, high_now, keys_now, low_now}
-use Rattle.h5_heap.proofs.RefusedLaws.{empty_text}
 
 -- ---- lists
 
@@ -163,7 +163,7 @@ module _ (s t : Space) (table : SymbolTable) (name : List ℕ) (way : List Step)
   chosen = way_chosen V behind w.level table.tree way w.sought
 
   empty : key_text segment low ≡ []
-  empty = ap (text_at segment) low_is ∙ empty_text segment (group.linked).listed.spans.empty
+  empty = low_empty s table links spare blocks group low low_is
 
   pub own : key_text segment high ≡ name
   own = ap (text_at segment) high_is ∙ text

@@ -11,7 +11,7 @@ ghost use Rattle.h5_group.specs.Told.{links_told, symbol_nodes_told};
 
 use crate::link::{GroupLink, link_in};
 use crate::nodes::{self, SymbolNodes};
-use crate::read::{segment, symbol_node};
+use crate::read::{group_symbol_node, segment};
 use h5_btree::tree_leaves;
 use h5_msg::SymbolTable;
 use h5_snod::SymbolNode;
@@ -171,5 +171,5 @@ pub fn links_at(image: &Image, table: SymbolTable, node: u64) -> usize
     requires node { Contains (symbol_nodes_told image.now.bytes table) node }
     ensures { result ≡ length (symbols_at image.now.bytes (leaf_k image.now.bytes) node) }
 {
-    symbol_node(image, table, node).len()
+    group_symbol_node(image, table, node).len()
 }

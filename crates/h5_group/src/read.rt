@@ -24,7 +24,11 @@ pub(crate) fn segment<'a>(image: &'a Image, table: SymbolTable) -> &'a [u8]
 }
 
 /// The symbol node at `node`, which is one of the group's.
-pub(crate) fn symbol_node<'a>(image: &'a Image, table: SymbolTable, node: u64) -> SymbolNode<'a>
+pub(crate) fn group_symbol_node<'a>(
+    image: &'a Image,
+    table: SymbolTable,
+    node: u64,
+) -> SymbolNode<'a>
     requires group { IsGroupRead image.now.bytes table }
     requires node { Contains (symbol_nodes_told image.now.bytes table) node }
     ensures { result ≡ symbols_at image.now.bytes (leaf_k image.now.bytes) node }

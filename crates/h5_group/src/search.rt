@@ -10,7 +10,7 @@ ghost use Rattle.h5_group.specs.Links.{IsGroupRead, IsLinkNamed, HasNone};
 ghost use Rattle.h5_group.specs.Told.{symbol_nodes_told};
 
 use crate::link::link_in;
-use crate::read::{segment, symbol_node};
+use crate::read::{group_symbol_node, segment};
 use h5_btree::{SoughtName, find_leaf};
 use h5_model::Link;
 use h5_msg::SymbolTable;
@@ -28,7 +28,7 @@ pub fn lookup<'a>(image: &'a Image, table: SymbolTable, name: &[u8]) -> Option<L
     let Some(at) = node_of(image, table, segment, name) else {
         return None;
     };
-    let node = symbol_node(image, table, at);
+    let node = group_symbol_node(image, table, at);
     match node.find(segment, name) {
         Ok(i) => Some(link_in(segment, &node, i).link()),
         Err(_) => None,

@@ -18,7 +18,7 @@ ghost use Rattle.h5_group.specs.Told.{symbol_nodes_told};
 
 use crate::edit::symbols::{put_in, take_at};
 use crate::edit::way::node_at_end;
-use crate::read::{segment, symbol_node};
+use crate::read::{group_symbol_node, segment};
 use h5_btree::Way;
 use h5_bytes::text_from;
 use h5_msg::SymbolTable;
@@ -87,7 +87,7 @@ pub(crate) fn name_place(image: &Image, table: SymbolTable, node: u64, offset: u
         (heap_text image.now table offset) result }
 {
     let segment = segment(image, table);
-    let symbols = symbol_node(image, table, node);
+    let symbols = group_symbol_node(image, table, node);
     match symbols.find(segment, text_from(segment, offset)) {
         Ok(k) | Err(k) => k,
     }

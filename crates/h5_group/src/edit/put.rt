@@ -32,7 +32,7 @@ use crate::edit::split::{put_first_entry, split_entry};
 use crate::edit::texts::add_text;
 use crate::edit::way::{node_at_end, way_to, widen_for};
 use crate::nodes::group_kind;
-use crate::read::symbol_node;
+use crate::read::group_symbol_node;
 use h5_btree::{InsertFault, MOST_STEPS, Way, is_full_way};
 use h5_heap::{ObjectPlace, segment_at, text_span};
 use h5_model::{Link, LinkTo};
@@ -192,7 +192,7 @@ fn is_full(image: &Image, table: SymbolTable, way: &Way) -> bool
     ensures { (step : Step) (above : List Step) → way.now ≡ step ∷ above
         → IsTrue result ↔ (length (entries_below image.now table step) ≡ 2 * leaf_k image.now.bytes) }
 {
-    let node = symbol_node(image, table, node_at_end(image, table, way));
+    let node = group_symbol_node(image, table, node_at_end(image, table, way));
     node.len() == 2 * usize::from(leaf_of(image.bytes()))
 }
 

@@ -24,7 +24,7 @@ use crate::edit::entries::take_entry;
 use crate::edit::retire::{look_along, retire_name};
 use crate::edit::texts::free_text;
 use crate::edit::way::{node_at_end, way_to};
-use crate::read::{segment, symbol_node};
+use crate::read::{group_symbol_node, segment};
 use h5_btree::{Look, Way};
 use h5_msg::SymbolTable;
 use h5_snod::{SymbolEntry, SymbolTarget};
@@ -94,7 +94,7 @@ fn take_link(image: &mut Image, table: SymbolTable, name: &[u8], exact: bool)
     ensures spends { Spends image.old image.new 0 16 }
 {
     if let Some(place) = place_of(image, table, name) {
-        take_at(image, table, &place, exact);
+        take_link_at(image, table, &place, exact);
     }
 }
 
@@ -114,14 +114,14 @@ fn place_of(image: &Image, table: SymbolTable, name: &[u8]) -> Option<EntryPlace
 {
     let way = way_to(image, table, name)?;
     let node = node_at_end(image, table, &way);
-    let index = symbol_node(image, table, node)
+    let index = group_symbol_node(image, table, node)
         .find(segment(image, table), name)
         .ok()?;
     Some(EntryPlace { way, node, index })
 }
 
 /// Takes the entry at this place out, its texts, and its symbol node where no other entry is left.
-fn take_at(image: &mut Image, table: SymbolTable, place: &EntryPlace, exact: bool)
+fn take_link_at(image: &mut Image, table: SymbolTable, place: &EntryPlace, exact: bool)
     requires group { IsSomeGroup image.old table [] }
     requires place { (name : List ℕ) × IsEntryPlace image.old table name place.now }
     requires exact { IsTrue exact → HasExactKeys image.old.bytes table }
@@ -139,7 +139,7 @@ fn take_at(image: &mut Image, table: SymbolTable, place: &EntryPlace, exact: boo
     ensures exact { HasExactKeys image.old.bytes table → HasExactKeys image.new.bytes table }
     ensures spends { Spends image.old image.new 0 16 }
 {
-    let symbols = symbol_node(image, table, place.node);
+    let symbols = group_symbol_node(image, table, place.node);
     let entry = symbols.entry(place.index);
     let is_last = symbols.len() == 1;
     take_entry(image, table, place.node, place.index);

@@ -11,7 +11,7 @@ ghost use Rattle.h5_group.specs.Order.Ordered.{AreNamesOrdered, IsOrderRefused};
 
 use crate::nodes::tree_node;
 use crate::order::keys::Names;
-use crate::order::names::check_names;
+use crate::order::names::check_name_order;
 use h5_btree::{Tree, check_keys};
 use h5_model::OpenFault;
 use h5_msg::SymbolTable;
@@ -46,7 +46,7 @@ pub fn check_order(
         fault.address) }
 {
     // That names ascend is known below, where the first and the last of a node are compared for all of them.
-    check_names(image, segment, &tree.leaves)?;
+    check_name_order(image, segment, &tree.leaves)?;
     let root = table.tree();
     let level = tree_node(image, root).level();
     check_keys(image, &Names { segment }, level, root)

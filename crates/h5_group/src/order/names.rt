@@ -19,7 +19,7 @@ use h5_space::Image;
 
 /// Checks that the names in these symbol nodes ascend; `NameOrder` at the first that holds a name which is not above the one
 /// before it.
-pub(crate) fn check_names(
+pub(crate) fn check_name_order(
     image: &Image,
     segment: &[u8],
     symbol_nodes: &[u64],

@@ -90,7 +90,7 @@ fn take_entries(image: &Image, segment: &[u8], heap: &mut Heap, at: u64) -> bool
 {
     let node = symbol_node(image, at);
     for k in 0..node.len() {
-        if !take_entry(image, segment, heap, node.entry(k)) {
+        if !take_texts(image, segment, heap, node.entry(k)) {
             return false;
         }
     }
@@ -98,7 +98,7 @@ fn take_entries(image: &Image, segment: &[u8], heap: &mut Heap, at: u64) -> bool
 }
 
 /// Takes the name of a link, which is one that a link may have, and the text of a soft link.
-fn take_entry(image: &Image, segment: &[u8], heap: &mut Heap, entry: SymbolEntry) -> bool
+fn take_texts(image: &Image, segment: &[u8], heap: &mut Heap, entry: SymbolEntry) -> bool
     requires within { heap.old.segment.at + heap.old.segment.len ≤ length image.now.bytes }
     requires segment { segment.now ≡ segment_in image.now.bytes heap.old }
     ensures takes { IsTrue result → TakesLinked image.now.bytes heap.old heap.new (linked_from entry) }

@@ -1,5 +1,5 @@
 //! Where the parts of a group's links stand.
-ghost use Rattle.std.specs.Prelude.{◌≡◌, ◌*◌, ◌^◌, ◌<◌, ◌≤◌, MatchResult, map};
+ghost use Rattle.std.specs.Prelude.{MatchResult, map};
 ghost use Rattle.h5_model.specs.Format.Superblock.{AreK};
 ghost use Rattle.h5_heap.specs.Writing.Links.{name_and_leads};
 ghost use Rattle.h5_group.specs.Writing.Places.{IsTooLarge, ArePlaces};
@@ -30,17 +30,6 @@ pub struct GroupPlaces {
     pub length: u64,
 }
 
-/// The bytes of so many blocks of one size.
-#[tactic(auto, using(crate::proofs::WriteLaws::Counts::product_low))]
-fn bytes_of(count: u64, size: u64) -> u64
-    requires count { count < 2 ^ 33 }
-    requires size { size ≤ 2 ^ 22 }
-    ensures exact { result ≡ count * size }
-    ensures low { result ≤ 2 ^ 55 }
-{
-    count * size
-}
-
 /// How the B-tree, the heap and the symbol nodes of these links lie when they are written new, in an image with these K values. Takes no
 /// memory.
 ///
@@ -58,8 +47,8 @@ pub fn group_places(k: &KValues, links: &[Link<'_, ObjectPlace>]) -> Result<Grou
     };
     let kind = NodeKind::group(k.internal);
     let nodes = rows_of(2 * u64::from(k.leaf), links.len() as u64);
-    let tree = bytes_of(nodes_over(&kind, nodes), kind.node_length() as u64);
-    let length = tree + 32 + segment + bytes_of(nodes, 8 + 80 * u64::from(k.leaf));
+    let tree = nodes_over(&kind, nodes) * kind.node_length() as u64;
+    let length = tree + 32 + segment + nodes * (8 + 80 * u64::from(k.leaf));
     if length > MAXIMUM_IMAGE {
         return Err(GroupFault::TooLong);
     }

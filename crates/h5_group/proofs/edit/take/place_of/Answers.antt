@@ -4,15 +4,15 @@ use Rattle.h5_group.proofs.TakeSteps.{none_placed, none_there, only_there, some_
 use Rattle.h5_group.proofs.Way.{no_nodes}
 use Rattle.h5_group.proofs.edit.take.place_of.Goals as goal
 
-pub symbol_node-requires-clause-group : goal.symbol_node-requires-clause-group
-symbol_node-requires-clause-group c = some_read c.args.image.now c.args.table [] c.requires.group
+pub group_symbol_node-requires-clause-group : goal.group_symbol_node-requires-clause-group
+group_symbol_node-requires-clause-group c = some_read c.args.image.now c.args.table [] c.requires.group
 
 pub segment-requires : goal.segment-requires
 segment-requires c = some_read c.args.image.now c.args.table [] c.requires.group
 
 pub find-requires : goal.find-requires
 find-requires c =
-    rw (c.segment.ensures.segment, c.symbol_node.ensures)
+    rw (c.segment.ensures.segment, c.group_symbol_node.ensures)
     (node_ascends c.args.image.now.bytes c.args.table (some_read c.args.image.now c.args.table [] c.requires.group) c.node_at_end-node.result c.node_at_end-node.ensures.one)
 
 pub returns-in_err-way-clause-absent : goal.returns-in_err-way-clause-absent
@@ -27,5 +27,5 @@ returns-in_err-index-clause-absent c =
     let of = c.in_ok-way.ensures.sought in
     let only = only_there image c.args.table c.args.name.now c.in_ok-way.way c.node_at_end-node.result of c.node_at_end-node.ensures.node c.in_ok-way.ensures.only in
     rw c.from_residual-in_err-index.ensures
-    (none_placed image.bytes c.args.table c.node_at_end-node.result c.args.name.now c.segment.result.now c.symbol_node.result c.find.result c.segment.ensures.segment c.symbol_node.ensures
+    (none_placed image.bytes c.args.table c.node_at_end-node.result c.args.name.now c.segment.result.now c.group_symbol_node.result c.find.result c.segment.ensures.segment c.group_symbol_node.ensures
     c.find.ensures.absent c.in_err-index.ensures.value only)

@@ -14,7 +14,7 @@ returns-in-Some-clause-taken c = λ links before g to has.
     let place = c.in-Some.place in
     let p = c.in-Some.ensures.found in
     let e = named_there (segment_of image.bytes c.args.table.heap) (symbols_at image.bytes (leaf_k image.bytes) place.node) place.index c.args.name.now p.named in
-    let m = c.take_at.ensures.taken e.0 e.1 links before g in (
+    let m = c.take_link_at.ensures.taken e.0 e.1 links before g in (
       m.0,
       subst (λ (link : List ℕ × Target). IsLinkPut link m.0 links)
           (link_is image c.args.table links [] before g place.node place.index e.0 c.args.name.now p.told e.1 p.named to has) m.1,
@@ -35,7 +35,7 @@ returns-in-Some-clause-freed c = λ links before g to has.
       e.0,
       entry_told image c.args.table links [] before g place.node place.index e.0 c.args.name.now p.told e.1 p.named,
       named_so image c.args.table links [] before g place.node place.index e.0 c.args.name.now p.told e.1 p.named,
-      c.take_at.ensures.freed e.0 e.1,
+      c.take_link_at.ensures.freed e.0 e.1,
     )
 
 pub returns-in_default-clause-freed : goal.returns-in_default-clause-freed

@@ -24,19 +24,19 @@ use Rattle.h5_group.proofs.OrderProofs.AscendLaws.{known_from}
 use Rattle.h5_group.proofs.OrderProofs.OrderFaults.{key_fault, name_fault}
 use Rattle.h5_group.proofs.order.check.check_order.Goals as goal
 
-pub check_names-requires-clause-symbols : goal.check_names-requires-clause-symbols
-check_names-requires-clause-symbols c =
+pub check_name_order-requires-clause-symbols : goal.check_name_order-requires-clause-symbols
+check_name_order-requires-clause-symbols c =
     subst (AllByRecursion (IsSymbolsAt c.args.image.now.bytes)) (sym c.deref.ensures.value)
     (symbols_stand c.args.image.now.bytes c.args.table.tree c.args.tree.now.nodes.items c.args.tree.now.leaves.items c.requires.tree c.requires.inside)
 
-pub returns-in_err-check_names-clause-refused : goal.returns-in_err-check_names-clause-refused
-returns-in_err-check_names-clause-refused c =
+pub returns-in_err-check_name_order-clause-refused : goal.returns-in_err-check_name_order-clause-refused
+returns-in_err-check_name_order-clause-refused c =
     let p = err_from_is_err_and c.from_residual.result c.from_residual.ensures.1 in
-    let falls = subst (λ (ns : List ℕ). FallAt (name_of_entry c.args.segment.now) Before (symbols_at c.args.image.now.bytes (leaf_k c.args.image.now.bytes)) ns c.in_err-check_names.field-0.0.address) c.deref.ensures.value c.in_err-check_names.ensures.falls in
+    let falls = subst (λ (ns : List ℕ). FallAt (name_of_entry c.args.segment.now) Before (symbols_at c.args.image.now.bytes (leaf_k c.args.image.now.bytes)) ns c.in_err-check_name_order.field-0.0.address) c.deref.ensures.value c.in_err-check_name_order.ensures.falls in
     rw (p.1, p.2)
     (name_fault c.args.image.now.bytes c.args.segment.now c.args.table c.args.tree.now.nodes.items c.args.tree.now.leaves.items _ _ c.requires.segment
-    c.requires.tree c.in_err-check_names.ensures.cause falls
-    (subst (λ (ns : List ℕ). AscendsBefore c.args.image.now.bytes c.args.segment.now ns c.in_err-check_names.field-0.0.address) c.deref.ensures.value c.in_err-check_names.ensures.first))
+    c.requires.tree c.in_err-check_name_order.ensures.cause falls
+    (subst (λ (ns : List ℕ). AscendsBefore c.args.image.now.bytes c.args.segment.now ns c.in_err-check_name_order.field-0.0.address) c.deref.ensures.value c.in_err-check_name_order.ensures.first))
 
 pub check_keys-requires-clause-subtree : goal.check_keys-requires-clause-subtree
 check_keys-requires-clause-subtree c =
@@ -57,7 +57,7 @@ check_keys-requires-clause-known c =
     let all : symbol_nodes ≡ leaves V (V root).level (root ∷ [])
     = children_are image (kind_of image OfGroup) root t.level owned symbol_nodes t.tree
     ∙ ap (λ (l : ℕ). leaves V l (root ∷ [])) (sym (level_is image (kind_of image OfGroup) root t.level owned symbol_nodes t.tree)) in
-    let ascend = subst (NamesAscend image segment) (c.deref.ensures.value ∙ all) c.in_ok-check_names.ensures.ascending in
+    let ascend = subst (NamesAscend image segment) (c.deref.ensures.value ∙ all) c.in_ok-check_name_order.ensures.ascending in
     let Known : Node → Type 0 = λ node. NamesAscend image segment node.children in
     let here = subst (λ (at : ℕ). IsKnownFrom Known V (V at).level (V at)) (sym c.tree-root.ensures) (known_from image segment V (V root).level root ascend) in
     subst (λ (l : ℕ). IsKnownFrom Known V l (V c.tree-root.result)) (sym (c.level-level.ensures ∙ ap (λ (n : Node). n.level) c.tree_node.ensures)) here
@@ -76,7 +76,7 @@ returns-clause-ordered c =
     ∙ all_owned image OfGroup c.args.table.tree c.args.tree.now.nodes.items c.args.tree.now.leaves.items c.requires.tree c.requires.inside in
     on_ok_weaker c.check_keys.result
     (λ ordered. record {
-      ascending = subst (λ (ns : List ℕ). Ascend (map (link_of segment) (all_entries image ns))) c.deref.ensures.value c.in_ok-check_names.ensures.ascending;
+      ascending = subst (λ (ns : List ℕ). Ascend (map (link_of segment) (all_entries image ns))) c.deref.ensures.value c.in_ok-check_name_order.ensures.ascending;
       ordered = all_so (IsOrderedAt sides image OfGroup bottom) (λ (at : ℕ). IsOrdered V S segment (V at)) c.args.tree.now.nodes.items
           (λ at o. names_by V S segment (V at) o) (subst (AllByRecursion (IsOrderedAt sides image OfGroup bottom)) all ordered);
     }) c.check_keys.ensures.ordered
@@ -92,5 +92,5 @@ returns-clause-refused c =
     IfErr-weaker c.check_keys.result _ _
     (λ fault refused. key_fault image c.args.segment.now c.args.table c.args.tree.now.nodes.items c.args.tree.now.leaves.items fault.address fault.cause
     c.requires.segment refused.0 (subst (λ (ns : List ℕ). Contains ns fault.address) all refused.1)
-    (subst (λ (ns : List ℕ). Ascend (map (link_of c.args.segment.now) (all_entries image ns))) c.deref.ensures.value c.in_ok-check_names.ensures.ascending)
+    (subst (λ (ns : List ℕ). Ascend (map (link_of c.args.segment.now) (all_entries image ns))) c.deref.ensures.value c.in_ok-check_name_order.ensures.ascending)
     refused.2) c.check_keys.ensures.refused

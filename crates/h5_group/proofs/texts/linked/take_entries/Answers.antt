@@ -8,8 +8,8 @@ use Rattle.h5_group.proofs.TextProofs.EntryLaws.{blank, linked_is, sound_more, s
 use Rattle.h5_group.proofs.TextProofs.LinkedLaws.{segment_same, taken_step, refused_step}
 use Rattle.h5_group.proofs.texts.linked.take_entries.Goals as goal
 
-pub returns-then-not-take_entry-clause-refused : goal.returns-then-not-take_entry-clause-refused
-returns-then-not-take_entry-clause-refused c = λ none sound.
+pub returns-then-not-take_texts-clause-refused : goal.returns-then-not-take_texts-clause-refused
+returns-then-not-take_texts-clause-refused c = λ none sound.
     let image = c.args.image.now.bytes in
     let es = c.symbol_node-node.result in
     let low : c.loop-k.k < length es = omega arith in
@@ -18,7 +18,7 @@ returns-then-not-take_entry-clause-refused c = λ none sound.
     let here = sound_one es c.loop-k.k low c.entry.result c.entry.ensures (segment_in image c.loop-k.heap) all in
     subst (λ (xs : List Entry). AreLinkedRefused image c.args.heap.now (flat_map linked_by xs)) c.symbol_node-node.ensures
     (refused_step linked_by es c.loop-k.k blank low image c.args.heap.now c.loop-k.heap (c.loop-k.invariant).0
-    (subst (AreLinkedRefused image c.loop-k.heap) (linked_is es c.loop-k.k low c.entry.result c.entry.ensures) (c.if-not-take_entry.ensures.refused refl here)))
+    (subst (AreLinkedRefused image c.loop-k.heap) (linked_is es c.loop-k.k low c.entry.result c.entry.ensures) (c.if-not-take_texts.ensures.refused refl here)))
 
 pub loop-k-preserved : goal.loop-k-preserved
 loop-k-preserved c =
@@ -26,9 +26,9 @@ loop-k-preserved c =
     let es = c.symbol_node-node.result in
     let low : c.loop-k.k < length es = omega arith in
     let is = segment_same image c.args.heap.now c.loop-k.heap (c.loop-k.invariant).0.same in
-    let here : IsEntrySound (segment_in image c.args.heap.now) c.entry.result = rw is at (c.if-not-take_entry.ensures.sound refl) in (
-      taken_step linked_by es c.loop-k.k blank low image c.args.heap.now c.loop-k.heap (c.loop-k.invariant).0 c.take_entry.new.heap
-          (subst (TakesLinked image c.loop-k.heap c.take_entry.new.heap) (linked_is es c.loop-k.k low c.entry.result c.entry.ensures)
-          (c.if-not-take_entry.ensures.takes refl)),
+    let here : IsEntrySound (segment_in image c.args.heap.now) c.entry.result = rw is at (c.if-not-take_texts.ensures.sound refl) in (
+      taken_step linked_by es c.loop-k.k blank low image c.args.heap.now c.loop-k.heap (c.loop-k.invariant).0 c.take_texts.new.heap
+          (subst (TakesLinked image c.loop-k.heap c.take_texts.new.heap) (linked_is es c.loop-k.k low c.entry.result c.entry.ensures)
+          (c.if-not-take_texts.ensures.takes refl)),
       sound_more es c.loop-k.k low c.entry.result c.entry.ensures (segment_in image c.args.heap.now) (c.loop-k.invariant).1 here,
     )

@@ -5,7 +5,7 @@ use Rattle.h5_bytes.specs.Texts.{text_at}
 use Rattle.h5_model.specs.Format.Links.{Before}
 use Rattle.h5_btree.specs.Rising.{RiseFrom, last_value}
 use Rattle.h5_group.specs.Order.Between.{name_of_entry}
-use Rattle.h5_group.proofs.order.names.check_names.Given as goal
+use Rattle.h5_group.proofs.order.names.check_name_order.Given as goal
 
 abbrev pub invariant-loop-at : goal.invariant-loop-at
 invariant-loop-at l = RiseFrom (name_of_entry l.segment) Before None (all_entries l.image.bytes (take l.at-index l.symbol_nodes))

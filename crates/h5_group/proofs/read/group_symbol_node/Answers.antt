@@ -1,6 +1,6 @@
 use Rattle.std.proofs.Common.{arith}
 use Rattle.h5_group.proofs.Standing.{heap_there, node_there, node_formed}
-use Rattle.h5_group.proofs.read.symbol_node.Goals as goal
+use Rattle.h5_group.proofs.read.group_symbol_node.Goals as goal
 
 pub symbol_node-requires-clause-long : goal.symbol_node-requires-clause-long
 symbol_node-requires-clause-long c = omega (arith, (heap_there c.args.image.now.bytes c.args.table c.requires.group).0)

@@ -19,17 +19,17 @@ use Rattle.h5_group.proofs.Freed.{released_then}
 use Rattle.h5_group.proofs.Searched.{entry_there}
 use Rattle.h5_group.proofs.TakeExact.{all_filled, below_kept, filled_but_kept, some_left}
 use Rattle.h5_group.proofs.TakeSteps.{gone, loosened, none_left, read_there, some_read, spent_in_turn, unnamed, way_short}
-use Rattle.h5_group.proofs.edit.take.take_at.Goals as goal
-use Rattle.h5_group.proofs.edit.take.take_at.Goals.{After-take_entry, After-free_texts}
+use Rattle.h5_group.proofs.edit.take.take_link_at.Goals as goal
+use Rattle.h5_group.proofs.edit.take.take_link_at.Goals.{After-take_entry, After-free_texts}
 
-pub symbol_node-symbols-requires-clause-group : goal.symbol_node-symbols-requires-clause-group
-symbol_node-symbols-requires-clause-group c = some_read c.args.image.now c.args.table [] c.requires.group
+pub group_symbol_node-symbols-requires-clause-group : goal.group_symbol_node-symbols-requires-clause-group
+group_symbol_node-symbols-requires-clause-group c = some_read c.args.image.now c.args.table [] c.requires.group
 
 pub entry-entry-requires : goal.entry-entry-requires
 entry-entry-requires c =
     let image = c.args.image.now in
     let place = c.args.place.now in
-    rw c.symbol_node-symbols.ensures
+    rw c.group_symbol_node-symbols.ensures
     (entry_there (segment_of image.bytes c.args.table.heap) (symbols_at image.bytes (leaf_k image.bytes) place.node) place.index c.requires.place.0 c.requires.place.1.named)
 
 pub take_entry-requires-clause-place : goal.take_entry-requires-clause-place
@@ -47,7 +47,7 @@ entry_is c =
     let image = c.args.image.now in
     let place = c.args.place.now in
     let es = symbols_at image.bytes (leaf_k image.bytes) place.node in
-    let read = rw c.symbol_node-symbols.ensures at c.entry-entry.ensures in
+    let read = rw c.group_symbol_node-symbols.ensures at c.entry-entry.ensures in
     let e = read_there es place.index c.entry-entry.result read in
     (e.0, e.1, entry_read es place.index c.entry-entry.result read e.0 e.1)
 
@@ -57,7 +57,7 @@ read_so : (c : After-take_entry) → (e : Entry) → slice_get (symbols_at c.arg
 read_so c e there =
     let image = c.args.image.now in
     let place = c.args.place.now in
-    entry_read (symbols_at image.bytes (leaf_k image.bytes) place.node) place.index c.entry-entry.result (rw c.symbol_node-symbols.ensures at c.entry-entry.ensures) e there
+    entry_read (symbols_at image.bytes (leaf_k image.bytes) place.node) place.index c.entry-entry.result (rw c.group_symbol_node-symbols.ensures at c.entry-entry.ensures) e there
 
 -- its texts are free then
 released_so : (c : After-free_texts) (e : Entry) → symbol_from e ≡ c.entry-entry.result
@@ -157,7 +157,7 @@ drop_symbol_node-requires-clause-empty c = λ step above is.
     below_kept c.take_entry.new.image c.free_texts.new.image c.args.table c.free_texts.ensures.ways _ _ m.blocks m.group of.level place.way of.owned of.symbol_nodes of.number
     (c.take_entry.ensures.ways place.way of.level of.owned of.symbol_nodes of.number of.ends) step above is
     ∙ none_left image c.take_entry.new.image c.args.table place.way of.level of.owned of.symbol_nodes of.number place.node place.index of.ends p.below c.take_entry.ensures.below
-    c.take_entry.ensures.entries (sym (ap length c.symbol_node-symbols.ensures) ∙ sym c.len-is_last.ensures ∙ c.if-is_last.true)
+    c.take_entry.ensures.entries (sym (ap length c.group_symbol_node-symbols.ensures) ∙ sym c.len-is_last.ensures ∙ c.if-is_last.true)
     (entry_there (segment_of image.bytes c.args.table.heap) (symbols_at image.bytes (leaf_k image.bytes) place.node) place.index c.requires.place.0 p.named) step above is
 
 pub drop_symbol_node-requires-clause-blocks : goal.drop_symbol_node-requires-clause-blocks
@@ -221,7 +221,7 @@ returns-else-is_last-clause-exact c = λ has.
     let all = exact_there (goal.at.returns-else-is_last-clause-exact c).After-free_texts e.0 e.1 e.2 has in
     let es = symbols_at image.bytes (leaf_k image.bytes) place.node in
     let low = entry_there (segment_of image.bytes c.args.table.heap) es place.index c.requires.place.0 c.requires.place.1.named in
-    let left = some_left es place.index (λ one. c.if-is_last.false (c.len-is_last.ensures ∙ ap length c.symbol_node-symbols.ensures ∙ one)) low in
+    let left = some_left es place.index (λ one. c.if-is_last.false (c.len-is_last.ensures ∙ ap length c.group_symbol_node-symbols.ensures ∙ one)) low in
     let kept = c.free_texts.ensures.ways.entries place.node (told_then (goal.at.returns-else-is_last-clause-exact c).After-take_entry) in
     all_filled u c.args.table place.node (subst (λ (es : List Entry). 1 ≤ length es) (sym (kept ∙ c.take_entry.ensures.entries)) left) all.0 all.1
 

@@ -12,7 +12,7 @@ use Rattle.h5_group.specs.Order.Between.{name_of_entry}
 use Rattle.h5_group.proofs.OrderProofs.EntryNames.{itself}
 use Rattle.h5_group.proofs.TextProofs.ListLaws.{around}
 use Rattle.h5_group.proofs.OrderProofs.AscendLaws.{rise_ascend}
-use Rattle.h5_group.proofs.order.names.check_names.Goals as goal
+use Rattle.h5_group.proofs.order.names.check_name_order.Goals as goal
 
 pub returns-in_err-last-clause-falls : goal.returns-in_err-last-clause-falls
 returns-in_err-last-clause-falls c =

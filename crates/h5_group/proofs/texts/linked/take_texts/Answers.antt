@@ -4,7 +4,7 @@ use Rattle.h5_heap.specs.Kept.{segment_in}
 use Rattle.h5_snod.specs.declared.entry.SymbolTarget.{SymbolTarget}
 use Rattle.h5_group.specs.Texts.Linked.{linked_from, text_of}
 use Rattle.h5_group.proofs.TextProofs.LinkedLaws.{takes_one, untaken_by, refused_one, refused_more, refused_within}
-use Rattle.h5_group.proofs.texts.linked.take_entry.Goals as goal
+use Rattle.h5_group.proofs.texts.linked.take_texts.Goals as goal
 
 pub returns-in_default-clause-refused : goal.returns-in_default-clause-refused
 returns-in_default-clause-refused c = λ none sound.
