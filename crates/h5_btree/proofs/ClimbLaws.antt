@@ -9,6 +9,7 @@ use Rattle.h5_model.proofs.RowLaws.{Agree, next_row-same, IsRow-same, AreRows-sa
 use Rattle.h5_btree.specs.Climb.{IsNoNode, IsBelow, IsWay, AreUnder, IsTreeOf, LacksChild, Refills, Adds, Splits, RaisesRoot}
 use Rattle.h5_btree.specs.declared.way.Step.{Step}
 use Rattle.h5_btree.proofs.RowEdits.{
+  first_right,
   BackNames,
   agree_at,
   back_names,
@@ -187,16 +188,10 @@ module _ (V W : Reading) (m p j child q : ℕ) (front back : List ℕ) (top : m 
       t.others (get_or front i 0) (omega (arith, front_level V m p front back top out row i less, top))
       (front_other V m p front back top out row i less) (front_not_right V m p front back top out row i less))
 
-  first_is : 0 < length back → get_or back 0 0 ≡ (V p).right
-  first_is some = go back refl where
-    go : (b : List ℕ) → back ≡ b → get_or back 0 0 ≡ (V p).right
-    go [] none = absurd (omega (arith, some, ap (λ (b : List ℕ). length b) none))
-    go (c ∷ cs) more = ap (λ (b : List ℕ). get_or b 0 0) more ∙ sym (right_here V m p front back top out row ∙ ap first_or_undefined more)
-
   splits_back : BackNames V W q back
   splits_back = back_names V W q back
       (λ some.
-      let e = first_is some in
+      let e = first_right V m p front back top out row some in
       let low : (V (V p).right).level < 16 = omega (arith, ap (λ (k : ℕ). (V k).level) e, back_level V m p front back top out row 0 some, top) in
       subst (λ (n : ℕ). W n ≡ record (V n) { left = q }) (sym e) (t.at_next low))
       (λ i less.

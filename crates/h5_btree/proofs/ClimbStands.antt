@@ -1,12 +1,11 @@
 -- An insertion on its way up, as the code goes: what it may read and write at a node it comes to, when it has taken a block, and when it
 -- has written there.
-use Rattle.std.proofs.Common.{◌≡◌, ◌≢◌, ◌⊎◌, inl, inr, ℕ, suc, ◌+◌, ◌^◌, ◌<◌, ◌≤◌, List, [], ◌∷◌, length, refl, sym, ap, ◌∙◌, subst, arith, ◌==◌}
-use Rattle.std.specs.List.{list_any, AllByRecursion}
-use Rattle.std.proofs.lemmas.Bool.{or_right}
+use Rattle.std.proofs.Common.{◌≡◌, ◌≢◌, ◌⊎◌, inl, inr, ℕ, suc, ◌+◌, ◌^◌, ◌<◌, ◌≤◌, List, [], ◌∷◌, length, refl, sym, ap, ◌∙◌, subst, arith}
+use Rattle.std.specs.List.{AllByRecursion}
 use Rattle.h5_bytes.specs.Bytes.{undefined_address}
 use Rattle.h5_model.specs.Format.Rows.{Node}
 use Rattle.h5_model.specs.Format.Nodes.{Kind, IsNode, entries_in, node_at, node_block, node_bytes, node_length, reading_of, tree_blocks}
-use Rattle.h5_model.proofs.RowLaws.{at_listed, same_number}
+use Rattle.h5_model.proofs.RowLaws.{at_listed}
 use Rattle.h5_space.specs.Space.{Space}
 use Rattle.h5_space.specs.Moves.{Moves}
 use Rattle.h5_space.specs.Whole.{IsApart}
@@ -16,7 +15,7 @@ use Rattle.h5_btree.specs.Insertion.{IsClimbing}
 use Rattle.h5_btree.specs.declared.way.Step.{Step}
 use Rattle.h5_btree.proofs.NodeLaws.{length-children}
 use Rattle.h5_btree.proofs.RowEdits.{level_here}
-use Rattle.h5_btree.proofs.TreeReadings.{Listed, owned_at, owned_of_level}
+use Rattle.h5_btree.proofs.TreeReadings.{Listed, owned_at, owned_of_level, owns_more, owns_new}
 use Rattle.h5_btree.proofs.ClimbSteps.{inside_of_apart, undefined_free}
 use Rattle.h5_btree.proofs.SplitSteps.{right_known, taken_apart, taken_new, taken_others, written_apart, written_others}
 
@@ -81,12 +80,6 @@ module _ (s t : Space) (kind : Kind) (root m p : ℕ) (way : List Step) (j child
     abbrev all : List ℕ
     all = q ∷ own
 
-    pub among : (n : ℕ) → Listed own n → Listed all n
-    among n is = or_right (q == n) (list_any (λ k. k == n) own) is
-
-    pub is_q : Listed all q
-    is_q = rw (same_number q) refl
-
     pub apart₁ : IsApart (tree_blocks kind all) t₁.free (length t₁.bytes)
     apart₁ = taken_apart t t₁ kind own q c.apart taken
 
@@ -104,17 +97,17 @@ module _ (s t : Space) (kind : Kind) (root m p : ℕ) (way : List Step) (j child
 
     pub new_not_right : length t₁.bytes < 2 ^ 64 → q ≢ (node_at t.bytes kind p).right
     new_not_right short same = elim known_right.0 [
-      | inl none ↦ let i = inside_of_apart t₁ kind all apart₁ q is_q in omega (arith, same ∙ none, i, short)
+      | inl none ↦ let i = inside_of_apart t₁ kind all apart₁ q (owns_new q own) in omega (arith, same ∙ none, i, short)
       | inr listed ↦ new_q (node_at t.bytes kind p).right listed (sym same)
     ]
 
     -- and written
     module _ (t₂ : Space) (node_q : Node) (write_q : IsRewritten t₁ t₂ kind q node_q) where
       pub apart₂ : IsApart (tree_blocks kind all) t₂.free (length t₂.bytes)
-      apart₂ = written_apart t₁ t₂ kind all q node_q apart₁ is_q write_q
+      apart₂ = written_apart t₁ t₂ kind all q node_q apart₁ (owns_new q own) write_q
 
       pub bytes₂ : node_bytes t₂.bytes kind p ≡ node_bytes t.bytes kind p
-      bytes₂ = written_others t₁ t₂ kind all q node_q apart₁ is_q write_q p (among p own_p) (new_q p own_p) ∙ bytes₁
+      bytes₂ = written_others t₁ t₂ kind all q node_q apart₁ (owns_new q own) write_q p (owns_more q p own own_p) (new_q p own_p) ∙ bytes₁
 
       pub inside₂ : p + node_length kind ≤ length t₂.bytes
       inside₂ = let i = inside₁ in let g = write_q.moves.grown in omega (arith, i, g)
@@ -125,17 +118,17 @@ module _ (s t : Space) (kind : Kind) (root m p : ℕ) (way : List Step) (j child
       -- and then the node itself
       module _ (t₃ : Space) (node_p : Node) (write_p : IsRewritten t₂ t₃ kind p node_p) (r : ℕ) (er : r ≡ (node_at t.bytes kind p).right) where
         pub apart₃ : IsApart (tree_blocks kind all) t₃.free (length t₃.bytes)
-        apart₃ = written_apart t₂ t₃ kind all p node_p apart₂ (among p own_p) write_p
+        apart₃ = written_apart t₂ t₃ kind all p node_p apart₂ (owns_more q p own own_p) write_p
 
         pub bytes_r : r ≢ undefined_address → node_bytes t₃.bytes kind r ≡ node_bytes t.bytes kind r
         bytes_r there =
             let listed = listed_right r er there in
-            written_others t₂ t₃ kind all p node_p apart₂ (among p own_p) write_p r (among r listed) (far_right r er)
-            ∙ written_others t₁ t₂ kind all q node_q apart₁ is_q write_q r (among r listed) (new_q r listed)
+            written_others t₂ t₃ kind all p node_p apart₂ (owns_more q p own own_p) write_p r (owns_more q r own listed) (far_right r er)
+            ∙ written_others t₁ t₂ kind all q node_q apart₁ (owns_new q own) write_q r (owns_more q r own listed) (new_q r listed)
             ∙ taken_others t t₁ kind own q c.apart taken r listed
 
         pub inside_r : r ≢ undefined_address → r + node_length kind ≤ length t₃.bytes
-        inside_r there = inside_of_apart t₃ kind all apart₃ r (among r (listed_right r er there))
+        inside_r there = inside_of_apart t₃ kind all apart₃ r (owns_more q r own (listed_right r er there))
 
         pub form_r : r ≢ undefined_address → IsNode kind (node_bytes t₃.bytes kind r)
         form_r there =

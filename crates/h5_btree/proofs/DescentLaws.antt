@@ -8,6 +8,7 @@ use Rattle.h5_bytes.specs.Blocks.{Inside}
 use Rattle.h5_model.specs.Format.Limits.{highest_level}
 use Rattle.h5_model.specs.Format.Rows.{Node, Reading, next_row, IsRow, nodes}
 use Rattle.h5_model.specs.Format.Nodes.{Kind, HasTree, IsNode, node_at, node_bytes, node_length, entries_in, reading_of, tree_blocks}
+use Rattle.h5_model.proofs.OneTree.{level_is}
 use Rattle.h5_model.proofs.RowLaws.{at_listed}
 use Rattle.h5_laws.proofs.Rows.{row_is}
 use Rattle.h5_btree.specs.Form.{IsRefusedAt, MayBeRoot, MayStandAt}
@@ -100,13 +101,10 @@ module _ (image : List ℕ) (kind : Kind) (root level : ℕ) (owned children : L
   root_level : (reading_of image kind owned root).level ≡ level
   root_level = row_level (reading_of image kind owned) level undefined_address (root ∷ []) 0 root (row_is (reading_of image kind owned) level (root ∷ []) t.rows) (omega arith) refl
 
-  pub level_of_root : (node_at image kind root).level ≡ level
-  level_of_root = ap (λ (n : Node). n.level) (sym (read_here image kind owned level root t.low root_level)) ∙ root_level
-
   pub root_may : MayBeRoot (node_at image kind root)
   root_may =
       let own = owned_here image kind owned level root t.low root_level in
-      let at = level_of_root in
+      let at = level_is image kind root level owned children t in
       let low = t.low in
       let count = length-children kind (node_bytes image kind root) (node_at image kind root) refl in (
         omega arith,
@@ -116,7 +114,7 @@ module _ (image : List ℕ) (kind : Kind) (root level : ℕ) (owned children : L
       )
 
   pub root_in_row : 1 ≤ length (node_at image kind root).children → IsInRow image kind owned (node_at image kind root).level (root ∷ []) root
-  root_in_row some = subst (λ (l : ℕ). IsInRow image kind owned l (root ∷ []) root) (sym level_of_root) (record {
+  root_in_row some = subst (λ (l : ℕ). IsInRow image kind owned l (root ∷ []) root) (sym (level_is image kind root level owned children t)) (record {
     formed = t.formed;
     filled = all_filled level t.owns t.filled;
     inside = inside;

@@ -6,6 +6,7 @@ use Rattle.h5_model.specs.Format.Rows.{Node, Reading, next_row, row_below, first
 use Rattle.h5_btree.specs.Climb.{IsNoNode, AreUnder, IsTreeOf, IsOver, Drops, Unlinks, EmptiesRoot}
 use Rattle.h5_btree.specs.declared.way.Step.{Step}
 use Rattle.h5_btree.proofs.RowEdits.{
+  first_right,
   FrontNames,
   BackNames,
   last_of,
@@ -32,12 +33,6 @@ use Rattle.h5_btree.proofs.ClimbLaws.{KeepsLevels, IsWay-same, row_without, rows
 
 module _ (V W : Reading) (m p : ℕ) (front back : List ℕ) (top : m < 16) (out : IsNoNode V undefined_address)
     (row : IsRow V m undefined_address (front ++ p ∷ back)) (t : Unlinks V W p) where
-  first_is : 0 < length back → get_or back 0 0 ≡ (V p).right
-  first_is some = go back refl where
-    go : (b : List ℕ) → back ≡ b → get_or back 0 0 ≡ (V p).right
-    go [] none = absurd (omega (arith, some, ap (λ (b : List ℕ). length b) none))
-    go (c ∷ cs) more = ap (λ (b : List ℕ). get_or b 0 0) more ∙ sym (right_here V m p front back top out row ∙ ap first_or_undefined more)
-
   not_left : (n : ℕ) → (V n).level ≢ m → (V n).level < 16 → n ≢ (V p).left
   not_left n other low e = go front refl where
     go : (f : List ℕ) → front ≡ f → ⊥
@@ -57,7 +52,7 @@ module _ (V W : Reading) (m p : ℕ) (front back : List ℕ) (top : m < 16) (out
         absurd (omega (arith, ap (λ (k : ℕ). (V k).level) end, low, out))
     go (c ∷ cs) some =
         let more : 0 < length back = omega (arith, ap (λ (b : List ℕ). length b) some) in
-        other (ap (λ (k : ℕ). (V k).level) (e ∙ sym (first_is more)) ∙ back_level V m p front back top out row 0 more)
+        other (ap (λ (k : ℕ). (V k).level) (e ∙ sym (first_right V m p front back top out row more)) ∙ back_level V m p front back top out row 0 more)
 
   pub unlinks_keeps : KeepsLevels V W m
   unlinks_keeps n other low =
@@ -78,7 +73,7 @@ module _ (V W : Reading) (m p : ℕ) (front back : List ℕ) (top : m < 16) (out
   unlinks_back : BackNames V W (last_of undefined_address front) back
   unlinks_back = back_names V W (last_of undefined_address front) back
       (λ some.
-      let e = first_is some in
+      let e = first_right V m p front back top out row some in
       let low : (V (V p).right).level < 16 = omega (arith, ap (λ (k : ℕ). (V k).level) e, back_level V m p front back top out row 0 some, top) in
       subst (λ (n : ℕ). W n ≡ record (V n) { left = last_of undefined_address front }) (sym e)
       (t.at_right low ∙ ap (λ (l : ℕ). record (V (V p).right) { left = l }) (left_here V m p front back top out row)))

@@ -1,11 +1,9 @@
 -- The keys and children of the nodes on the way of an insertion, from one step to the next.
-use Rattle.std.proofs.Common.{◌≡◌, ◌≢◌, inl, inr, ℕ, suc, ◌+◌, ◌*◌, ◌<◌, List, [], ◌∷◌, length, take, drop, refl, sym, ap, ◌∙◌, subst, arith, ◌==◌}
-use Rattle.std.specs.List.{AllByRecursion, insert, list_any}
-use Rattle.std.proofs.lemmas.Bool.{or_right}
+use Rattle.std.proofs.Common.{◌≡◌, ◌≢◌, inl, inr, ℕ, suc, ◌+◌, ◌*◌, ◌<◌, List, [], ◌∷◌, length, take, drop, sym, ap, ◌∙◌, subst, arith}
+use Rattle.std.specs.List.{AllByRecursion, insert}
 use Rattle.h5_bytes.proofs.BlockLaws.{all_so}
 use Rattle.h5_model.specs.Format.Rows.{Node}
 use Rattle.h5_model.specs.Format.Nodes.{Kind, node_at, node_bytes, node_of, reading_of}
-use Rattle.h5_model.proofs.RowLaws.{same_number}
 use Rattle.h5_space.specs.Space.{Space}
 use Rattle.h5_btree.specs.Rewritten.{IsRewritten}
 use Rattle.h5_btree.specs.Insertion.{HasComeIn, HasHalves, HasRisen, IsClimbing, IsFullWay, IsPutAlong, IsRootRaised, IsSplit, KeepsEntries, Owns, left_count}
@@ -33,13 +31,6 @@ full_before old new kind (step ∷ steps) same full = (
   ap (λ (xs : List ℕ). length xs) (sym same.0.1) ∙ full.0,
   full_before old new kind steps same.1 full.1,
 )
-
--- a node of the new tree too
-pub owns_more : (q n : ℕ) (own : List ℕ) → Owns own n → Owns (q ∷ own) n
-owns_more q n own is = or_right (q == n) (list_any (λ k. k == n) own) is
-
-pub owns_new : (q : ℕ) (own : List ℕ) → Owns (q ∷ own) q
-owns_new q own = rw (same_number q) refl
 
 -- the nodes above are others
 pub above_apart : (s t : Space) (kind : Kind) (root m p : ℕ) (way : List Step) (j child : ℕ) (list owned own : List ℕ)

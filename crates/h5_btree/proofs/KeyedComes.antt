@@ -17,9 +17,9 @@ use Rattle.h5_btree.specs.Insertion.{IsPutAlong, KeepsEntries, Owns}
 use Rattle.h5_btree.specs.Keyed.{AtChild, trees_below, keys_from}
 use Rattle.h5_btree.specs.Removal.{EndsInTree}
 use Rattle.h5_btree.specs.declared.way.Step.{Step}
-use Rattle.h5_btree.proofs.KeyedTrees.{StandsAlike, IsOffWay}
-use Rattle.h5_btree.proofs.KeyedOwn.{keys_count, keys_cut, long_trees, trees_cut}
-use Rattle.h5_btree.proofs.KeyedOff.{off_out, off_steps, off_here, off_stands, off_is}
+use Rattle.h5_btree.proofs.KeyedTrees.{StandsAlike}
+use Rattle.h5_btree.proofs.KeyedOwn.{keys_cut, long_trees, trees_cut}
+use Rattle.h5_btree.proofs.KeyedOff.{off_out, off_steps, off_here, off_stands, off_is, off_count}
 use Rattle.h5_btree.proofs.KeyedGrown.{IsWide, wide_behind, wide_before}
 use Rattle.h5_btree.proofs.KeyedClimb.{AreHeld, IsDone, sorted_way, climbs}
 use Rattle.h5_btree.proofs.KeyedHolds.{IsTestOf, held_by_test}
@@ -80,14 +80,11 @@ module _ {B X : Type 0} (sides : Sides (List ℕ) X) (items : B → List X) (Bas
     stands_here : AllByRecursion (StandsAlike Y W was now) (take i (Y p).children ++ drop (suc i) (Y p).children)
     stands_here = off_stands s t kind root level way owned list k e others was now same
 
-    off : IsOffWay Y W was now 0 e.above
-    off = off_is s t kind root level way owned list k e others was now same
-
     module _ (sorted : S (suc level) (keys_from Y was level root)) where
       -- ---- the node of level 0
 
       count : length (Y p).keys ≡ length (Y p).children + 1
-      count = subst (λ (o : Node). length o.keys ≡ length o.children + 1) (sym here) (keys_count s.bytes kind p)
+      count = off_count s t kind root level way owned list k e others was now same
 
       sorted_p : S 1 (keys_from Y was 0 p)
       sorted_p = sorted_way sides items Base Puts x low high follows s.bytes t.bytes kind root level owned out e.tree.low e.tree.formed some was now e.above 0 p e.front e.back
@@ -134,7 +131,7 @@ module _ {B X : Type 0} (sides : Sides (List ℕ) X) (items : B → List X) (Bas
       pub done : AreHeld sides items Base Puts x low high follows s.bytes t.bytes kind root level owned out e.tree.low e.tree.formed some was now
           → IsDone sides items Base Puts x low high follows s.bytes t.bytes kind root level owned out e.tree.low e.tree.formed some was now
       done hold = climbs sides items Base Puts x low high follows s.bytes t.bytes kind root level owned out e.tree.low e.tree.formed some was now hold sorted
-          e.above 0 p (if behind then i + 1 else i) keys child e.front e.back (let h = steps in omega (arith, h)) e.leads e.row off admits along held (within behind)
+          e.above 0 p (if behind then i + 1 else i) keys child e.front e.back (let h = steps in omega (arith, h)) e.leads e.row (off_is s t kind root level way owned list k e others was now same) admits along held (within behind)
           (wide behind (subst (λ (o : Node). ComesInAt behind was now o.keys o.children i key child) (sym here) comes))
 
       -- THE ITEM GOES INTO THE TREE OF KEYS, where the test of keys is their order

@@ -1,5 +1,5 @@
 -- The keys of a tree after an insertion: each is one of before, or one that came in. So what is so of these is so of all of them.
-use Rattle.std.proofs.Common.{◌≡◌, ◌≢◌, inl, inr, ℕ, zero, suc, ◌+◌, ◌≤◌, List, [], ◌∷◌, ◌++◌, length, map, take, drop, get_or, sym, ap, ◌∙◌, subst, arith, add-one, Bool}
+use Rattle.std.proofs.Common.{◌≡◌, ◌≢◌, inl, inr, ℕ, zero, suc, ◌+◌, ◌≤◌, List, [], ◌∷◌, ◌++◌, map, take, drop, get_or, sym, ap, ◌∙◌, subst, arith, add-one, Bool}
 use Rattle.std.specs.Bool.{⊤}
 use Rattle.std.specs.List.{AllByRecursion, insert, remove}
 use Rattle.h5_bytes.specs.Bytes.{undefined_address}
@@ -17,9 +17,9 @@ use Rattle.h5_btree.specs.Insertion.{IsPutAlong, KeepsEntries, Owns}
 use Rattle.h5_btree.specs.Keyed.{AtChild, at_children, keys_from, IsInOrder}
 use Rattle.h5_btree.specs.Removal.{EndsInTree}
 use Rattle.h5_btree.specs.declared.way.Step.{Step}
-use Rattle.h5_btree.proofs.KeyedTrees.{StandsAlike, IsOffWay}
-use Rattle.h5_btree.proofs.KeyedOwn.{keys_count, keys_own}
-use Rattle.h5_btree.proofs.KeyedOff.{off_out, off_steps, off_here, off_stands, off_is}
+use Rattle.h5_btree.proofs.KeyedTrees.{StandsAlike}
+use Rattle.h5_btree.proofs.KeyedOwn.{keys_own}
+use Rattle.h5_btree.proofs.KeyedOff.{off_out, off_steps, off_here, off_stands, off_is, off_count}
 use Rattle.h5_btree.proofs.KeyedGrown.{IsWide, wide_behind}
 use Rattle.h5_btree.proofs.KeyedClimb.{AreHeld, IsDone, climbs}
 use Rattle.h5_btree.proofs.KeyedHolds.{IsTestOf, held_by_test}
@@ -222,20 +222,11 @@ module _ {B X : Type 0} (sides : Sides (List ℕ) X) (items : B → List X) (Bas
   out : IsNoNode Y undefined_address
   out = off_out s t kind root level way owned list k e others was now same
 
-  steps : level ≡ length e.above
-  steps = off_steps s t kind root level way owned list k e others was now same
-
   here : Y p ≡ V p
   here = off_here s t kind root level way owned list k e others was now same
 
   stands_here : AllByRecursion (StandsAlike Y W was now) (take i (Y p).children ++ drop (suc i) (Y p).children)
   stands_here = off_stands s t kind root level way owned list k e others was now same
-
-  off : IsOffWay Y W was now 0 e.above
-  off = off_is s t kind root level way owned list k e others was now same
-
-  count : length (Y p).keys ≡ length (Y p).children + 1
-  count = subst (λ (o : Node). length o.keys ≡ length o.children + 1) (sym here) (keys_count s.bytes kind p)
 
   hold : AreHeld sides items Base Puts x low high follows s.bytes t.bytes kind root level owned out e.tree.low e.tree.formed some was now
   hold = λ m n f bk a b l v h deep rows ordered lies r l' goes. held_by_test sides follows test l v h
@@ -251,7 +242,7 @@ module _ {B X : Type 0} (sides : Sides (List ℕ) X) (items : B → List X) (Bas
       let more : suc i ≡ i + 1 = sym (add-one i) in
       let at_p = λ (o : Node). IsHeld sides (get_or o.keys i []) (get_or o.keys (suc i) []) u key in
       subst (λ (j : ℕ). Wide (insert (Y p).keys j key) (insert (Y p).children j child)) more
-      (wide_behind sides Puts kind.k x low high Y W was now 0 (Y p).keys (Y p).children i count e.place
+      (wide_behind sides Puts kind.k x low high Y W was now 0 (Y p).keys (Y p).children i (off_count s t kind root level way owned list k e others was now same) e.place
       (all_left (StandsAlike Y W was now) (take i (Y p).children) (drop (suc i) (Y p).children) stands_here)
       (all_right (StandsAlike Y W was now) (take i (Y p).children) (drop (suc i) (Y p).children) stands_here)
       (subst (λ (o : Node). sides.Right (get_or o.keys i []) x) (sym here) right) (subst (λ (o : Node). sides.Left x (get_or o.keys (suc i) [])) (sym here) left)
@@ -260,7 +251,7 @@ module _ {B X : Type 0} (sides : Sides (List ℕ) X) (items : B → List X) (Bas
   done : S (suc level) (keys_from Y was level root)
       → IsDone sides items Base Puts x low high follows s.bytes t.bytes kind root level owned out e.tree.low e.tree.formed some was now
   done sorted = climbs sides items Base Puts x low high follows s.bytes t.bytes kind root level owned out e.tree.low e.tree.formed some was now hold sorted
-      e.above 0 p (i + 1) keys child e.front e.back (let h = steps in omega (arith, h)) e.leads e.row off admits along held (let l = e.place in omega (arith, l)) wide
+      e.above 0 p (i + 1) keys child e.front e.back (let h = off_steps s t kind root level way owned list k e others was now same in omega (arith, h)) e.leads e.row (off_is s t kind root level way owned list k e others was now same) admits along held (let l = e.place in omega (arith, l)) wide
 
   module _ (low_known : Knows low) (high_known : Knows high) (height : ℕ) (all list' : List ℕ) (tree : HasTree t.bytes kind root height all list') where
     -- WHAT IS SO OF ALL KEYS of a tree, and of the key that comes in, is so of all keys after it has come in.

@@ -16,6 +16,7 @@ use Rattle.h5_btree.proofs.ClimbSteps.{undefined_free}
 use Rattle.h5_btree.proofs.RowEdits.{level_here}
 use Rattle.h5_btree.proofs.TreeReadings.{owned_at, owned_of_level}
 use Rattle.h5_btree.proofs.WayRows.{leaves_here, remove_below}
+use Rattle.h5_btree.proofs.KeyedOwn.{keys_count}
 use Rattle.h5_btree.proofs.KeyedTrees.{IsAlike, StandsAlike, IsOther, IsOffWay, front_apart, back_apart, way_higher, lower_apart, off_way}
 
 module _ {B : Type 0} (s t : Space) (kind : Kind) (root level : ℕ) (way : List Step) (owned list : List ℕ) (k : ℕ) (e : EndsInTree s kind root level way owned list k)
@@ -50,6 +51,9 @@ module _ {B : Type 0} (s t : Space) (kind : Kind) (root level : ℕ) (way : List
 
   pub off_here : Y p ≡ V p
   off_here = owned_at V owned p (owned_of_level V owned p (let l = level_here Y 0 p e.front e.back (omega arith) off_out e.row in omega (arith, l)))
+
+  pub off_count : length (Y p).keys ≡ length (Y p).children + 1
+  off_count = subst (λ (o : Node). length o.keys ≡ length o.children + 1) (sym off_here) (keys_count s.bytes kind p)
 
   -- ---- what stands at the other children
 

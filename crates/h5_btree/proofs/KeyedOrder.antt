@@ -14,6 +14,7 @@ use Rattle.h5_btree.specs.Keyed.{AtChild, at_children, trees_below, keys_from, I
 use Rattle.h5_btree.proofs.TreeReadings.{owned_at, owned_of_level}
 use Rattle.h5_btree.proofs.KeyedTrees.{below_long, row_levels}
 use Rattle.h5_btree.proofs.KeyedOwn.{keys_count, keys_own}
+use Rattle.h5_btree.proofs.OrderLaws.BetweenLaws.{each_down, each_up}
 
 flat-through : {A C D : Type 0} (f : A → C) (g : C → List D) (h : A → List D) → ((a : A) → g (f a) ≡ h a) → (xs : List A) → flat_map g (map f xs) ≡ flat_map h xs
 flat-through f g h same [] = refl
@@ -65,10 +66,6 @@ module _ {B X : Type 0} (items : B → List X) (at : AtChild B) (bottom : Bottom
 
       -- ---- row by row
 
-      each_down : (P : ℕ → Type 0) (row : List ℕ) → AllByRecursion P (next_row V row) → AllByRecursion (λ n. AllByRecursion P (V n).children) row
-      each_down P [] all = tt
-      each_down P (n ∷ row) all = (all_left P (V n).children (next_row V row) all, each_down P row (all_right P (V n).children (next_row V row) all))
-
       over_map : (level : ℕ) (ns : List ℕ) → AllByRecursion (λ n. S (suc level) (keys_from V at level n)) ns → AllByRecursion (S (suc level)) (map (λ n. keys_from V at level n) ns)
       over_map level [] all = tt
       over_map level (n ∷ ns) all = (all.0, over_map level ns all.1)
@@ -87,7 +84,7 @@ module _ {B X : Type 0} (items : B → List X) (at : AtChild B) (bottom : Bottom
         sorted_rows (suc level) row top rows all =
             let below = sorted_rows level (next_row V row) (omega (arith, top)) rows.1 (all_right IsNodeInOrder row (nodes V level (next_row V row)) all) in
             go row (row_levels V (suc level) undefined_address row rows.0) (all_left IsNodeInOrder row (nodes V level (next_row V row)) all)
-            (each_down (λ n. S (suc level) (keys_from V at level n)) row below)
+            (each_down (λ n. S (suc level) (keys_from V at level n)) (λ n. (V n).children) row below)
           where
             go : (ns : List ℕ) → AllByRecursion (λ n. (V n).level ≡ suc level) ns → AllByRecursion IsNodeInOrder ns
                 → AllByRecursion (λ n. AllByRecursion (λ c. S (suc level) (keys_from V at level c)) (V n).children) ns
@@ -98,10 +95,6 @@ module _ {B X : Type 0} (items : B → List X) (at : AtChild B) (bottom : Bottom
               go ns levels.1 all.1 below.1,
             )
 
-        each_up : (P : ℕ → Type 0) (row : List ℕ) → AllByRecursion (λ n. AllByRecursion P (V n).children) row → AllByRecursion P (next_row V row)
-        each_up P [] all = tt
-        each_up P (n ∷ row) all = all_append P (V n).children (next_row V row) all.0 (each_up P row all.1)
-
         rows_sorted : (level : ℕ) (row : List ℕ) → level < 16 → AreRows V level row → AllByRecursion (λ n. S (suc level) (keys_from V at level n)) row
             → AllByRecursion IsNodeInOrder (nodes V level row)
         rows_sorted zero row top rows all = go row (row_levels V 0 undefined_address row rows) all where
@@ -111,7 +104,7 @@ module _ {B X : Type 0} (items : B → List X) (at : AtChild B) (bottom : Bottom
         rows_sorted (suc level) row top rows all =
             all_append IsNodeInOrder row (nodes V level (next_row V row)) (go row (row_levels V (suc level) undefined_address row rows.0) all)
             (rows_sorted level (next_row V row) (omega (arith, top)) rows.1
-            (each_up (λ n. S (suc level) (keys_from V at level n)) row
+            (each_up (λ n. S (suc level) (keys_from V at level n)) (λ n. (V n).children) row
             (all_so (λ n. S (suc (suc level)) (keys_from V at (suc level) n)) (λ n. AllByRecursion (λ c. S (suc level) (keys_from V at level c)) (V n).children) row
             (λ n sorted. from_map level (V n).children sorted.1) all)))
           where

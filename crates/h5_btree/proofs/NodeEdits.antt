@@ -39,6 +39,14 @@ key_fits kind i low =
     let rows : i * (kind.key_length + 8) ≤ 2 * kind.k * (kind.key_length + 8) = mul-le-mul_right (kind.key_length + 8) low in
     omega arith
 
+-- the last key fits, as the code asks for it too
+module _ (kind : Kind) (bytes : List ℕ) (n : ℕ) (is : n ≡ entries_in bytes) (long : length bytes ≡ node_length kind) (form : IsNode kind bytes) where
+  pub end_fits : key_place kind n + kind.key_length ≤ length bytes
+  end_fits = let f = key_fits kind n (omega (arith, is, form.roomy)) in omega (arith, long)
+
+  pub end_within : (e k₁ : ℕ) → e ≡ key_place kind n → k₁ ≡ kind.key_length → e + k₁ ≤ length bytes
+  end_within e k₁ last one = let f = end_fits in omega (arith, last, one)
+
 -- ---- what the head says
 
 byte_in_part : (len : ℕ) (bytes : List ℕ) (p : ℕ) → p < len → byte_at (part 0 len bytes) p ≡ byte_at bytes p

@@ -9,7 +9,7 @@ use Rattle.h5_bytes.proofs.PartLaws.{with_part_is, part-with_part_other, part-co
 use Rattle.h5_bytes.proofs.FieldLaws.{number_at-with_field, number_at-with_part_other}
 use Rattle.h5_bytes.proofs.TableLaws.{table_take, table_drop}
 use Rattle.h5_model.specs.Format.Nodes.{Kind, IsNode, node_of, node_length, entries_in, key_in, key_place, child_in}
-use Rattle.h5_btree.proofs.NodeEdits.{place_before, place_within, key_fits, level_same, form_same, left_same, right_same, number_moved, keys_stay, children_stay}
+use Rattle.h5_btree.proofs.NodeEdits.{place_before, place_within, level_same, form_same, left_same, right_same, number_moved, keys_stay, children_stay, end_fits}
 use Rattle.h5_btree.proofs.NodeMoves.{length-copy_within}
 
 -- ---- the level
@@ -104,21 +104,18 @@ module _ (kind : Kind) (bytes : List ℕ) (k n : ℕ) (is : n ≡ entries_in byt
   in_order : start ≤ end
   in_order = let p = place_within kind k n place in omega arith
 
-  end_fits : end ≤ length bytes
-  end_fits = let f = key_fits kind n (omega (arith, is, form.roomy)) in omega (arith, long)
-
   pub length-moved_front : length moved_front ≡ length bytes
-  length-moved_front = let o = in_order in let e = end_fits in length-copy_within bytes start end dest o e (omega arith)
+  length-moved_front = let o = in_order in let e = end_fits kind bytes n is long form in length-copy_within bytes start end dest o e (omega arith)
 
   head_stays : (a m : ℕ) → (a + m ≤ 6) ⊎ (8 ≤ a) → a + m ≤ dest → part a m front_dropped ≡ part a m bytes
   head_stays a m far low =
-      let o = in_order in let e = end_fits in let l = length-moved_front in
+      let o = in_order in let e = end_fits kind bytes n is long form in let l = length-moved_front in
       part-with_part_other 6 (little_bytes 2 (n - k)) moved_front a m (omega (arith, long)) far
       ∙ part-copy_within_other bytes start end dest a m o e (omega arith) (inl (omega arith))
 
   comes : (a m : ℕ) → dest ≤ a → a + m + width ≤ end → part a m front_dropped ≡ part (a + width) m bytes
   comes a m low high =
-      let o = in_order in let e = end_fits in let l = length-moved_front in
+      let o = in_order in let e = end_fits kind bytes n is long form in let l = length-moved_front in
       part-with_part_other 6 (little_bytes 2 (n - k)) moved_front a m (omega (arith, long)) (inr (omega arith))
       ∙ part-copy_within bytes start end dest a (a + width) m o e (omega arith) low (omega arith) (omega arith)
 
@@ -160,11 +157,8 @@ module _ (kind : Kind) (bytes : List ℕ) (k n : ℕ) (is : n ≡ entries_in byt
   pub dropped_form : IsNode kind front_dropped
   dropped_form = form_same kind bytes front_dropped (head_stays 0 6 (inl (omega arith)) (omega arith)) (let c = count_left in omega (arith, is, form.roomy)) form
 
-  pub drop_end : (e k₁ : ℕ) → e ≡ key_place kind n → k₁ ≡ kind.key_length → e + k₁ ≤ length bytes
-  drop_end e k₁ last one = let f = end_fits in omega (arith, last, one)
-
   pub drop_fits : (s e d k₁ : ℕ) → s ≡ key_place kind k → e ≡ key_place kind n → d ≡ key_place kind 0 → k₁ ≡ kind.key_length → d + (e + k₁ - s) ≤ length bytes
-  drop_fits s e d k₁ first last to one = let o = in_order in let f = end_fits in omega (arith, first, last, to, one)
+  drop_fits s e d k₁ first last to one = let o = in_order in let f = end_fits kind bytes n is long form in omega (arith, first, last, to, one)
 
   -- the same from the writes of the code
   pub front_dropped_is : (s e d k₁ : ℕ) (moved last : List ℕ) → s ≡ key_place kind k → e ≡ key_place kind n → d ≡ key_place kind 0 → k₁ ≡ kind.key_length

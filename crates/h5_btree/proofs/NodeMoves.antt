@@ -9,7 +9,7 @@ use Rattle.h5_bytes.proofs.PartLaws.{length-with_part, part-with_part_same, part
 use Rattle.h5_bytes.proofs.FieldLaws.{number_at-with_field, number_at-with_part_other}
 use Rattle.h5_bytes.proofs.TableLaws.{table_insert, table_remove}
 use Rattle.h5_model.specs.Format.Nodes.{Kind, IsNode, node_of, node_length, entries_in, key_in, key_place, child_in}
-use Rattle.h5_btree.proofs.NodeEdits.{place_next, place_before, place_within, key_fits, level_same, form_same, left_same, right_same, number_moved}
+use Rattle.h5_btree.proofs.NodeEdits.{place_next, place_before, place_within, key_fits, level_same, form_same, left_same, right_same, number_moved, end_fits}
 
 pub length-copy_within : (xs : List ℕ) (from to dest : ℕ) → from ≤ to → to ≤ length xs → dest + (to - from) ≤ length xs → length (copy_within xs from to dest) ≡ length xs
 length-copy_within xs from to dest a b c = search (rules, places)
@@ -173,21 +173,18 @@ module _ (kind : Kind) (bytes : List ℕ) (j n : ℕ) (is : n ≡ entries_in byt
   in_order : start ≤ end
   in_order = let p = place_within kind (j + 1) n (omega (arith, place)) in omega arith
 
-  end_fits : end ≤ length bytes
-  end_fits = let f = key_fits kind n (omega (arith, is, form.roomy)) in omega (arith, long)
-
   pub length-shifted_back : length shifted_back ≡ length bytes
-  length-shifted_back = let s = start_is in let o = in_order in let e = end_fits in length-copy_within bytes start end dest o e (omega arith)
+  length-shifted_back = let s = start_is in let o = in_order in let e = end_fits kind bytes n is long form in length-copy_within bytes start end dest o e (omega arith)
 
   stays : (a m : ℕ) → (a + m ≤ 6) ⊎ (8 ≤ a) → a + m ≤ dest → part a m taken_out ≡ part a m bytes
   stays a m far low =
-      let s = start_is in let o = in_order in let e = end_fits in let l = length-shifted_back in
+      let s = start_is in let o = in_order in let e = end_fits kind bytes n is long form in let l = length-shifted_back in
       part-with_part_other 6 (little_bytes 2 (n - 1)) shifted_back a m (omega (arith, long)) far
       ∙ part-copy_within_other bytes start end dest a m o e (omega arith) (inl low)
 
   comes : (a m : ℕ) → dest ≤ a → a + m + width_of ≤ end → part a m taken_out ≡ part (a + width_of) m bytes
   comes a m low high =
-      let s = start_is in let o = in_order in let e = end_fits in let l = length-shifted_back in
+      let s = start_is in let o = in_order in let e = end_fits kind bytes n is long form in let l = length-shifted_back in
       part-with_part_other 6 (little_bytes 2 (n - 1)) shifted_back a m (omega (arith, long)) (inr (omega arith))
       ∙ part-copy_within bytes start end dest a (a + width_of) m o e (omega arith) low (omega arith) (omega arith)
 
@@ -232,11 +229,8 @@ module _ (kind : Kind) (bytes : List ℕ) (j n : ℕ) (is : n ≡ entries_in byt
   pub taken_out_form : IsNode kind taken_out
   taken_out_form = form_same kind bytes taken_out (stays 0 6 (inl (omega arith)) (omega arith)) (let c = count_left in omega (arith, is, form.roomy)) form
 
-  pub end_within : (e k₁ : ℕ) → e ≡ key_place kind n → k₁ ≡ kind.key_length → e + k₁ ≤ length bytes
-  end_within e k₁ last one = let f = end_fits in omega (arith, last, one)
-
   pub shift_back_fits : (s e d k₁ : ℕ) → s ≡ key_place kind (j + 1) → e ≡ key_place kind n → d ≡ key_place kind j → k₁ ≡ kind.key_length → d + (e + k₁ - s) ≤ length bytes
-  shift_back_fits s e d k₁ first last to one = let o = in_order in let f = end_fits in let x = start_is in omega (arith, first, last, to, one)
+  shift_back_fits s e d k₁ first last to one = let o = in_order in let f = end_fits kind bytes n is long form in let x = start_is in omega (arith, first, last, to, one)
 
   -- the same from the writes of the code, one after another
   pub taken_out_is : (s e d k₁ : ℕ) (moved last : List ℕ) → s ≡ key_place kind (j + 1) → e ≡ key_place kind n → d ≡ key_place kind j → k₁ ≡ kind.key_length

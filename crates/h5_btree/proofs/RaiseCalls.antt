@@ -1,15 +1,13 @@
 -- A root that is raised, by the calls that the code makes: what each may rely on, and what the three nodes are at the end.
-use Rattle.std.proofs.Common.{◌≡◌, ◌≢◌, ℕ, suc, ◌+◌, ◌<◌, ◌≤◌, List, [], ◌∷◌, ◌++◌, length, take, Some, refl, sym, ap, ◌∙◌, subst, arith, ◌==◌}
+use Rattle.std.proofs.Common.{◌≡◌, ◌≢◌, ℕ, suc, ◌+◌, ◌<◌, ◌≤◌, List, [], ◌∷◌, ◌++◌, length, take, Some, refl, sym, ap, ◌∙◌, subst, arith}
 use Rattle.std.specs.Prelude.{slice_get, slice_set}
-use Rattle.std.specs.List.{list_any, insert}
+use Rattle.std.specs.List.{insert}
 use Rattle.std.proofs.lemmas.Option.{get_or_from_slice_get, slice_get_within}
-use Rattle.std.proofs.lemmas.Bool.{or_right}
 use Rattle.h5_bytes.specs.Bytes.{undefined_address}
 use Rattle.h5_bytes.proofs.PartLaws.{length-part}
 use Rattle.h5_model.specs.Format.Limits.{highest_level}
 use Rattle.h5_model.specs.Format.Rows.{Node, first_or_undefined}
 use Rattle.h5_model.specs.Format.Nodes.{Kind, IsNode, node_at, node_block, node_bytes, node_length, node_of, reading_of, tree_blocks}
-use Rattle.h5_model.proofs.RowLaws.{same_number}
 use Rattle.h5_space.specs.Space.{Space}
 use Rattle.h5_space.specs.Moves.{Moves}
 use Rattle.h5_space.specs.Whole.{IsApart}
@@ -18,7 +16,7 @@ use Rattle.h5_btree.specs.Rewritten.{IsRewritten}
 use Rattle.h5_btree.specs.Insertion.{IsClimbing, IsChildPut, KeepsEntries}
 use Rattle.h5_btree.proofs.NodeLaws.{keys_long}
 use Rattle.h5_btree.proofs.RowEdits.{last_of, level_here, left_here, right_here}
-use Rattle.h5_btree.proofs.TreeReadings.{Listed}
+use Rattle.h5_btree.proofs.TreeReadings.{Listed, owns_more, owns_new}
 use Rattle.h5_btree.proofs.ClimbStands.{top, out, own_p, inside_p, form_p, same_p}
 use Rattle.h5_btree.proofs.SplitSteps.{taken_apart, taken_new, taken_others, written_apart, written_others}
 use Rattle.h5_btree.proofs.RaiseSteps.{climb_raise, others, others_filled, p_bytes, q_bytes}
@@ -102,20 +100,8 @@ module _ (s t t₁ t₂ : Space) (kind : Kind) (root m j child : ℕ) (list owne
       ∙ right_here (reading_of t.bytes kind own) m root c.lacks.front c.lacks.back (top s t kind root m root [] j child list owned own c) (out s t kind root m root [] j child list owned own c) c.lacks.row
       ∙ ap first_or_undefined c.lacks.above.2
 
-  among : (n : ℕ) → Listed own n → Listed (q ∷ own) n
-  among n at = or_right (q == n) (list_any (λ k. k == n) own) at
-
-  among_all : (n : ℕ) → Listed (q ∷ own) n → Listed all n
-  among_all n at = or_right (p == n) (list_any (λ k. k == n) (q ∷ own)) at
-
-  is_q : Listed (q ∷ own) q
-  is_q = rw (same_number q) refl
-
-  is_p : Listed all p
-  is_p = rw (same_number p) refl
-
   is_root : Listed all root
-  is_root = among_all root (among root own_root)
+  is_root = owns_more p root (q ∷ own) (owns_more q root own own_root)
 
   apart₁ : IsApart (tree_blocks kind (q ∷ own)) t₁.free (length t₁.bytes)
   apart₁ = taken_apart t t₁ kind own q c.apart take_q
@@ -127,7 +113,7 @@ module _ (s t t₁ t₂ : Space) (kind : Kind) (root m j child : ℕ) (list owne
   new_p = taken_new t₁ t₂ kind (q ∷ own) p apart₁ take_p
 
   pub root_bytes₂ : node_bytes t₂.bytes kind root ≡ node_bytes t.bytes kind root
-  root_bytes₂ = taken_others t₁ t₂ kind (q ∷ own) p apart₁ take_p root (among root own_root) ∙ taken_others t t₁ kind own q c.apart take_q root own_root
+  root_bytes₂ = taken_others t₁ t₂ kind (q ∷ own) p apart₁ take_p root (owns_more q root own own_root) ∙ taken_others t t₁ kind own q c.apart take_q root own_root
 
   pub root_inside₂ : root + node_length kind ≤ length t₂.bytes
   root_inside₂ = let i = inside_p s t kind root m root [] j child list owned own c in omega (arith, i, take_q.grown, take_p.grown)
@@ -138,10 +124,10 @@ module _ (s t t₁ t₂ : Space) (kind : Kind) (root m j child : ℕ) (list owne
   -- the left one is written
   module _ (t₃ : Space) (node_p : Node) (write_p : IsRewritten t₂ t₃ kind p node_p) where
     apart₃ : IsApart (tree_blocks kind all) t₃.free (length t₃.bytes)
-    apart₃ = written_apart t₂ t₃ kind all p node_p apart₂ is_p write_p
+    apart₃ = written_apart t₂ t₃ kind all p node_p apart₂ (owns_new p (q ∷ own)) write_p
 
     pub root_bytes₃ : node_bytes t₃.bytes kind root ≡ node_bytes t.bytes kind root
-    root_bytes₃ = written_others t₂ t₃ kind all p node_p apart₂ is_p write_p root is_root (new_p root (among root own_root)) ∙ root_bytes₂
+    root_bytes₃ = written_others t₂ t₃ kind all p node_p apart₂ (owns_new p (q ∷ own)) write_p root is_root (new_p root (owns_more q root own own_root)) ∙ root_bytes₂
 
     pub root_inside₃ : root + node_length kind ≤ length t₃.bytes
     root_inside₃ = let i = root_inside₂ in omega (arith, i, write_p.moves.grown)
@@ -153,7 +139,7 @@ module _ (s t t₁ t₂ : Space) (kind : Kind) (root m j child : ℕ) (list owne
     module _ (t₄ : Space) (node_q : Node) (write_q : IsRewritten t₃ t₄ kind q node_q) where
       pub root_bytes₄ : node_bytes t₄.bytes kind root ≡ node_bytes t.bytes kind root
       root_bytes₄ =
-          written_others t₃ t₄ kind all q node_q apart₃ (among_all q is_q) write_q root is_root (taken_new t t₁ kind own q c.apart take_q root own_root) ∙ root_bytes₃
+          written_others t₃ t₄ kind all q node_q apart₃ (owns_more p q (q ∷ own) (owns_new q own)) write_q root is_root (taken_new t t₁ kind own q c.apart take_q root own_root) ∙ root_bytes₃
 
       pub root_inside₄ : root + node_length kind ≤ length t₄.bytes
       root_inside₄ = let i = root_inside₃ in omega (arith, i, write_q.moves.grown)
@@ -162,7 +148,7 @@ module _ (s t t₁ t₂ : Space) (kind : Kind) (root m j child : ℕ) (list owne
       root_form₄ = subst (IsNode kind) (sym root_bytes₄) (form_p s t kind root m root [] j child list owned own c)
 
       pub left_bytes₄ : node_bytes t₄.bytes kind p ≡ node_bytes t₃.bytes kind p
-      left_bytes₄ = written_others t₃ t₄ kind all q node_q apart₃ (among_all q is_q) write_q p is_p (λ e. new_p q is_q (sym e))
+      left_bytes₄ = written_others t₃ t₄ kind all q node_q apart₃ (owns_more p q (q ∷ own) (owns_new q own)) write_q p (owns_new p (q ∷ own)) (λ e. new_p q (owns_new q own) (sym e))
 
       pub left_form₄ : IsNode kind (node_bytes t₄.bytes kind p)
       left_form₄ = subst (IsNode kind) (sym left_bytes₄) write_p.form

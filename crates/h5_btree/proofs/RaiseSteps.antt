@@ -1,13 +1,12 @@
 -- The root's split in an image: two blocks are taken and written, and then the root is. So the premises of the last step of the climb
 -- are met.
-use Rattle.std.proofs.Common.{◌≡◌, ◌≢◌, ℕ, zero, suc, ◌+◌, ◌<◌, ◌≤◌, List, [], ◌∷◌, ◌++◌, length, refl, sym, ap, ◌∙◌, subst, arith, ◌==◌}
-use Rattle.std.specs.List.{list_any, insert, AllByRecursion}
-use Rattle.std.proofs.lemmas.Bool.{or_right}
+use Rattle.std.proofs.Common.{◌≡◌, ◌≢◌, ℕ, zero, suc, ◌+◌, ◌<◌, ◌≤◌, List, [], ◌∷◌, ◌++◌, length, refl, sym, ap, ◌∙◌, subst, arith}
+use Rattle.std.specs.List.{insert, AllByRecursion}
 use Rattle.h5_bytes.specs.Bytes.{undefined_address}
 use Rattle.h5_model.specs.Format.Limits.{highest_level}
 use Rattle.h5_model.specs.Format.Rows.{Node, nodes}
 use Rattle.h5_model.specs.Format.Nodes.{Kind, IsNode, entries_in, node_at, node_block, node_bytes, node_length, node_of, reading_of, tree_blocks}
-use Rattle.h5_model.proofs.RowLaws.{all_listed, at_listed, same_number}
+use Rattle.h5_model.proofs.RowLaws.{all_listed, at_listed}
 use Rattle.h5_space.specs.Space.{Space}
 use Rattle.h5_space.specs.Moves.{Moves}
 use Rattle.h5_space.specs.Whole.{IsApart}
@@ -16,7 +15,7 @@ use Rattle.h5_btree.specs.Climb.{RaisesRoot}
 use Rattle.h5_btree.specs.Rewritten.{IsRewritten}
 use Rattle.h5_btree.proofs.NodeLaws.{length-children}
 use Rattle.h5_btree.proofs.RowEdits.{level_here}
-use Rattle.h5_btree.proofs.TreeReadings.{Listed, owned_of_level, raises_in}
+use Rattle.h5_btree.proofs.TreeReadings.{Listed, owned_of_level, raises_in, owns_more, owns_new}
 use Rattle.h5_btree.proofs.ClimbSteps.{IsClimbing, IsChildPut, climb_raised, undefined_free, all_from, at_or, covers_two}
 use Rattle.h5_btree.proofs.OwnedLaws.{total, cover_total}
 use Rattle.h5_bytes.specs.Blocks.{holds}
@@ -35,18 +34,6 @@ module _ (t t₁ t₂ t₃ t₄ u : Space) (kind : Kind) (own : List ℕ) (root 
   abbrev all : List ℕ
   all = p ∷ q ∷ own
 
-  among : (n : ℕ) → Listed own n → Listed (q ∷ own) n
-  among n at = or_right (q == n) (list_any (λ m. m == n) own) at
-
-  among_all : (n : ℕ) → Listed (q ∷ own) n → Listed all n
-  among_all n at = or_right (p == n) (list_any (λ m. m == n) (q ∷ own)) at
-
-  is_q : Listed (q ∷ own) q
-  is_q = rw (same_number q) refl
-
-  is_p : Listed all p
-  is_p = rw (same_number p) refl
-
   apart₁ : IsApart (tree_blocks kind (q ∷ own)) t₁.free (length t₁.bytes)
   apart₁ = taken_apart t t₁ kind own q apart take_q
 
@@ -54,10 +41,10 @@ module _ (t t₁ t₂ t₃ t₄ u : Space) (kind : Kind) (own : List ℕ) (root 
   apart₂ = taken_apart t₁ t₂ kind (q ∷ own) p apart₁ take_p
 
   apart₃ : IsApart (tree_blocks kind all) t₃.free (length t₃.bytes)
-  apart₃ = written_apart t₂ t₃ kind all p _ apart₂ is_p write_p
+  apart₃ = written_apart t₂ t₃ kind all p _ apart₂ (owns_new p (q ∷ own)) write_p
 
   apart₄ : IsApart (tree_blocks kind all) t₄.free (length t₄.bytes)
-  apart₄ = written_apart t₃ t₄ kind all q _ apart₃ (among_all q is_q) write_q
+  apart₄ = written_apart t₃ t₄ kind all q _ apart₃ (owns_more p q (q ∷ own) (owns_new q own)) write_q
 
   new_q : (n : ℕ) → Listed own n → n ≢ q
   new_q = taken_new t t₁ kind own q apart take_q
@@ -66,36 +53,36 @@ module _ (t t₁ t₂ t₃ t₄ u : Space) (kind : Kind) (own : List ℕ) (root 
   new_p = taken_new t₁ t₂ kind (q ∷ own) p apart₁ take_p
 
   is_root : Listed all root
-  is_root = among_all root (among root is)
+  is_root = owns_more p root (q ∷ own) (owns_more q root own is)
 
   pub others : (n : ℕ) → Listed own n → n ≢ root → node_bytes u.bytes kind n ≡ node_bytes t.bytes kind n
   others n at not_root =
-      let here = among_all n (among n at) in
+      let here = owns_more p n (q ∷ own) (owns_more q n own at) in
       written_others t₄ u kind all root _ apart₄ is_root write_root n here not_root
-      ∙ written_others t₃ t₄ kind all q _ apart₃ (among_all q is_q) write_q n here (new_q n at)
-      ∙ written_others t₂ t₃ kind all p _ apart₂ is_p write_p n here (new_p n (among n at))
-      ∙ taken_others t₁ t₂ kind (q ∷ own) p apart₁ take_p n (among n at)
+      ∙ written_others t₃ t₄ kind all q _ apart₃ (owns_more p q (q ∷ own) (owns_new q own)) write_q n here (new_q n at)
+      ∙ written_others t₂ t₃ kind all p _ apart₂ (owns_new p (q ∷ own)) write_p n here (new_p n (owns_more q n own at))
+      ∙ taken_others t₁ t₂ kind (q ∷ own) p apart₁ take_p n (owns_more q n own at)
       ∙ taken_others t t₁ kind own q apart take_q n at
 
   pub q_bytes : node_bytes u.bytes kind q ≡ node_bytes t₄.bytes kind q
-  q_bytes = written_others t₄ u kind all root _ apart₄ is_root write_root q (among_all q is_q) (λ e. new_q root is (sym e))
+  q_bytes = written_others t₄ u kind all root _ apart₄ is_root write_root q (owns_more p q (q ∷ own) (owns_new q own)) (λ e. new_q root is (sym e))
 
   pub p_bytes : node_bytes u.bytes kind p ≡ node_bytes t₃.bytes kind p
   p_bytes =
-      written_others t₄ u kind all root _ apart₄ is_root write_root p is_p (λ e. new_p root (among root is) (sym e))
-      ∙ written_others t₃ t₄ kind all q _ apart₃ (among_all q is_q) write_q p is_p (λ e. new_p q is_q (sym e))
+      written_others t₄ u kind all root _ apart₄ is_root write_root p (owns_new p (q ∷ own)) (λ e. new_p root (owns_more q root own is) (sym e))
+      ∙ written_others t₃ t₄ kind all q _ apart₃ (owns_more p q (q ∷ own) (owns_new q own)) write_q p (owns_new p (q ∷ own)) (λ e. new_p q (owns_new q own) (sym e))
 
   pub raise_moves : Moves t u (tree_blocks kind own) (tree_blocks kind all)
   raise_moves = moves_then t t₁ u (tree_blocks kind own) (tree_blocks kind (q ∷ own)) (tree_blocks kind all) (taken_moves t t₁ kind own q apart take_q)
       (moves_then t₁ t₂ u (tree_blocks kind (q ∷ own)) (tree_blocks kind all) (tree_blocks kind all) (taken_moves t₁ t₂ kind (q ∷ own) p apart₁ take_p)
-      (moves_then t₂ t₃ u (tree_blocks kind all) (tree_blocks kind all) (tree_blocks kind all) (written_moves t₂ t₃ kind all p _ apart₂ is_p write_p)
-      (moves_then t₃ t₄ u (tree_blocks kind all) (tree_blocks kind all) (tree_blocks kind all) (written_moves t₃ t₄ kind all q _ apart₃ (among_all q is_q) write_q)
+      (moves_then t₂ t₃ u (tree_blocks kind all) (tree_blocks kind all) (tree_blocks kind all) (written_moves t₂ t₃ kind all p _ apart₂ (owns_new p (q ∷ own)) write_p)
+      (moves_then t₃ t₄ u (tree_blocks kind all) (tree_blocks kind all) (tree_blocks kind all) (written_moves t₃ t₄ kind all q _ apart₃ (owns_more p q (q ∷ own) (owns_new q own)) write_q)
       (written_moves t₄ u kind all root _ apart₄ is_root write_root))))
 
   pub raise_is : (r : RaisesRoot (reading_of t.bytes kind own) (reading_of u.bytes kind all) root j child) × (r.p ≡ p) × (r.q ≡ q)
-  raise_is = raises_in (node_at t.bytes kind) (node_at u.bytes kind) own all root j child p q xs ys keys keys_p keys_q is is_root is_p (among_all q is_q) joined
+  raise_is = raises_in (node_at t.bytes kind) (node_at u.bytes kind) own all root j child p q xs ys keys keys_p keys_q is is_root (owns_new p (q ∷ own)) (owns_more p q (q ∷ own) (owns_new q own)) joined
       write_root.says (ap (node_of kind) p_bytes ∙ write_p.says) (ap (node_of kind) q_bytes ∙ write_q.says)
-      (λ n at not_root. (among_all n (among n at), ap (node_of kind) (others n at not_root)))
+      (λ n at not_root. (owns_more p n (q ∷ own) (owns_more q n own at), ap (node_of kind) (others n at not_root)))
 
   each : (P : List ℕ → Type 0) → ((n : ℕ) → Listed own n → n ≢ root → P (node_bytes t.bytes kind n)) → P (node_bytes u.bytes kind root)
       → P (node_bytes t₄.bytes kind q) → P (node_bytes t₃.bytes kind p) → AllByRecursion (λ at. P (node_bytes u.bytes kind at)) all

@@ -57,14 +57,11 @@ keyed_apart s t kind owned apart k = apart_then s t (tree_blocks kind owned) (tr
 -- one node more is written
 module _ (s t u : Space) (kind : Kind) (owned : List ℕ) (apart : IsApart (tree_blocks kind owned) s.free (length s.bytes)) (k : IsKeyed s t kind owned) (at : ℕ) (listed : Owns owned at)
     (keys : List (List ℕ)) (r : IsRewritten t u kind at (record (node_at t.bytes kind at) { keys = keys })) where
-  apart_t : IsApart (tree_blocks kind owned) t.free (length t.bytes)
-  apart_t = keyed_apart s t kind owned apart k
-
   pub node_other : (n : ℕ) → Owns owned n → n ≢ at → node_bytes u.bytes kind n ≡ node_bytes t.bytes kind n
-  node_other = written_others t u kind owned at _ apart_t listed r
+  node_other = written_others t u kind owned at _ (keyed_apart s t kind owned apart k) listed r
 
   pub keyed_moves : Moves s u (tree_blocks kind owned) (tree_blocks kind owned)
-  keyed_moves = moves_then s t u (tree_blocks kind owned) (tree_blocks kind owned) (tree_blocks kind owned) k.moves (written_moves t u kind owned at _ apart_t listed r)
+  keyed_moves = moves_then s t u (tree_blocks kind owned) (tree_blocks kind owned) (tree_blocks kind owned) k.moves (written_moves t u kind owned at _ (keyed_apart s t kind owned apart k) listed r)
 
   pub keyed_formed : AllByRecursion (λ n. IsNode kind (node_bytes u.bytes kind n)) owned
   keyed_formed = all_from owned (λ n. IsNode kind (node_bytes u.bytes kind n)) (λ n is. at_or at n

@@ -88,6 +88,13 @@ module _ (V : Reading) (l p : ℕ) (front back : List ℕ) (low : l < 16) (out :
     go [] left is = is.2
     go (x ∷ xs) left is = go xs x is.3
 
+  -- the first of what stands to the right is the neighbour there
+  pub first_right : 0 < length back → get_or back 0 0 ≡ (V p).right
+  first_right some = go back refl where
+    go : (b : List ℕ) → back ≡ b → get_or back 0 0 ≡ (V p).right
+    go [] none = absurd (omega (arith, some, ap (λ (b : List ℕ). length b) none))
+    go (c ∷ cs) more = ap (λ (b : List ℕ). get_or b 0 0) more ∙ sym (right_here ∙ ap first_or_undefined more)
+
   pub left_here : (V p).left ≡ last_of undefined_address front
   left_here = go front undefined_address row where
     go : (xs : List ℕ) (left : ℕ) → IsRow V l left (xs ++ p ∷ back) → (V p).left ≡ last_of left xs

@@ -2,14 +2,13 @@
 -- premises of a step of the climb are met.
 use Rattle.std.proofs.Common.{◌≡◌, ◌≢◌, ◌⊎◌, get_or, inl, inr, ℕ, suc, ◌^◌, ◌<◌, ◌≤◌, List, [], ◌∷◌, ◌++◌, length, refl, sym, ap, ◌∙◌, subst, arith, append-nil, Bool, true, false, ◌==◌}
 use Rattle.std.specs.List.{list_any, insert, AllByRecursion}
-use Rattle.std.proofs.lemmas.Bool.{or_right}
 use Rattle.h5_bytes.specs.Blocks.{holds}
 use Rattle.h5_bytes.specs.declared.Block.{Block}
 use Rattle.h5_bytes.proofs.BlockLaws.{holds_in, holds-le}
 use Rattle.h5_bytes.specs.Bytes.{undefined_address}
 use Rattle.h5_model.specs.Format.Rows.{Node, IsRow, first_or_undefined}
 use Rattle.h5_model.specs.Format.Nodes.{Kind, IsNode, entries_in, node_at, node_block, node_bytes, node_length, node_of, reading_of, tree_blocks}
-use Rattle.h5_model.proofs.RowLaws.{all_listed, at_listed, same_number}
+use Rattle.h5_model.proofs.RowLaws.{all_listed, at_listed}
 use Rattle.h5_space.specs.Space.{Space}
 use Rattle.h5_space.specs.Moves.{Moves}
 use Rattle.h5_space.specs.Whole.{IsApart}
@@ -17,7 +16,7 @@ use Rattle.h5_space.proofs.MovesLaws.{moves_none, moves_then, moves_apart, moves
 use Rattle.h5_btree.specs.Climb.{IsNoNode, Splits}
 use Rattle.h5_btree.specs.Rewritten.{IsRewritten}
 use Rattle.h5_btree.proofs.NodeLaws.{length-children}
-use Rattle.h5_btree.proofs.TreeReadings.{Listed, owned_at, owned_of_level, splits_in}
+use Rattle.h5_btree.proofs.TreeReadings.{Listed, owned_at, owned_of_level, splits_in, owns_more, owns_new}
 use Rattle.h5_btree.proofs.RowEdits.{level_here, right_here, back_level, back_other}
 use Rattle.h5_btree.specs.declared.way.Step.{Step}
 use Rattle.h5_btree.proofs.ClimbSteps.{IsClimbing, climb_up, undefined_free, all_from, at_or, covers, inside_of_apart, others_stay, moves_within}
@@ -85,20 +84,14 @@ module _ (t t₁ t₂ t₃ u : Space) (kind : Kind) (own : List ℕ) (p q j chil
   new : (n : ℕ) → Listed own n → n ≢ q
   new = taken_new t t₁ kind own q apart take_q
 
-  among : (n : ℕ) → Listed own n → Listed all n
-  among n own_n = or_right (q == n) (list_any (λ m. m == n) own) own_n
-
-  is_q : Listed all q
-  is_q = rw (same_number q) refl
-
   apart₁ : IsApart (tree_blocks kind all) t₁.free (length t₁.bytes)
   apart₁ = taken_apart t t₁ kind own q apart take_q
 
   apart₂ : IsApart (tree_blocks kind all) t₂.free (length t₂.bytes)
-  apart₂ = written_apart t₁ t₂ kind all q _ apart₁ is_q write_q
+  apart₂ = written_apart t₁ t₂ kind all q _ apart₁ (owns_new q own) write_q
 
   apart₃ : IsApart (tree_blocks kind all) t₃.free (length t₃.bytes)
-  apart₃ = written_apart t₂ t₃ kind all p _ apart₂ (among p is) write_p
+  apart₃ = written_apart t₂ t₃ kind all p _ apart₂ (owns_more q p own is) write_p
 
   -- whether there is a neighbour to the right or not, at the end it names q, and the other nodes are as before that write
   pub last_write : Moves t₃ u (tree_blocks kind all) (tree_blocks kind all)
@@ -110,8 +103,8 @@ module _ (t t₁ t₂ t₃ u : Space) (kind : Kind) (own : List ℕ) (p q j chil
         × (Listed own r → IsNode kind (node_bytes u.bytes kind r) × (node_at u.bytes kind r ≡ record (node_at t.bytes kind r) { left = q }))
     go true e =
         let w = write_next e in
-        let others = written_others t₃ u kind all r _ apart₃ (among r e) w in
-        (written_moves t₃ u kind all r _ apart₃ (among r e) w, others, λ listed. (w.form, w.says))
+        let others = written_others t₃ u kind all r _ apart₃ (owns_more q r own e) w in
+        (written_moves t₃ u kind all r _ apart₃ (owns_more q r own e) w, others, λ listed. (w.form, w.says))
     go false e =
         let same = no_next e in
         let bytes : (n : ℕ) → node_bytes u.bytes kind n ≡ node_bytes t₃.bytes kind n = λ n. ap (λ (s : Space). node_bytes s.bytes kind n) same in (
@@ -124,31 +117,31 @@ module _ (t t₁ t₂ t₃ u : Space) (kind : Kind) (own : List ℕ) (p q j chil
   -- a node that is neither of the three has its bytes
   pub split_others : (n : ℕ) → Listed own n → n ≢ p → n ≢ r → node_bytes u.bytes kind n ≡ node_bytes t.bytes kind n
   split_others n listed not_p not_r =
-      last_write.1 n (among n listed) not_r
-      ∙ written_others t₂ t₃ kind all p _ apart₂ (among p is) write_p n (among n listed) not_p
-      ∙ written_others t₁ t₂ kind all q _ apart₁ is_q write_q n (among n listed) (new n listed)
+      last_write.1 n (owns_more q n own listed) not_r
+      ∙ written_others t₂ t₃ kind all p _ apart₂ (owns_more q p own is) write_p n (owns_more q n own listed) not_p
+      ∙ written_others t₁ t₂ kind all q _ apart₁ (owns_new q own) write_q n (owns_more q n own listed) (new n listed)
       ∙ taken_others t t₁ kind own q apart take_q n listed
 
   -- p and q say what was written
   pub p_bytes : node_bytes u.bytes kind p ≡ node_bytes t₃.bytes kind p
-  p_bytes = last_write.1 p (among p is) (λ e. far (sym e))
+  p_bytes = last_write.1 p (owns_more q p own is) (λ e. far (sym e))
 
   pub q_bytes : q ≢ r → node_bytes u.bytes kind q ≡ node_bytes t₂.bytes kind q
   q_bytes other =
-      last_write.1 q is_q other ∙ written_others t₂ t₃ kind all p _ apart₂ (among p is) write_p q is_q (λ e. new p is (sym e))
+      last_write.1 q (owns_new q own) other ∙ written_others t₂ t₃ kind all p _ apart₂ (owns_more q p own is) write_p q (owns_new q own) (λ e. new p is (sym e))
 
   pub split_moves : Moves t u (tree_blocks kind own) (tree_blocks kind all)
   split_moves = moves_then t t₁ u (tree_blocks kind own) (tree_blocks kind all) (tree_blocks kind all) (taken_moves t t₁ kind own q apart take_q)
-      (moves_then t₁ t₂ u (tree_blocks kind all) (tree_blocks kind all) (tree_blocks kind all) (written_moves t₁ t₂ kind all q _ apart₁ is_q write_q)
-      (moves_then t₂ t₃ u (tree_blocks kind all) (tree_blocks kind all) (tree_blocks kind all) (written_moves t₂ t₃ kind all p _ apart₂ (among p is) write_p) last_write.0))
+      (moves_then t₁ t₂ u (tree_blocks kind all) (tree_blocks kind all) (tree_blocks kind all) (written_moves t₁ t₂ kind all q _ apart₁ (owns_new q own) write_q)
+      (moves_then t₂ t₃ u (tree_blocks kind all) (tree_blocks kind all) (tree_blocks kind all) (written_moves t₂ t₃ kind all p _ apart₂ (owns_more q p own is) write_p) last_write.0))
 
   pub split_is : q ≢ r → Splits (reading_of t.bytes kind own) (reading_of u.bytes kind all) p j child q
   split_is other =
-      splits_in (node_at t.bytes kind) (node_at u.bytes kind) own all p j child q xs ys keys keys_q is (among p is) is_q joined
+      splits_in (node_at t.bytes kind) (node_at u.bytes kind) own all p j child q xs ys keys keys_q is (owns_more q p own is) (owns_new q own) joined
       (ap (node_of kind) p_bytes ∙ write_p.says)
       (ap (node_of kind) (q_bytes other) ∙ write_q.says)
-      (λ listed. (among r listed, (last_write.2 listed).1))
-      (λ n listed not_p not_r. (among n listed, ap (node_of kind) (split_others n listed not_p not_r)))
+      (λ listed. (owns_more q r own listed, (last_write.2 listed).1))
+      (λ n listed not_p not_r. (owns_more q n own listed, ap (node_of kind) (split_others n listed not_p not_r)))
 
   -- each of the nodes is one
   pub split_formed : q ≢ r → AllByRecursion (λ at. IsNode kind (node_bytes u.bytes kind at)) all
@@ -226,7 +219,7 @@ climb_split s t t₁ t₂ t₃ u kind root m p step way j child q xs ys list own
     let other : q ≢ (node_at t.bytes kind p).right = λ e. elim known.0 [
       | inl none ↦
           let grown = (split_moves t t₁ t₂ t₃ u kind own p q j child xs ys keys keys_q c.apart is_p c.formed filled far take_q write_q write_p write_next no_next joined some more) in
-          let i = inside_of_apart u kind (q ∷ own) (apart_then t u (tree_blocks kind own) (tree_blocks kind (q ∷ own)) grown c.apart) q (rw (same_number q) refl) in
+          let i = inside_of_apart u kind (q ∷ own) (apart_then t u (tree_blocks kind own) (tree_blocks kind (q ∷ own)) grown c.apart) q (owns_new q own) in
           omega (arith, e ∙ none, i, short)
       | inr listed ↦ taken_new t t₁ kind own q c.apart take_q (node_at t.bytes kind p).right listed (sym e)
     ] in

@@ -3,18 +3,26 @@
 use Rattle.std.proofs.Common.{◌≡◌, ◌≢◌, ℕ, zero, suc, ◌<◌, ◌≤◌, List, [], ◌∷◌, ◌++◌, refl, sym, ap, ◌∙◌, subst, arith, Bool, true, false, ◌==◌, ◌^◌}
 use Rattle.std.specs.Prelude.{if◌then◌else◌}
 use Rattle.std.specs.List.{list_any, insert, AllByRecursion}
+use Rattle.std.proofs.lemmas.Bool.{or_right}
 use Rattle.h5_bytes.specs.Bytes.{undefined_address}
 use Rattle.h5_bytes.specs.Blocks.{Inside}
 use Rattle.h5_bytes.proofs.BlockLaws.{all_append}
 use Rattle.h5_model.specs.Format.Limits.{highest_level}
 use Rattle.h5_model.specs.Format.Rows.{Node, Reading, blank, only, next_row, IsRow, AreRows, nodes}
 use Rattle.h5_model.specs.Format.Nodes.{Kind, IsNode, HasTree, entries_in, node_at, node_bytes, reading_of, tree_blocks}
-use Rattle.h5_model.proofs.RowLaws.{Agree, AreRows-same, nodes-same, leaves-same, at_listed, all_listed, equal_number}
+use Rattle.h5_model.proofs.RowLaws.{Agree, AreRows-same, nodes-same, leaves-same, at_listed, all_listed, equal_number, same_number}
 use Rattle.h5_btree.specs.Climb.{IsNoNode, IsTreeOf, Refills, Splits, RaisesRoot, Unlinks}
 
 -- this address is listed
 abbrev pub Listed : List ℕ → ℕ → Type 0
 Listed owned n = list_any (λ m. m == n) owned ≡ true
+
+-- a node of a tree that has one node more
+pub owns_more : (q n : ℕ) (own : List ℕ) → Listed own n → Listed (q ∷ own) n
+owns_more q n own is = or_right (q == n) (list_any (λ m. m == n) own) is
+
+pub owns_new : (q : ℕ) (own : List ℕ) → Listed (q ∷ own) q
+owns_new q own = rw (same_number q) refl
 
 module _ (f : ℕ → Node) (owned : List ℕ) where
   pub owned_at : (n : ℕ) → Listed owned n → only blank f owned n ≡ f n

@@ -28,6 +28,7 @@ use Rattle.h5_header.proofs.BlockPuts as puts
 use Rattle.h5_header.proofs.CutLaws.{IsCut}
 use Rattle.h5_header.proofs.FillInserts.{bytes_in, bytes_of}
 use Rattle.h5_header.proofs.PlacedLaws.{placed}
+use Rattle.h5_header.proofs.RewriteLaws.{header_room}
 
 -- two elements that are put in one behind the other
 inserted : {X : Type 0} (xs : List X) (j : ℕ) (y z : X) → j ≤ length xs → insert (insert xs j y) (j + 1) z ≡ take j xs ++ y ∷ z ∷ drop j xs
@@ -272,4 +273,4 @@ module _ (old : List ℕ) (m : Listed) (is : IsStanding old m) (k : ℕ) (low : 
   kept_same = puts.four_long old m is k low no_name wide b there apart said plain long name sixteen at_said len_said small
 
   pub named_room : m.header + 16 ≤ length (named_in x first b kind body old)
-  named_room = omega (arith, puts.header_room old m is k low no_name wide b there apart said plain long name sixteen at_said len_said small, puts.three_long old m is k low no_name wide b there apart said plain long name sixteen at_said len_said small)
+  named_room = omega (arith, header_room old m is, puts.three_long old m is k low no_name wide b there apart said plain long name sixteen at_said len_said small)

@@ -23,17 +23,17 @@ use Rattle.h5_model.proofs.Frames.{front-same, keeps_then}
 use Rattle.h5_model.proofs.PlainMessages.{IsPlain, messages_from, fills-plain, length-messages_from}
 use Rattle.h5_header.specs.Listed.{Listed, message_in, messages_in, IsWithin}
 use Rattle.h5_header.specs.Added.{IsPutInBlock}
-use Rattle.h5_header.specs.Standing.{IsStanding, kept_at, nowhere}
+use Rattle.h5_header.specs.Standing.{IsStanding, kept_at}
 use Rattle.h5_header.specs.declared.message.Message.{Message as Placed}
 use Rattle.h5_header.proofs.PrefixLaws.{first_size-is, reference_count-is, total-is, version-is}
 use Rattle.h5_header.proofs.MetLaws.{continuation_cases}
 use Rattle.h5_header.proofs.KeptLaws.{header-same, listed-same}
-use Rattle.h5_header.proofs.CutLaws.{IsCut, cut_by_place}
+use Rattle.h5_header.proofs.CutLaws.{IsCut}
 use Rattle.h5_header.proofs.StretchLaws.{all_of, stretch, Follow, IsHeaded, follow_headed, follow_kept, follow_of, stretches_inside}
 use Rattle.h5_header.proofs.BesideLaws.{kept_beside, moves_covered}
 use Rattle.h5_header.proofs.BodyWrites.{behind_head, body_covered, body_inside, said_now, still_standing, prefix_stays as body_prefix}
-use Rattle.h5_header.proofs.RewriteLaws.{first_inside, named_inside, same_messages, headed, laid_inside, beside, prefix_stays, front_stays, back_stays, stretch_covered, prefix_covered}
-use Rattle.h5_header.proofs.BlankLaws.{kind_stands}
+use Rattle.h5_header.proofs.RewriteLaws.{first_inside, named_inside, same_messages, headed, beside, prefix_stays, front_stays, back_stays, stretch_covered, prefix_covered, header_room}
+use Rattle.h5_header.proofs.BlankLaws.{kind_stands, cut as kept_cut, within_back, within_front}
 use Rattle.h5_header.proofs.PlacedLaws.{placed, placed_back, placed_within, no_names, no_continuation}
 use Rattle.h5_header.proofs.FillInserts.{bytes_filled_all, bytes_in, bytes_of, bytes_of-append}
 use Rattle.h5_header.proofs.NamedSplices.{IsNaming}
@@ -101,8 +101,8 @@ module _ (old : List ℕ) (m : Listed) (is : IsStanding old m) (k : ℕ) (low : 
   abbrev pub x : Placed
   x = kept_at m.list k
 
-  pub cut : IsCut m.list k x
-  cut = cut_by_place m.list k nowhere low
+  abbrev pub cut : IsCut m.list k x
+  cut = kept_cut old m is k low own
 
   -- ---- the block is written
 
@@ -199,11 +199,8 @@ module _ (old : List ℕ) (m : Listed) (is : IsStanding old m) (k : ℕ) (low : 
   abbrev pub four : List ℕ
   four = with_part (m.header + 2) coded three
 
-  pub header_room : m.header + 16 ≤ length old
-  header_room = omega (arith, (laid_inside old m is).0)
-
   total_room : m.header + 2 + length coded ≤ length three
-  total_room = omega (arith, coded_long, header_room, three_long)
+  total_room = omega (arith, coded_long, header_room old m is, three_long)
 
   pub four_long : length four ≡ length old
   four_long = length-with_part (m.header + 2) coded three total_room ∙ three_long
@@ -249,7 +246,7 @@ module _ (old : List ℕ) (m : Listed) (is : IsStanding old m) (k : ℕ) (low : 
 
   kept_four : Keeps three four (stretch (message_in two x) ∷ (map stretch front ++ map stretch back))
   kept_four = kept_beside three coded (m.header + 2) (block m.header 16) (stretch (message_in two x) ∷ (map stretch front ++ map stretch back)) (omega arith) (omega (arith, coded_long))
-      (omega (arith, header_room, three_long)) (λ p. omega (arith, beside_two p))
+      (omega (arith, header_room old m is, three_long)) (λ p. omega (arith, beside_two p))
       (subst (λ (n : ℕ). Inside n (stretch (message_in two x) ∷ (map stretch front ++ map stretch back))) three_two inside_others)
 
   front_four : Keeps two four (map stretch front)
@@ -302,7 +299,7 @@ module _ (old : List ℕ) (m : Listed) (is : IsStanding old m) (k : ℕ) (low : 
 
   block_there : part b.at b.len four ≡ w
   block_there =
-      beside_block three coded (m.header + 2) three_long (omega (arith, coded_long, header_room)) total_covered
+      beside_block three coded (m.header + 2) three_long (omega (arith, coded_long, header_room old m is)) total_covered
       ∙ beside_block two kind_bytes at two_long (omega (arith, two_bytes, x_inside, x_head, one_long)) kind_covered
       ∙ beside_block one name x.at one_long (omega (arith, sixteen, wide, x_inside, one_long)) name_covered
       ∙ part-with_part_same b.at b.len w old (sym long) (omega (arith, long, there))
@@ -340,7 +337,7 @@ module _ (old : List ℕ) (m : Listed) (is : IsStanding old m) (k : ℕ) (low : 
   ]
 
   total_same : total_in (prefix_at four m.header) ≡ length m.list + length ws
-  total_same = total-is four m.header ∙ number_at-with_field three (m.header + 2) 2 total (omega (arith, header_room, three_long)) (omega (arith, total_low))
+  total_same = total-is four m.header ∙ number_at-with_field three (m.header + 2) 2 total (omega (arith, header_room old m is, three_long)) (omega (arith, total_low))
       ∙ omega (arith, length-messages_from b.at ms)
 
   pub named_four : IsNaming two four grown (message_in two x) c b ws none names (no_names b.at ms plain) fill made_four (first_block two m.header ∷ []) front back
@@ -385,20 +382,17 @@ module _ (old : List ℕ) (m : Listed) (is : IsStanding old m) (k : ℕ) (low : 
   abbrev pub after_list : List Placed
   after_list = cut.front ++ placed c ∷ (take place cut.back ++ (map placed ws ++ drop place cut.back))
 
-  within_all : IsWithin (length old) (cut.front ++ x ∷ cut.back)
-  within_all = subst (IsWithin (length old)) cut.whole is.within
+  front_within : IsWithin (length two) cut.front
+  front_within = subst (λ (n : ℕ). IsWithin n cut.front) (sym two_long) (within_front old m is k low own)
 
-  within_front : IsWithin (length two) cut.front
-  within_front = subst (λ (n : ℕ). IsWithin n cut.front) (sym two_long) (all_left (λ (y : Placed). y.at + y.size ≤ length old) cut.front (x ∷ cut.back) within_all)
-
-  within_back : IsWithin (length two) cut.back
-  within_back = subst (λ (n : ℕ). IsWithin n cut.back) (sym two_long) (all_right (λ (y : Placed). y.at + y.size ≤ length old) cut.front (x ∷ cut.back) within_all).1
+  back_within : IsWithin (length two) cut.back
+  back_within = subst (λ (n : ℕ). IsWithin n cut.back) (sym two_long) (within_back old m is k low own).1
 
   four_front : messages_in four cut.front ≡ front
-  four_front = same_messages two four grown cut.front within_front (all_left (IsHeaded two) front (message_in two x ∷ back) all) front_four
+  four_front = same_messages two four grown cut.front front_within (all_left (IsHeaded two) front (message_in two x ∷ back) all) front_four
 
   four_back : messages_in four cut.back ≡ named_four.middle ++ named_four.behind
-  four_back = same_messages two four grown cut.back within_back (all_right (IsHeaded two) front (message_in two x ∷ back) all).1 back_four ∙ named_four.cut
+  four_back = same_messages two four grown cut.back back_within (all_right (IsHeaded two) front (message_in two x ∷ back) all).1 back_four ∙ named_four.cut
 
   four_middle : messages_in four (take place cut.back) ≡ named_four.middle
   four_middle = sym (take-map (message_in four) place cut.back) ∙ ap (take place) four_back ∙ take-append_seam named_four.middle named_four.behind
@@ -458,11 +452,11 @@ module _ (old : List ℕ) (m : Listed) (is : IsStanding old m) (k : ℕ) (low : 
   two_four = omega (arith, two_long, four_long)
 
   back_fits : IsWithin (length four) (take place cut.back ++ drop place cut.back)
-  back_fits = subst (IsWithin (length four)) (sym (take-append-drop place cut.back)) (subst (λ (n : ℕ). IsWithin n cut.back) two_four within_back)
+  back_fits = subst (IsWithin (length four)) (sym (take-append-drop place cut.back)) (subst (λ (n : ℕ). IsWithin n cut.back) two_four back_within)
 
   within_after : IsWithin (length four) after_list
   within_after = all_append Fits cut.front (placed c ∷ (take place cut.back ++ (map placed ws ++ drop place cut.back)))
-      (subst (λ (n : ℕ). IsWithin n cut.front) two_four within_front) (
+      (subst (λ (n : ℕ). IsWithin n cut.front) two_four front_within) (
         (placed_within four (c ∷ []) named_headed).0,
         all_append Fits (take place cut.back) (map placed ws ++ drop place cut.back) (all_left Fits (take place cut.back) (drop place cut.back) back_fits)
             (all_append Fits (map placed ws) (drop place cut.back) (placed_within four ws new_headed) (all_right Fits (take place cut.back) (drop place cut.back) back_fits)),

@@ -20,7 +20,8 @@ use Rattle.h5_header.specs.declared.message.Message.{Message as Placed}
 use Rattle.h5_header.proofs.BesideLaws.{moves_covered}
 use Rattle.h5_header.proofs.BlankLaws.{back, behind_head, body_inside, cut_messages, front, size_padded}
 use Rattle.h5_header.proofs.PlacedLaws.{placed}
-use Rattle.h5_header.proofs.PutLaws.{put_list, put_list_is, header_room, room, list_long, put_messages, put_standing, put_covered, put_count, total_covered}
+use Rattle.h5_header.proofs.PutLaws.{put_list, put_list_is, room, list_long, put_messages, put_standing, put_covered, put_count, total_covered}
+use Rattle.h5_header.proofs.RewriteLaws.{header_room}
 
 module _ (x : Placed) (bytes : List ℕ) (head : 8 ≤ x.at) (long : length bytes ≡ x.size + 8) (size_padded : x.size % 8 ≡ 0) (size_low : x.size < 65536)
     (kind : ℕ) (kind_low : kind < 65536) (own : kind ≢ continuation_kind) (body : List ℕ) (body_padded : length body % 8 ≡ 0) (fits : length body ≤ x.size) where
@@ -161,9 +162,6 @@ module _ (old : List ℕ) (m : Listed) (is : IsStanding old m) (k : ℕ) (low : 
   abbrev pub new : List ℕ
   new = with_part (m.header + 2) (little_bytes 2 (length list')) one
 
-  pub header_inside : m.header + 16 ≤ length old
-  header_inside = header_room old m is k low no_name said plain long small
-
   pub one_long : length one ≡ length old
   one_long = length-with_part (x.at - 8) (messages_bytes said) old (omega (arith, long, nil_head, nil_inside))
 
@@ -198,5 +196,5 @@ module _ (old : List ℕ) (m : Listed) (is : IsStanding old m) (k : ℕ) (low : 
       (rw before (room old m is k low no_name said plain long small)) (rw before refl) refl in
       let covered : (p : ℕ) → holds p (m.header + 2) (length (little_bytes 2 (length list'))) ≤ cover p m.blocks = total_covered old m is k low no_name said plain long small in
       let second : Moves mid t m.blocks m.blocks
-      = moves_covered mid t (little_bytes 2 (length list')) (m.header + 2) m.blocks covered (omega (arith, header_inside, one_long)) (ap (λ (u : Space). u.bytes) after) (ap (λ (u : Space). u.free) after) in
+      = moves_covered mid t (little_bytes 2 (length list')) (m.header + 2) m.blocks covered (omega (arith, header_room old m is, one_long)) (ap (λ (u : Space). u.bytes) after) (ap (λ (u : Space). u.free) after) in
       moves_then s mid t m.blocks m.blocks m.blocks first second

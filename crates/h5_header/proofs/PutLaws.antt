@@ -22,7 +22,7 @@ use Rattle.h5_header.proofs.CutLaws.{IsCut, back_is, front_is}
 use Rattle.h5_header.proofs.StretchLaws.{stretch, Follow, IsHeaded, follow_of, follow_cover, follow_headed, follow_kept, headed_kept, stretches_inside}
 use Rattle.h5_header.proofs.BesideLaws.{kept_beside}
 use Rattle.h5_header.proofs.SpliceLaws.{keeps_left, keeps_right}
-use Rattle.h5_header.proofs.RewriteLaws.{same_messages, laid_inside, beside, prefix_stays, front_stays, back_stays, stretch_covered, prefix_covered, messages_rewritten}
+use Rattle.h5_header.proofs.RewriteLaws.{same_messages, beside, prefix_stays, front_stays, back_stays, stretch_covered, prefix_covered, messages_rewritten, header_room}
 use Rattle.h5_header.proofs.PlacedLaws.{placed, placed_back, placed_within, no_names, no_continuation}
 use Rattle.h5_header.proofs.BlankLaws.{all_headed, behind_head, body_inside, cut as kept_cut, cut_messages, within_back, within_front}
 
@@ -115,11 +115,8 @@ module _ (old : List ℕ) (m : Listed) (is : IsStanding old m) (k : ℕ) (low : 
   abbrev pub new : List ℕ
   new = with_part (m.header + 2) coded one
 
-  pub header_room : m.header + 16 ≤ length old
-  header_room = omega (arith, (laid_inside old m is).0)
-
   total_room : m.header + 2 + length coded ≤ length one
-  total_room = omega (arith, two, header_room, one_long)
+  total_room = omega (arith, two, header_room old m is, one_long)
 
   new_long : length new ≡ length old
   new_long = length-with_part (m.header + 2) coded one total_room ∙ one_long
@@ -141,7 +138,7 @@ module _ (old : List ℕ) (m : Listed) (is : IsStanding old m) (k : ℕ) (low : 
       omega (arith, whole, rest, mine, beside old m is front (message_in old x) back (cut_messages old m is k low own) w at (omega arith) high p, cover-append p (map stretch front) (map stretch back))
 
   kept_two : Keeps one new (map stretch after)
-  kept_two = kept_beside one coded (m.header + 2) (block m.header 16) (map stretch after) (omega arith) (omega (arith, two)) (omega (arith, header_room, one_long)) apart
+  kept_two = kept_beside one coded (m.header + 2) (block m.header 16) (map stretch after) (omega arith) (omega (arith, two)) (omega (arith, header_room old m is, one_long)) apart
       (stretches_inside one after headed_one)
 
   rest_two : Keeps one new (map stretch (ws ++ back))
@@ -181,7 +178,7 @@ module _ (old : List ℕ) (m : Listed) (is : IsStanding old m) (k : ℕ) (low : 
   )
 
   total_same : total_in (prefix_at new m.header) ≡ length after
-  total_same = total-is new m.header ∙ number_at-with_field one (m.header + 2) 2 total (omega (arith, header_room, one_long)) (omega (arith, small)) ∙ sym after_long
+  total_same = total-is new m.header ∙ number_at-with_field one (m.header + 2) 2 total (omega (arith, header_room old m is, one_long)) (omega (arith, small)) ∙ sym after_long
 
   names : continuations ws ≡ continuation (message_in old x)
   names = no_names at ms plain ∙ elim (continuation_cases (message_in old x)) [

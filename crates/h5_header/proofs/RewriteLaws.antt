@@ -38,6 +38,9 @@ module _ (old : List ℕ) (m : Listed) (is : IsStanding old m) where
   pub laid_inside : Inside (length old) (block m.header (16 + first) ∷ continuations said)
   laid_inside = subst (Inside (length old)) (is.has).laid is.inside
 
+  pub header_room : m.header + 16 ≤ length old
+  header_room = omega (arith, laid_inside.0)
+
   pub laid_separate : Separate (block m.header (16 + first) ∷ continuations said)
   laid_separate = subst Separate (is.has).laid is.separate
 

@@ -1,5 +1,5 @@
 -- A header one of whose messages has another body of the same size.
-use Rattle.std.proofs.Common.{◌≡◌, ◌≢◌, ℕ, ◌+◌, ◌<◌, ◌≤◌, List, ◌∷◌, ◌++◌, length, get_or, set, sym, ap, ap₂, ◌∙◌, arith}
+use Rattle.std.proofs.Common.{◌≡◌, ◌≢◌, ℕ, ◌<◌, ◌≤◌, List, ◌∷◌, ◌++◌, length, get_or, set, sym, ap, ap₂, ◌∙◌, arith}
 use Rattle.std.proofs.lemmas.List.{length-map, get_or-map}
 use Rattle.std.proofs.Math.Seq.{set-append_seam}
 use Rattle.h5_bytes.specs.Bytes.{part, with_part}
@@ -24,9 +24,6 @@ module _ (old : List ℕ) (m : Listed) (is : IsStanding old m) (k : ℕ) (low : 
   cut : IsCut m.list k x
   cut = cut_by_place m.list k nowhere low
 
-  pub whole_inside : x.at + x.size ≤ length old
-  whole_inside = body_inside old m is cut.front x cut.back cut.whole
-
   pub whole_standing : IsStanding new m
   whole_standing = still_standing old m is cut.front x cut.back cut.whole own w x.at (omega arith) (omega (arith, long))
 
@@ -38,7 +35,7 @@ module _ (old : List ℕ) (m : Listed) (is : IsStanding old m) (k : ℕ) (low : 
   whole_written =
       let front = messages_in old cut.front in
       let back = messages_in old cut.back in
-      let body : part x.at x.size new ≡ w = part-with_part_same x.at x.size w old (sym long) (omega (arith, long, whole_inside)) in
+      let body : part x.at x.size new ≡ w = part-with_part_same x.at x.size w old (sym long) (omega (arith, long, body_inside old m is cut.front x cut.back cut.whole)) in
       let now = said_now old m is cut.front x cut.back cut.whole own w x.at (omega arith) (omega (arith, long)) in
       let this : set (front ++ message_in old x ∷ back) (length front) (record (message_in old x) { body = w }) ≡ front ++ record (message_in old x) { body = w } ∷ back
       = set-append_seam front (message_in old x) back (record (message_in old x) { body = w }) in

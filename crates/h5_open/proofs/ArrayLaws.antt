@@ -21,7 +21,6 @@ use Rattle.h5_layout.specs.Data.{chunk_shape}
 use Rattle.h5_layout.specs.Told.{array_told, layout_told, type_told}
 use Rattle.h5_layout.proofs.ToldLaws.{laid_out}
 use Rattle.h5_header.specs.Walk.Met.{IsMet, IsHeaderMet, with_header}
-use Rattle.h5_header.specs.Walk.Walked.{IsWalked}
 use Rattle.h5_header.proofs.WalkLaws.ListLaws.{list_refused}
 use Rattle.h5_header.proofs.WalkLaws.DataLaws.{data_length, data_reached, data_inside}
 use Rattle.h5_header.proofs.WalkLaws.MetFields.{met_truncated, met_overlaps}
@@ -54,9 +53,6 @@ module _ (image : List ℕ) (header : ℕ) (ms : List Message) (blocks : List Bl
       abbrev pub extent : Extent
       extent = record { sizes = a.sizes; maxima = a.maxima }
 
-      walked : IsWalked image now (with_header field header depth ms followed)
-      walked = met_walked image held followed field header depth met ms blocks has now claimed
-
       layout : (l : Layout) → a.layout ≡ l → layout_among ms ≡ Some l
       layout l is = laid_out ms a array ∙ ap (λ (x : Layout). Some x) is
 
@@ -81,8 +77,8 @@ module _ (image : List ℕ) (header : ℕ) (ms : List Message) (blocks : List Bl
 
         pub block_refused : (cause : Cause) (address : ℕ) → ClaimBreach (length image) now b cause address → IsOpenRefusedAt image cause address
         block_refused NoMemory address h = tt
-        block_refused Truncated address h = met_truncated image now (with_header field header depth ms followed) walked y y_met refl address h.0 (rw y_length h.1)
-        block_refused Overlap address h = met_overlaps image now (with_header field header depth ms followed) walked y y_met refl address h.0 (rw y_length h.1)
+        block_refused Truncated address h = met_truncated image now (with_header field header depth ms followed) (met_walked image held followed field header depth met ms blocks has now claimed) y y_met refl address h.0 (rw y_length h.1)
+        block_refused Overlap address h = met_overlaps image now (with_header field header depth ms followed) (met_walked image held followed field header depth met ms blocks has now claimed) y y_met refl address h.0 (rw y_length h.1)
         block_refused _ address h = absurd h
 
       -- or the tree of the chunks is refused
@@ -92,7 +88,7 @@ module _ (image : List ℕ) (header : ℕ) (ms : List Message) (blocks : List Bl
 
         pub chunks_met : IsTreeMet image (OfChunks (chunk_shape a.fixed sizes)) now (with_header field header depth ms followed) (first.0.at + 3) root 0 depth
         chunks_met = record {
-          walked = walked;
+          walked = met_walked image held followed field header depth met ms blocks has now claimed;
           met = message_met image held followed field header depth met ms blocks has now claimed separate 8 first.0 refl first.1 (first.0.at + 3) (omega arith) root_there _ refl
               (root_reached image header ms blocks has inside first.0 first.1 a.fixed extent sizes root array.space array.type (layout (InChunks sizes (Some root)) stored) field depth
               (met.met).reached);

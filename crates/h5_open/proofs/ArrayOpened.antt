@@ -91,9 +91,6 @@ module _ (old : Space) (slots : List (Option OpenedObject)) (numbers : BTreeMap 
     pub data_once : (q : ℕ) → cover q (block 0 (superblock_length old.bytes) ∷ its_blocks) ≤ 1
     data_once q = omega (arith, opened.apart q, one_cover q (object_blocks old.bytes) slots number p at, parts q, holds-le q 0 (length old.bytes))
 
-    pub superblock_whole : superblock_length old.bytes ≤ length old.bytes
-    superblock_whole = opened.reads.1.holds.superblock.whole
-
     module _ (new : Space) (moves : Moves old new its_blocks its_blocks) (long : length new.bytes ≡ length old.bytes) where
       pub header_kept : Keeps old.bytes new.bytes p.messages.blocks
       header_kept = moves_kept old new its_blocks its_blocks p.messages.blocks moves

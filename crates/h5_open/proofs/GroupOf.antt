@@ -1,8 +1,7 @@
 -- A group of an opened image, by its number: its slot, the group that stands there, and what is told of each table of it.
-use Rattle.std.proofs.Common.{◌≡◌, ℕ, ◌≤◌, List, length, sym, subst, Option, IsSome}
+use Rattle.std.proofs.Common.{◌≡◌, ℕ, List, sym, subst, Option, IsSome}
 use Rattle.std.specs.BTreeMap.{BTreeMap}
 use Rattle.h5_model.specs.Format.Addresses.{SymbolTable}
-use Rattle.h5_model.specs.Format.Limits.{most_bytes}
 use Rattle.h5_model.specs.Tree.Objects.{links_of}
 use Rattle.h5_space.specs.Space.{Space}
 use Rattle.h5_group.specs.LinkEdits.{IsGroupApart}
@@ -11,7 +10,7 @@ use Rattle.h5_open.specs.LinkAdded.{IsGroupOf, IsGroupSlot}
 use Rattle.h5_open.specs.Opened.Kept.{IsOpened}
 use Rattle.h5_open.specs.Opened.State.{FileState, opened_state}
 use Rattle.h5_open.proofs.GroupTable.{one_table, table_of_slot}
-use Rattle.h5_open.proofs.LinkCalls.{group_stood, image_short}
+use Rattle.h5_open.proofs.LinkCalls.{group_stood}
 use Rattle.h5_open.proofs.LinkSlots.{group_slot}
 
 -- the slots that were lent
@@ -26,9 +25,6 @@ module _ (old : Space) (slots : List (Option OpenedObject)) (numbers : BTreeMap 
   module _ (t : SymbolTable) (slot : IsGroupSlot slots parent t) where
     pub group_here : IsGroupApart old t
     group_here = group_stood old slots numbers opened parent slot.0 t slot.1 slot.2
-
-    pub short_here : length old.bytes ≤ most_bytes
-    short_here = image_short old slots numbers opened parent slot.0 t slot.1 slot.2
 
     -- a table of the group is this one
     pub one_here : (u : SymbolTable) → IsGroupOf f parent u → t ≡ u

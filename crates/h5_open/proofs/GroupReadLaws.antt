@@ -33,10 +33,11 @@ use Rattle.h5_open.specs.Opened.Judged.{IsGroupList, IsKindBreach}
 use Rattle.h5_open.specs.Opened.Refused.{IsOpenRefusedAt}
 use Rattle.h5_open.specs.Read.{IsHeaderRead, IsHeaderDone, IsObjectRead, IsObjectFollowed, IsOwn, IsDeepAt}
 use Rattle.h5_open.proofs.HeaderFields.{only_inner}
-use Rattle.h5_open.proofs.TableLaws.{found_table, table_numbers, tree_met, heap_met, table_walked}
+use Rattle.h5_open.proofs.TableLaws.{found_table, table_numbers, tree_met, heap_met}
 use Rattle.h5_open.proofs.ContentLaws.{content_followed, message_free}
 use Rattle.h5_open.proofs.ArrayLaws.{list_breach}
 use Rattle.h5_open.proofs.PlaceLaws.{links_wait}
+use Rattle.h5_header.proofs.WalkLaws.MetHeader.{met_walked}
 
 abbrev pub group_object : Listed → SymbolTable → Bool → OpenedObject
 group_object m table tidy = record { messages = m; content = content.Group table; tidy = tidy }
@@ -108,7 +109,7 @@ module _ (image : List ℕ) (held now : List Block) (followed : List Named) (fie
 
   pub group_met : IsGroupMet image now (with_header field m.header depth ms followed) first (first + 8) depth table
   group_met = record {
-    walked = table_walked image m.header ms m.blocks has (done.read).inside held followed field depth done.met now done.claimed separate table found.0 found.1 found.2;
+    walked = met_walked image held followed field m.header depth done.met ms m.blocks has now done.claimed;
     tree = tree_met image m.header ms m.blocks has (done.read).inside held followed field depth done.met now done.claimed separate table found.0 found.1 found.2;
     heap = heap_met image m.header ms m.blocks has (done.read).inside held followed field depth done.met now done.claimed separate table found.0 found.1 found.2;
     apart = λ e. omega (arith, e);

@@ -49,16 +49,13 @@ all_free held blocks (m ∷ ms) once all = (omega (arith, all.0, once (m.at - 8)
 abbrev pub header_fields : ℕ → ℕ → ℕ → List Message → List Named
 header_fields field header depth ms = naming_of field ObjectHeader header depth ∷ continuation_fields header depth ms
 
-only_of : (header : ℕ) (ys : List Named) → AllByRecursion (λ (y : Named). is_header y.role ≡ false) ys → AllByRecursion (λ (y : Named). is_header y.role ≡ true → y.at ≡ header) ys
-only_of header [] all = tt
-only_of header (y ∷ ys) all = ((λ e. absurd (let never : false ≡ true = sym all.0 ∙ e in cc)), only_of header ys all.1)
-
-pub fields_only : (field header depth : ℕ) (ms : List Message) → AllByRecursion (λ (y : Named). is_header y.role ≡ true → y.at ≡ header) (header_fields field header depth ms)
-fields_only field header depth ms = ((λ e. refl), only_of header (continuation_fields header depth ms) (inner_fields header depth ms))
-
 -- none of the fields names a header, so none names another
 pub only_inner : (header : ℕ) (ys : List Named) → AllByRecursion (λ (y : Named). is_header y.role ≡ false) ys → AllByRecursion (λ (y : Named). is_header y.role ≡ true → y.at ≡ header) ys
-only_inner header ys all = only_of header ys all
+only_inner header [] all = tt
+only_inner header (y ∷ ys) all = ((λ e. absurd (let never : false ≡ true = sym all.0 ∙ e in cc)), only_inner header ys all.1)
+
+pub fields_only : (field header depth : ℕ) (ms : List Message) → AllByRecursion (λ (y : Named). is_header y.role ≡ true → y.at ≡ header) (header_fields field header depth ms)
+fields_only field header depth ms = ((λ e. refl), only_inner header (continuation_fields header depth ms) (inner_fields header depth ms))
 
 module _ (image : List ℕ) (header : ℕ) (ms : List Message) (blocks : List Block) (has : HasMessages image header ms blocks)
     (held now : List Block) (claimed : (p : ℕ) → cover p now ≡ cover p held + cover p blocks) (separate : Separate now) where

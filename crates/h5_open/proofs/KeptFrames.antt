@@ -4,7 +4,7 @@ use Rattle.h5_bytes.specs.Blocks.{Keeps, Inside, IsKept}
 use Rattle.h5_bytes.specs.declared.Block.{Block}
 use Rattle.h5_bytes.proofs.BlockLaws.{all_left, all_right}
 use Rattle.h5_model.specs.Format.Messages.{Message}
-use Rattle.h5_model.specs.Format.Superblock.{leaf_k, internal_k, k_values}
+use Rattle.h5_model.specs.Format.Superblock.{k_values}
 use Rattle.h5_model.proofs.KLaws.{same_chunk, same_internal, same_leaf}
 use Rattle.h5_header.specs.Listed.{messages_in, IsWithin}
 use Rattle.h5_header.proofs.KeptLaws.{listed-same, header-same}
@@ -22,12 +22,6 @@ use Rattle.h5_open.proofs.DataLaws.{data_blocks-same, data_read-same}
 use Rattle.h5_open.proofs.TrimmedKept.{trimmed-same}
 
 module _ (old new : List ℕ) (k : k_values new ≡ k_values old) (grown : length old ≤ length new) where
-  leaf : leaf_k new ≡ leaf_k old
-  leaf = same_leaf new old k
-
-  internal : internal_k new ≡ internal_k old
-  internal = same_internal new old k
-
   inside_still : (blocks : List Block) → Inside (length old) blocks → Inside (length new) blocks
   inside_still [] inside = tt
   inside_still (b ∷ bs) inside = (omega (arith, inside.0, grown), inside_still bs inside.1)
@@ -50,7 +44,7 @@ module _ (old new : List ℕ) (k : k_values new ≡ k_values old) (grown : lengt
     kept_messages = listed-same old new o.messages is.header.has is.header.within header_kept
 
     blocks_of : (c : OpenedContent) → IsContentKept old ms c → Keeps old new (content_blocks old ms c) → content_blocks new ms c ≡ content_blocks old ms c
-    blocks_of (content.Group table) held keeps = blocks_told-same old new leaf internal table held.2.linked keeps
+    blocks_of (content.Group table) held keeps = blocks_told-same old new (same_leaf new old k) (same_internal new old k) table held.2.linked keeps
     blocks_of content.Array held keeps = data_blocks-same old new grown (same_chunk new old k) (type_told ms) (layout_told ms) held.1 keeps
 
     pub kept_blocks : object_blocks new o ≡ object_blocks old o
@@ -59,19 +53,19 @@ module _ (old new : List ℕ) (k : k_values new ≡ k_values old) (grown : lengt
 
     content_of : (c : OpenedContent) → IsContentKept old ms c → Keeps old new (content_blocks old ms c) → IsContentKept new ms c
     content_of (content.Group table) held keeps =
-        let same = blocks_told-same old new leaf internal table held.2.linked keeps in (
+        let same = blocks_told-same old new (same_leaf new old k) (same_internal new old k) table held.2.linked keeps in (
           held.0,
           held.1,
           record {
-            linked = told-same old new leaf internal table held.2.linked keeps;
+            linked = told-same old new (same_leaf new old k) (same_internal new old k) table held.2.linked keeps;
             inside = subst (Inside (length new)) (sym same) (inside_still (blocks_told old table) held.2.inside);
-            few = rw internal held.2.few;
+            few = rw (same_internal new old k) held.2.few;
           },
         )
     content_of content.Array held keeps = (held.0, data_read-same old new grown (same_chunk new old k) (type_told ms) (layout_told ms) held.1 keeps)
 
     tidy_of : (c : OpenedContent) → IsContentKept old ms c → Keeps old new (content_blocks old ms c) → IsContentTidy old ms c → IsContentTidy new ms c
-    tidy_of (content.Group table) held keeps was = exact-same old new leaf internal table held.2.linked keeps was
+    tidy_of (content.Group table) held keeps was = exact-same old new (same_leaf new old k) (same_internal new old k) table held.2.linked keeps was
     tidy_of content.Array held keeps was = λ chunked. trimmed-same old new grown (same_chunk new old k) (array_told ms) held.1 keeps (array_told ms).sizes (was chunked)
 
     pub kept-same : IsObjectKept new o

@@ -14,7 +14,7 @@ use Rattle.h5_model.specs.Edits.Refusal.{has_zero}
 use Rattle.h5_model.specs.Format.Addresses.{SymbolTable}
 use Rattle.h5_model.specs.Format.Limits.{most_bytes, most_hard_links}
 use Rattle.h5_model.specs.Format.Messages.{prefix_at, reference_count}
-use Rattle.h5_model.specs.Format.Superblock.{AreK, leaf_k, internal_k, k_values, end_of_file, end_field, superblock_length}
+use Rattle.h5_model.specs.Format.Superblock.{AreK, leaf_k, internal_k, k_values, end_of_file, end_field}
 use Rattle.h5_model.specs.Format.Symbols.{Target, Header, Text}
 use Rattle.h5_model.specs.Tree.Objects.{Tree, Object, Link, Soft, link_in, with_object}
 use Rattle.h5_model.specs.Tree.Paths.{is_name}
@@ -22,7 +22,6 @@ use Rattle.h5_space.specs.Moves.{Moves}
 use Rattle.h5_space.specs.Space.{Space}
 use Rattle.h5_space.specs.Whole.{IsApart}
 use Rattle.h5_header.specs.Listed.{messages_in}
-use Rattle.h5_header.specs.Standing.{IsStanding}
 use Rattle.h5_group.specs.Exact.{HasExactKeys}
 use Rattle.h5_group.specs.LinkEdits.{IsGroupApart}
 use Rattle.h5_group.specs.Links.{HasNone, IsGroupRead}
@@ -42,11 +41,11 @@ use Rattle.h5_open.proofs.HardLinkAdded.{kinds_differ}
 use Rattle.h5_open.proofs.LinkSlots.{count_few}
 use Rattle.h5_open.proofs.OneRemade.{one_cover}
 use Rattle.h5_open.proofs.OpenedLaws.Entries.{get_link, names_ascend}
-use Rattle.h5_open.proofs.OpenedLaws.Sounds.{object_of}
+use Rattle.h5_open.proofs.OpenedLaws.Sounds.{object_of, superblock_whole}
 use Rattle.h5_open.proofs.RelinkedTree.{group_there}
 use Rattle.h5_open.proofs.SuperblockKept.{superblock_in}
 use Rattle.h5_open.proofs.TargetCounted.{IsTargetCounted, marked_moves, two_cover}
-use Rattle.h5_open.proofs.TargetStands.{marked_field, still_counted, still_standing}
+use Rattle.h5_open.proofs.TargetStands.{marked_field, still_counted}
 use Rattle.h5_open.proofs.TouchedBlocks.{group_blocks}
 
 module _ (old : Space) (slots : List (Option OpenedObject)) (numbers : BTreeMap ℕ ℕ) (opened : IsOpened old slots numbers) (parent : ℕ) (p : OpenedObject) (t : SymbolTable)
@@ -73,9 +72,6 @@ module _ (old : Space) (slots : List (Option OpenedObject)) (numbers : BTreeMap 
       let same = ap (cover q) (group_blocks old.bytes p t kind) in
       omega (arith, opened.apart q, one_cover q (object_blocks old.bytes) slots parent p at, same, cover-append q p.messages.blocks (blocks_told old.bytes t))
 
-  pub group_long : superblock_length old.bytes ≤ length old.bytes
-  group_long = opened.reads.1.holds.superblock.whole
-
   pub group_k : AreK (leaf_k old.bytes) (internal_k old.bytes)
   group_k =
       let s = opened.reads.1.holds.superblock in
@@ -83,10 +79,7 @@ module _ (old : Space) (slots : List (Option OpenedObject)) (numbers : BTreeMap 
 
   -- it stands apart from free blocks
   pub group_stood : IsGroupApart old t
-  group_stood = record { read = group_read; apart = group_apart; long = group_long; k = group_k }
-
-  pub image_short : length old.bytes ≤ most_bytes
-  image_short = omega (arith, opened.reads.1.holds.whole, opened.reads.1.holds.superblock.small)
+  group_stood = record { read = group_read; apart = group_apart; long = superblock_whole old slots numbers opened; k = group_k }
 
   -- ---- the link
 
@@ -154,11 +147,7 @@ module _ (old : Space) (slots : List (Option OpenedObject)) (numbers : BTreeMap 
       two : (q : ℕ) → cover q (object_blocks old.bytes p) + cover q (object_blocks old.bytes o) ≤ cover q (flat_map (object_blocks old.bytes) (objects_of slots))
       two q = two_cover old.bytes q slots parent number p o at stands (kinds_differ slots parent number p o t at stands kind array)
 
-      -- the header of the array still stands
-      pub target_standing : IsStanding mid.bytes o.messages
-      target_standing = still_standing old slots numbers opened parent p t at kind mid moves number o stands array
-
-      -- and counts few links
+      -- the header of the array counts few links
       pub target_few : reference_count (prefix_at mid.bytes (header_of o)) ≤ most_hard_links + 1
       target_few =
           let same = still_counted old slots numbers opened parent p t at kind mid moves number o stands array in

@@ -37,10 +37,10 @@ use Rattle.h5_open.specs.Opened.State.{FileState, opened_state}
 use Rattle.h5_open.proofs.GroupOf.{group_found, group_here, one_here, told_of}
 use Rattle.h5_open.proofs.HardLinkAdded.{hard_changed, hard_opened}
 use Rattle.h5_open.proofs.LinkAdded.{soft_changed, soft_opened}
-use Rattle.h5_open.proofs.LinkCalls.{hard_put, name_is_new, name_is_one, soft_put, target_few, target_standing, text_is_plain}
+use Rattle.h5_open.proofs.LinkCalls.{hard_put, name_is_new, name_is_one, soft_put, target_few, text_is_plain}
 use Rattle.h5_open.proofs.LinkSlots.{array_slot}
 use Rattle.h5_open.proofs.TargetCounted.{IsTargetCounted}
-use Rattle.h5_open.proofs.TargetStands.{marked_long}
+use Rattle.h5_open.proofs.TargetStands.{marked_long, still_standing}
 
 -- one link more is counted in the header of an array
 pub record IsHeaderCounted (mid set : Space) (o : OpenedObject) : Type 0 where
@@ -141,8 +141,7 @@ module _ (old : Space) (slots : List (Option OpenedObject)) (numbers : BTreeMap 
           (exact : HasExactKeys old.bytes t → HasExactKeys mid.bytes t) where
         -- the header of the array still stands, and counts few links
         pub array_standing : (number : ℕ) (o : OpenedObject) → IsArraySlot slots number o → IsStanding mid.bytes o.messages
-        array_standing number o at = target_standing old slots numbers opened parent p t slot.1 slot.2 mid name (target_of_leads lead) put.front put.back put.before put.after
-            after.read k moves exact number o at.0 at.1
+        array_standing number o at = still_standing old slots numbers opened parent p t slot.1 slot.2 mid moves number o at.0 at.1
 
         pub array_few : (number : ℕ) (o : OpenedObject) → IsArraySlot slots number o → reference_count (prefix_at mid.bytes (header_of o)) ≤ most_hard_links + 1
         array_few number o at = target_few old slots numbers opened parent p t slot.1 slot.2 mid name (target_of_leads lead) put.front put.back put.before put.after

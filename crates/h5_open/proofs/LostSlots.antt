@@ -7,19 +7,17 @@ use Rattle.std.specs.BTreeMap.{BTreeMap}
 use Rattle.std.specs.FinMap.{get}
 use Rattle.std.specs.List.{Contains, IsDistinct, range_with_len}
 use Rattle.std.specs.Ordering.{nat_cmp, eq_by_cmp}
-use Rattle.h5_laws.specs.Trees.Sound.{IsSoundTree}
 use Rattle.h5_laws.proofs.Lists.{In, contains_in, in_range}
 use Rattle.h5_laws.proofs.Pigeonhole.{apart_of_distinct, no_longer}
 use Rattle.h5_laws.proofs.SoundLaws.Counts.{some_named}
-use Rattle.h5_laws.proofs.SoundLaws.Read.{sound_reading}
 use Rattle.h5_model.specs.Format.Messages.{prefix_at, reference_count}
 use Rattle.h5_model.specs.Tree.Objects.{Object, Tree, hard_links}
 use Rattle.h5_space.specs.Space.{Space}
 use Rattle.h5_open.specs.declared.opened.object.OpenedObject.{OpenedObject}
 use Rattle.h5_open.specs.Opened.Kept.{IsOpened}
-use Rattle.h5_open.specs.Opened.Objects.{header_of, table_of, tree_of}
+use Rattle.h5_open.specs.Opened.Objects.{header_of, tree_of}
 use Rattle.h5_open.proofs.HeaderInPlace.{slot_in_tree}
-use Rattle.h5_open.proofs.OpenedLaws.Sounds.{sound}
+use Rattle.h5_open.proofs.OpenedLaws.Sounds.{sound, sound_tree}
 use Rattle.h5_open.proofs.RelinkedTree.{count_was}
 
 -- an object of the tree has a slot
@@ -33,12 +31,9 @@ module _ (image : Space) (slots : List (Option OpenedObject)) (numbers : BTreeMa
   abbrev tree : Tree
   tree = tree_of image.bytes slots
 
-  pub sound_tree : IsSoundTree tree
-  sound_tree = sound_reading image.bytes (table_of slots) tree opened.reads.0 opened.reads.1
-
   -- what a hard link names is an object
   pub linked_there : (n : ℕ) → 1 ≤ hard_links tree n → IsSome (get tree n)
-  linked_there n some = let at = some_named tree n some in sound_tree.linked at.0 n at.1 at.2
+  linked_there n some = let at = some_named tree n some in (sound_tree image slots numbers opened).linked at.0 n at.1 at.2
 
   -- and another than the root, so that its header counts its links
   pub linked_count : (n : ℕ) → 1 ≤ hard_links tree n → (p : OpenedObject) → slice_get slots n ≡ Some (Some p)
@@ -51,7 +46,7 @@ module _ (image : Space) (slots : List (Option OpenedObject)) (numbers : BTreeMa
         omega (arith, was, none)
     go true root =
         let zero : n ≡ 0 = grind (arith, nat_tests, root) in
-        let once = sound_tree.once 0 sound_tree.rooted in
+        let once = (sound_tree image slots numbers opened).once 0 (sound_tree image slots numbers opened).rooted in
         let linked = subst (λ (k : ℕ). 1 ≤ hard_links tree k) zero some in
         absurd (omega (arith, once, linked))
 

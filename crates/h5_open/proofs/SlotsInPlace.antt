@@ -25,7 +25,6 @@ use Rattle.h5_laws.specs.InPlace.{AreStillThere, IsStillThere}
 use Rattle.h5_laws.specs.Trees.Sound.{IsSoundTree}
 use Rattle.h5_laws.proofs.Lists.{In, all_in}
 use Rattle.h5_laws.proofs.Maps.{get_of_entry}
-use Rattle.h5_laws.proofs.SoundLaws.Read.{sound_reading}
 use Rattle.h5_open.specs.declared.opened.object.OpenedObject.{OpenedObject}
 use Rattle.h5_open.specs.declared.opened.object.OpenedContent.{OpenedContent}
 use Rattle.h5_open.specs.declared.opened.object.OpenedContent.TheVariants as content
@@ -41,6 +40,7 @@ use Rattle.h5_open.proofs.OpenedLaws.Made.{entries_standing, get_standing}
 use Rattle.h5_open.proofs.OpenedStep.{changed_step, header_at, headers_stay, opened_step}
 use Rattle.h5_open.proofs.SlotPlaces.{others_stay, place_slots, from_slots, slots_placed, step_found, step_headers, step_objects, step_place, step_standing, step_touched, told_place, told_touched, tree_object}
 use Rattle.h5_open.proofs.OpenedLaws.ReadBlocks.{blocks_kept}
+use Rattle.h5_open.proofs.OpenedLaws.Sounds.{sound_tree}
 
 -- ---- lists and slots
 
@@ -137,9 +137,6 @@ module _ (old new : Space) (slots slots' : List (Option OpenedObject)) (numbers 
       let at = header_at slots q slot.0 slot.1 in
       headers_stay slots slots' touched is.slots_moved q (header_of slot.0) at (some_now q now) ∙ sym at
 
-  was_sound : IsSoundTree tree
-  was_sound = sound_reading old.bytes table tree opened.reads.0 reads
-
   root_some : (t : Tree) → IsSome (links_of t 0) → IsSome (get t 0)
   root_some t some = go (get t 0) refl some where
     go : (x : Option Object) → get t 0 ≡ x → IsSome (option_and_then (λ (o : Object). links_in o.content) x) → IsSome x
@@ -147,7 +144,7 @@ module _ (old new : Space) (slots slots' : List (Option OpenedObject)) (numbers 
     go (Some o) at there = refl
 
   root_stays : get table' 0 ≡ get table 0
-  root_stays = header_stays 0 (root_some tree was_sound.rooted) (root_some tree' good.rooted)
+  root_stays = header_stays 0 (root_some tree (sound_tree old slots numbers opened).rooted) (root_some tree' good.rooted)
 
   -- ---- objects that are not touched
 
@@ -158,7 +155,7 @@ module _ (old new : Space) (slots slots' : List (Option OpenedObject)) (numbers 
     each (name, Soft text) at = tt
     each (name, ToObject q) at =
         let found = get_of_entry nat_list_cmp_total links name (ToObject q) at in
-        header_stays q (was_sound.linked n q name (link_of tree n o links before content name (ToObject q) found))
+        header_stays q ((sound_tree old slots numbers opened).linked n q name (link_of tree n o links before content name (ToObject q) found))
         (good.linked n q name (link_of tree' n o links now content name (ToObject q) found))
 
   left_of : (x : Placed) → In x (other_objects touched placed') → IsLeft table table' tree tree' x

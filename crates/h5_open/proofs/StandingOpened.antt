@@ -44,7 +44,8 @@ use Rattle.h5_open.specs.Opened.Objects.{content_in, table_of}
 use Rattle.h5_open.specs.Opened.State.{FileState, opened_state}
 use Rattle.h5_open.specs.Written.{with_run, AreCellsWritten, IsArrayThere, IsKeptOutside, IsStoredRun}
 use Rattle.h5_open.proofs.TrimmedWritten.{written_trimmed}
-use Rattle.h5_open.proofs.ArrayOpened.{array_changed, array_content, data_once, header_kept, its_blocks, kept_array, ms, of, same_messages, slot_there, still_opened, superblock_whole}
+use Rattle.h5_open.proofs.ArrayOpened.{array_changed, array_content, data_once, header_kept, its_blocks, kept_array, ms, of, same_messages, slot_there, still_opened}
+use Rattle.h5_open.proofs.OpenedLaws.Sounds.{superblock_whole}
 
 module _ (image : Space) (slots : List (Option OpenedObject)) (numbers : BTreeMap ℕ ℕ) (opened : IsOpened image slots numbers) (number : ℕ) (p : OpenedObject)
     (stands : slice_get slots number ≡ Some (Some p)) where
@@ -159,7 +160,7 @@ module _ (old : Space) (slots : List (Option OpenedObject)) (numbers : BTreeMap 
 
     pub first_inside : at + length first * it.fixed.size ≤ length old.bytes
     first_inside = stored_inside old.bytes it (list old slots numbers opened number p stands) (array_content old slots numbers opened number p stands kind).0.array fixed
-        (array_content old slots numbers opened number p stands kind).1 (data_once old slots numbers opened number p stands kind) (superblock_whole old slots numbers opened number p stands kind) place at first first_some first_stand first_room
+        (array_content old slots numbers opened number p stands kind).1 (data_once old slots numbers opened number p stands kind) (superblock_whole old slots numbers opened) place at first first_some first_stand first_room
 
     -- what it gives
     module _ (new : Space) (wrote : new ≡ with_bytes_at old at (cells_bytes it.fixed first)) where
@@ -180,7 +181,7 @@ module _ (old : Space) (slots : List (Option OpenedObject)) (numbers : BTreeMap 
           let has = (array_content old slots numbers opened number p stands kind).0.array in
           let read = (array_content old slots numbers opened number p stands kind).1 in
           let once = data_once old slots numbers opened number p stands kind in
-          let whole = superblock_whole old slots numbers opened number p stands kind in
+          let whole = superblock_whole old slots numbers opened in
           let long = stored_long old.bytes it messages has fixed read once whole place at first first_some first_stand first_room first_of_type new.bytes bytes_are in
           let now = stored_read old.bytes it messages has fixed read once whole place at first first_some first_stand first_room first_of_type new.bytes bytes_are in
           let blocks = stored_blocks_stay old.bytes it messages has fixed read once whole place at first first_some first_stand first_room first_of_type new.bytes bytes_are in
@@ -239,6 +240,6 @@ module _ (old : Space) (slots : List (Option OpenedObject)) (numbers : BTreeMap 
           let has = (array_content old slots numbers opened number p stands kind).0.array in
           let read = (array_content old slots numbers opened number p stands kind).1 in
           let once = data_once old slots numbers opened number p stands kind in
-          let whole = superblock_whole old slots numbers opened number p stands kind in
+          let whole = superblock_whole old slots numbers opened in
           subst (λ (a : Described). ArePlacesOf new.bytes p.messages.list a places) (sym first_written.described)
           (stored_places old.bytes it messages has fixed read once whole place at first first_some first_stand first_room first_of_type new.bytes bytes_are p.messages.list places was)

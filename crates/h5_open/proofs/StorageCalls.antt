@@ -58,9 +58,6 @@ module _ (image : Space) (slots : List (Option OpenedObject)) (numbers : BTreeMa
       subst (λ (a : Described). IsMissing image.bytes a (here.2).0 missing) (array_is image slots numbers opened number p at here.0 here.1) (here.2).1,
     )
 
-    pub short_here : length image.bytes ≤ most_bytes
-    short_here = omega (arith, opened.reads.1.holds.whole, opened.reads.1.holds.superblock.small)
-
     -- ---- what it gives
 
     -- what is said of the array that the messages tell is said of the one that is there

@@ -13,11 +13,10 @@ use Rattle.h5_model.specs.Format.Addresses.{SymbolTable, symbol_table_of}
 use Rattle.h5_model.specs.Format.Messages.{Message, HasMessages, first_body}
 use Rattle.h5_model.specs.Format.Reached.{Named, naming_of, HeapHeader, Reached, by_block, group_root, kind_at, size_at}
 use Rattle.h5_header.proofs.MetLaws.{length-part-le}
-use Rattle.h5_header.specs.Walk.Walked.{IsWalked}
 use Rattle.h5_header.specs.Walk.Met.{IsMet, IsHeaderMet, with_header}
 use Rattle.h5_header.proofs.WalkLaws.DataLaws.{found_all}
 use Rattle.h5_header.proofs.WalkLaws.MessagePlaces.{IsPlacedMessage, messages_placed}
-use Rattle.h5_header.proofs.WalkLaws.MetHeader.{met_walked, message_met}
+use Rattle.h5_header.proofs.WalkLaws.MetHeader.{message_met}
 use Rattle.h5_open.proofs.FoundLaws.{found_kind}
 
 -- ---- the fields of the Symbol Table
@@ -93,6 +92,3 @@ module _ (image : List ℕ) (header : ℕ) (ms : List Message) (blocks : List Bl
 
   pub heap_met : IsMet image now (with_header field header depth ms followed) (naming_of (m.at + 8) (HeapHeader table.tree) table.heap depth)
   heap_met = message_met image held followed field header depth met ms blocks has now claimed separate 17 m refl first (m.at + 8) (omega arith) (omega (arith, numbers.0)) _ refl heap_reached
-
-  pub table_walked : IsWalked image now (with_header field header depth ms followed)
-  table_walked = met_walked image held followed field header depth met ms blocks has now claimed

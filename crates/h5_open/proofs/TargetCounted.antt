@@ -137,8 +137,8 @@ module _ (old mid set new : Space) (slots : List (Option OpenedObject)) (numbers
   kept : IsObjectKept old.bytes o
   kept = (object_of old slots numbers opened number o its.target).kept
 
-  blocks_before : object_blocks old.bytes o ≡ header ++ cells
-  blocks_before = array_parts old.bytes o kept its.array
+  pub target_parts : object_blocks old.bytes o ≡ header ++ cells
+  target_parts = array_parts old.bytes o kept its.array
 
   group_before : object_blocks old.bytes p ≡ p.messages.blocks ++ links
   group_before = group_blocks old.bytes p t is.kind
@@ -149,7 +149,7 @@ module _ (old mid set new : Space) (slots : List (Option OpenedObject)) (numbers
   apart q =
       let two = two_cover old.bytes q slots parent number p o is.group its.target apart_from in
       let first = ap (cover q) group_before in
-      let second = ap (cover q) blocks_before in
+      let second = ap (cover q) target_parts in
       omega (
         arith,
         opened.apart q,
@@ -248,9 +248,6 @@ module _ (old mid set new : Space) (slots : List (Option OpenedObject)) (numbers
 
   pub target_blocks : object_blocks new.bytes o ≡ object_blocks old.bytes o
   target_blocks = array_blocks old.bytes o kept its.array new.bytes k grown standing_now list_stays data_new
-
-  pub target_parts : object_blocks old.bytes o ≡ header ++ cells
-  target_parts = blocks_before
 
   pub target_same : (table : FinMap nat_cmp ℕ) → object_in new.bytes table o ≡ object_in old.bytes table o
   target_same = array_same old.bytes o kept its.array new.bytes k grown standing_now list_stays data_new

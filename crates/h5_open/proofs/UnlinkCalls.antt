@@ -14,30 +14,26 @@ use Rattle.h5_space.specs.Space.{Space}
 use Rattle.h5_space.specs.Whole.{IsApart}
 use Rattle.h5_header.specs.Listed.{messages_in}
 use Rattle.h5_group.specs.Exact.{HasExactKeys}
-use Rattle.h5_group.specs.LinkEdits.{IsGroupApart}
 use Rattle.h5_group.specs.Told.{links_told}
-use Rattle.h5_laws.specs.Trees.Sound.{IsSoundTree}
 use Rattle.h5_laws.specs.Trees.Unlinked.{IsTreeLeft, tree_left}
 use Rattle.h5_laws.proofs.Lists.{In, contains_in, in_contains, in_either, in_flat}
 use Rattle.h5_laws.proofs.SoundLaws.Left.{left_is}
 use Rattle.h5_laws.proofs.SoundLaws.LinksThere.{holds_links}
-use Rattle.h5_laws.proofs.SoundLaws.Read.{sound_reading}
 use Rattle.h5_open.specs.declared.opened.object.OpenedObject.{OpenedObject}
 use Rattle.h5_open.specs.ChangedInPlace.{IsChangedInPlace, is_among}
 use Rattle.h5_open.specs.LinkAdded.{IsGroupSlot}
 use Rattle.h5_open.specs.LinkTaken.{AreCountsLowered, AreHeadersStanding, IsLinkTaken, IsLinkTo, lowered_blocks, touched_below}
 use Rattle.h5_open.specs.Losses.{AreLosses}
 use Rattle.h5_open.specs.Opened.Kept.{IsContentTidy, IsOpened}
-use Rattle.h5_open.specs.Opened.Objects.{table_of, tree_of}
+use Rattle.h5_open.specs.Opened.Objects.{tree_of}
 use Rattle.h5_open.specs.Opened.State.{FileState, opened_state}
 use Rattle.h5_open.proofs.Among.{among_in, in_among}
 use Rattle.h5_open.proofs.ChangedThen.{changed_wider}
 use Rattle.h5_open.proofs.GroupUnlinked.{told_link}
-use Rattle.h5_open.proofs.LinkCalls.{group_stood}
 use Rattle.h5_open.proofs.LinkSlots.{group_slot}
 use Rattle.h5_open.proofs.LossesTaken as taking
 use Rattle.h5_open.proofs.LossesTaken.{numbers_less, touched_numbers}
-use Rattle.h5_open.proofs.OpenedLaws.Sounds.{object_of as kept_of}
+use Rattle.h5_open.proofs.OpenedLaws.Sounds.{object_of as kept_of, sound_tree}
 use Rattle.h5_open.proofs.UnlinkInPlace.{IsUnlinkDone, unlinked_changed, unlinked_opened}
 
 module _ (image : Space) (slots : List (Option OpenedObject)) (numbers : BTreeMap ℕ ℕ) (opened : IsOpened image slots numbers) (f : FileState) (view : opened_state image slots ≡ f)
@@ -48,9 +44,6 @@ module _ (image : Space) (slots : List (Option OpenedObject)) (numbers : BTreeMa
   pub here : IsLinkTo tree parent name object
   here = subst (λ (g : FileState). IsLinkTo g.tree parent name object) (sym view) may
 
-  sound : IsSoundTree tree
-  sound = sound_reading image.bytes (table_of slots) tree opened.reads.0 opened.reads.1
-
   -- the group
   pub parent_slot : (t : SymbolTable) × IsGroupSlot slots parent t
   parent_slot = group_slot image.bytes slots parent (holds_links tree parent name here.link here.stands)
@@ -60,10 +53,7 @@ module _ (image : Space) (slots : List (Option OpenedObject)) (numbers : BTreeMa
   IsUnlinked new slots' = IsChangedInPlace f (opened_state new slots') (tree_left f.tree parent name) f.next (touched_below f.tree parent object) 0
 
   module _ (t : SymbolTable) (slot : IsGroupSlot slots parent t) where
-    -- the link can be taken out of the group
-    pub unlink_group : IsGroupApart image t
-    unlink_group = group_stood image slots numbers opened parent slot.0 t slot.1 slot.2
-
+    -- the group has the link
     pub unlink_there : (target : Target) × Contains (links_told image.bytes t) (name, target)
     unlink_there = let told = told_link image slots numbers opened parent slot.0 t slot.1 slot.2 name here.link here.stands in (told.0, told.1)
 
@@ -83,7 +73,7 @@ module _ (image : Space) (slots : List (Option OpenedObject)) (numbers : BTreeMa
       losses = lost here.link here.leads
 
       left : IsTreeLeft tree parent name here.link losses.numbers
-      left = left_is tree parent name here.link losses.numbers sound here.stands losses.reached
+      left = left_is tree parent name here.link losses.numbers (sound_tree image slots numbers opened) here.stands losses.reached
 
       pub goes_there : (n : ℕ) → Contains gone n → (o : OpenedObject) × (slice_get slots n ≡ Some (Some o))
       goes_there = taking.gone_slot image slots numbers opened parent slot.0 t slot.1 slot.2 name here.link gone less held losses left

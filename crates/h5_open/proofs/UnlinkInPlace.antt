@@ -45,12 +45,11 @@ use Rattle.h5_open.proofs.EndKept.{end_kept, k_kept}
 use Rattle.h5_open.proofs.GroupRelinked.{IsGroupRelinked, both_moves, linked_moves, linked_object, relinked_written}
 use Rattle.h5_open.proofs.GroupUnlinked.{unlinked}
 use Rattle.h5_open.proofs.GroupWritten.{links_later, written_object}
-use Rattle.h5_open.proofs.LinkCalls.{image_short}
 use Rattle.h5_open.proofs.ListCovers.{covers_append, covers_none, covers_same, member_cover}
 use Rattle.h5_open.proofs.LossesTaken.{all_beside, cells_at, group_cover, less_array, less_cover, less_left, less_slot, losses_apart, not_both, not_group, numbers_less, once, touched_numbers, touched_old}
 use Rattle.h5_open.proofs.OpenedLaws.Entries.{get_link, get_table, named_links, names_ascend}
 use Rattle.h5_open.proofs.OpenedLaws.HeaderNumbers.{number_is}
-use Rattle.h5_open.proofs.OpenedLaws.Sounds.{object_of}
+use Rattle.h5_open.proofs.OpenedLaws.Sounds.{object_of, image_short}
 use Rattle.h5_open.proofs.RelinkedTree.{relinked_here, relinked_others, written_touched}
 use Rattle.h5_open.proofs.SlotEdits.{slots_cleared, table_same}
 use Rattle.h5_open.proofs.SlotsInPlace.{slots_changed, slots_opened}
@@ -154,7 +153,7 @@ module _ (old : Space) (slots : List (Option OpenedObject)) (numbers : BTreeMap 
   k_now = k_kept old slots numbers opened low (links ++ headers) (blocks_told mid.bytes t ++ headers) moved moved_among
 
   short : length low.bytes ≤ most_bytes
-  short = omega (arith, long, image_short old slots numbers opened parent p t at kind)
+  short = omega (arith, long, image_short old slots numbers opened)
 
   is : IsGroupRelinked old mid low slots parent p t headers change
   is = unlinked old slots numbers opened parent p t at kind name link there mid taken low headers

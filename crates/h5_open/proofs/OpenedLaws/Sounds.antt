@@ -1,5 +1,5 @@
 -- What is kept of an opened image tells a sound value.
-use Rattle.std.proofs.Common.{◌≡◌, inl, inr, ℕ, List, [], ◌∷◌, length, ap, ◌∙◌, subst, Option, Some, None}
+use Rattle.std.proofs.Common.{◌≡◌, inl, inr, ℕ, ◌≤◌, List, [], ◌∷◌, length, ap, ◌∙◌, subst, arith, Option, Some, None}
 use Rattle.std.specs.Prelude.{MatchOption, option_map, slice_get}
 use Rattle.std.specs.Option.{option_flatten}
 use Rattle.std.specs.Ordering.{nat_cmp}
@@ -7,11 +7,14 @@ use Rattle.std.specs.BTreeMap.{BTreeMap, get as lookup}
 use Rattle.std.specs.FinMap.{get}
 use Rattle.std.proofs.lemmas.Option.{same_Some}
 use Rattle.h5_bytes.specs.declared.Block.{Block}
-use Rattle.h5_model.specs.Format.Superblock.{root_header}
+use Rattle.h5_model.specs.Format.Limits.{most_bytes}
+use Rattle.h5_model.specs.Format.Superblock.{root_header, superblock_length}
 use Rattle.h5_model.specs.Tree.Objects.{Object}
 use Rattle.h5_space.specs.Space.{Space}
 use Rattle.h5_space.specs.Whole.{IsApart}
+use Rattle.h5_laws.specs.Trees.Sound.{IsSoundTree}
 use Rattle.h5_laws.proofs.Lists.{In, in_all, in_at}
+use Rattle.h5_laws.proofs.SoundLaws.Read.{sound_reading}
 use Rattle.h5_open.specs.declared.opened.object.OpenedObject.{OpenedObject}
 use Rattle.h5_open.specs.Opened.Kept.{IsOpened, IsObjectKept}
 use Rattle.h5_open.specs.Opened.Objects.{header_of, objects_of, object_in, table_of, tree_of}
@@ -40,6 +43,16 @@ from_objects (Some x ∷ slots) o (inr there) = inr (from_objects slots o there)
 module _ (image : Space) (slots : List (Option OpenedObject)) (numbers : BTreeMap ℕ ℕ) (opened : IsOpened image slots numbers) where
   abbrev told : Option OpenedObject → Option Object
   told slot = option_map (object_in image.bytes (table_of slots)) slot
+
+  -- its superblock lies in it, and it is no longer than an image may be
+  pub superblock_whole : superblock_length image.bytes ≤ length image.bytes
+  superblock_whole = opened.reads.1.holds.superblock.whole
+
+  pub image_short : length image.bytes ≤ most_bytes
+  image_short = omega (arith, opened.reads.1.holds.whole, opened.reads.1.holds.superblock.small)
+
+  pub sound_tree : IsSoundTree (tree_of image.bytes slots)
+  sound_tree = sound_reading image.bytes (table_of slots) (tree_of image.bytes slots) opened.reads.0 opened.reads.1
 
   object_kept : (k : ℕ) (o : OpenedObject) → slice_get slots k ≡ Some (Some o) → IsObjectKept image.bytes o
   object_kept k o at = in_all (IsObjectKept image.bytes) o (objects_of slots) opened.each (in_objects slots o (in_at slots k (Some o) at))

@@ -9,7 +9,8 @@ use Rattle.h5_btree.specs.declared.way.Step.{Step}
 use Rattle.h5_btree.proofs.NodeLaws.{length-children}
 use Rattle.h5_btree.proofs.ClimbStands.{own_p, inside_p, form_p, entry_p}
 use Rattle.h5_btree.proofs.InsertionEnds.{put_filled, at_root, put_back, may_raise, root_low, one_level, next_low, keys_left, bytes_left, short_left}
-use Rattle.h5_btree.proofs.InsertionAlong.{keeps_then, full_before, owns_more, owns_new, above_apart, above_keep, filled_others, comes_in, written_in, risen, halves_stay, along_before, stays}
+use Rattle.h5_btree.proofs.TreeReadings.{owns_more, owns_new}
+use Rattle.h5_btree.proofs.InsertionAlong.{keeps_then, full_before, above_apart, above_keep, filled_others, comes_in, written_in, risen, halves_stay, along_before, stays}
 use Rattle.h5_btree.proofs.insertion.+climb.Goals as goal
 
 pub node_there-requires-clause-inside : goal.node_there-requires-clause-inside

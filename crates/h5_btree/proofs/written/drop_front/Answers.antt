@@ -1,12 +1,12 @@
 use Rattle.std.proofs.Common.{ap, ◌∙◌, arith, sym, subst}
 use Rattle.h5_model.specs.Format.Nodes.{IsNode, node_of}
-use Rattle.h5_btree.proofs.NodeHalves.{drop_end, drop_fits, front_dropped_is, dropped_says, dropped_form}
+use Rattle.h5_btree.proofs.NodeEdits.{end_within}
+use Rattle.h5_btree.proofs.NodeHalves.{drop_fits, front_dropped_is, dropped_says, dropped_form}
 use Rattle.h5_btree.proofs.written.drop_front.Goals as goal
 
 pub copy_within-requires-clause-in_bounds : goal.copy_within-requires-clause-in_bounds
 copy_within-requires-clause-in_bounds c =
-    drop_end c.args.kind c.args.bytes.now c.args.n c.from-count.result (c.from-count.ensures ∙ c.u16_at.ensures) c.requires.long c.requires.form
-    (omega (arith, c.from-count.ensures ∙ c.u16_at.ensures, c.requires.place)) (omega arith)
+    end_within c.args.kind c.args.bytes.now c.from-count.result (c.from-count.ensures ∙ c.u16_at.ensures) c.requires.long c.requires.form
     c.place_of.result c.key_length.result c.place_of.ensures c.key_length.ensures.length
 
 pub copy_within-requires-clause-dest_in_bounds : goal.copy_within-requires-clause-dest_in_bounds

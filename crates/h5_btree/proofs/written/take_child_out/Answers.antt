@@ -1,12 +1,12 @@
 use Rattle.std.proofs.Common.{ap, ◌∙◌, arith, sym, subst}
 use Rattle.h5_model.specs.Format.Nodes.{IsNode, node_of}
-use Rattle.h5_btree.proofs.NodeMoves.{end_within, shift_back_fits, taken_out_is, taken_out_says, taken_out_form}
+use Rattle.h5_btree.proofs.NodeEdits.{end_within}
+use Rattle.h5_btree.proofs.NodeMoves.{shift_back_fits, taken_out_is, taken_out_says, taken_out_form}
 use Rattle.h5_btree.proofs.written.take_child_out.Goals as goal
 
 pub copy_within-requires-clause-in_bounds : goal.copy_within-requires-clause-in_bounds
 copy_within-requires-clause-in_bounds c =
-    end_within c.args.kind c.args.bytes.now c.args.j c.from-n.result (c.from-n.ensures ∙ c.u16_at.ensures) c.requires.long c.requires.form
-    (omega (arith, c.from-n.ensures ∙ c.u16_at.ensures, c.requires.place)) (omega arith)
+    end_within c.args.kind c.args.bytes.now c.from-n.result (c.from-n.ensures ∙ c.u16_at.ensures) c.requires.long c.requires.form
     c.place_of.result c.key_length.result c.place_of.ensures c.key_length.ensures.length
 
 pub copy_within-requires-clause-dest_in_bounds : goal.copy_within-requires-clause-dest_in_bounds

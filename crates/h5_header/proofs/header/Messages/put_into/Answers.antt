@@ -10,9 +10,10 @@ use Rattle.h5_header.specs.Standing.{kept_at, kept_with_nil, nowhere, said_in}
 use Rattle.h5_header.specs.declared.message.Message.{Message as Placed}
 use Rattle.h5_header.proofs.BesideLaws.{spends_write}
 use Rattle.h5_header.proofs.BlankLaws.{behind_head, body_inside, size_padded}
-use Rattle.h5_header.proofs.NilPuts.{header_inside, nil_added, nil_count, nil_moves, nil_standing, one_long}
+use Rattle.h5_header.proofs.NilPuts.{nil_added, nil_count, nil_moves, nil_standing, one_long}
 use Rattle.h5_header.proofs.header.Messages.put_into.Goals as goal
 use Rattle.h5_header.proofs.header.Messages.put_into.Goals.{After-header, After-list, After-put_u16}
+use Rattle.h5_header.proofs.RewriteLaws.{header_room}
 
 own : (c : After-list) → (kept_at c.args.self.now.list c.args.k).kind ≢ continuation_kind
 own c same = absurd (omega (arith, c.requires.nil, same))
@@ -70,8 +71,7 @@ at_header_before c = c.header.ensures ∙ ap (λ (s : Listed). s.header) c.keep_
 
 room_before : (c : After-header) → c.args.self.now.header + 16 ≤ length (wrote_in c.args.image.now.bytes (kept_at c.args.self.now.list c.args.k) c.args.kind c.args.body.now)
 room_before c =
-    let inside = header_inside c.args.image.now.bytes c.args.self.now c.requires.standing c.args.k c.requires.known c.requires.nil (small_before c) c.args.kind (omega (arith, c.ranges.kind.fits)) c.requires.own
-    c.args.body.now c.requires.padded c.requires.fits c.requires.total in
+    let inside = header_room c.args.image.now.bytes c.args.self.now c.requires.standing in
     let long = one_long c.args.image.now.bytes c.args.self.now c.requires.standing c.args.k c.requires.known c.requires.nil (small_before c) c.args.kind (omega (arith, c.ranges.kind.fits)) c.requires.own
     c.args.body.now c.requires.padded c.requires.fits c.requires.total in
     omega (arith, inside, long)
@@ -99,8 +99,7 @@ at_header c = c.header.ensures ∙ ap (λ (s : Listed). s.header) c.keep_in.ensu
 
 room : (c : After-put_u16) → c.args.self.now.header + 16 ≤ length (wrote_in c.args.image.now.bytes (kept_at c.args.self.now.list c.args.k) c.args.kind c.args.body.now)
 room c =
-    let inside = header_inside c.args.image.now.bytes c.args.self.now c.requires.standing c.args.k c.requires.known c.requires.nil (small c) c.args.kind (omega (arith, c.ranges.kind.fits)) c.requires.own
-    c.args.body.now c.requires.padded c.requires.fits c.requires.total in
+    let inside = header_room c.args.image.now.bytes c.args.self.now c.requires.standing in
     let long = one_long c.args.image.now.bytes c.args.self.now c.requires.standing c.args.k c.requires.known c.requires.nil (small c) c.args.kind (omega (arith, c.ranges.kind.fits)) c.requires.own
     c.args.body.now c.requires.padded c.requires.fits c.requires.total in
     omega (arith, inside, long)

@@ -8,7 +8,7 @@ use Rattle.h5_open.specs.declared.opened.object.OpenedObject.{OpenedObject}
 use Rattle.h5_open.specs.LinkTaken.{AreCountsLowered, AreHeadersStanding, AreSlotsCleared, lowered_blocks}
 use Rattle.h5_open.specs.Opened.Sound.{IsSound}
 use Rattle.h5_open.specs.Opened.State.{opened_state}
-use Rattle.h5_open.proofs.GroupOf.{group_lent}
+use Rattle.h5_open.proofs.GroupOf.{group_lent, group_here}
 use Rattle.h5_open.proofs.OpenedLaws.Sounds.{sound}
 use Rattle.h5_open.proofs.UnlinkCalls as calls
 use Rattle.h5_open.proofs.opened.Opened.unlink.Goals as goal
@@ -33,9 +33,8 @@ returns-in_err-losses-clause-sound c =
 
 pub take_link-requires-clause-group : goal.take_link-requires-clause-group
 take_link-requires-clause-group c =
-    calls.unlink_group c.self.inside.image c.self.inside.index.objects.items c.self.inside.index.numbers c.self.invariant c.args.self.now c.self.view_is
-    c.args.parent c.args.name.now c.args.object c.requires.there
-    c.group_table-table.result
+    group_here c.self.inside.image c.self.inside.index.objects.items c.self.inside.index.numbers c.self.invariant c.args.self.now c.self.view_is
+    c.args.parent c.group_table-table.result
     (group_lent c.deref.result.now c.self.inside.index.objects.items c.args.parent c.group_table-table.result c.deref.ensures.value c.group_table-table.ensures.table)
 
 pub is_tidy-exact-requires : goal.is_tidy-exact-requires

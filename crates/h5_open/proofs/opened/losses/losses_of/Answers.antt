@@ -3,10 +3,11 @@ use Rattle.h5_open.specs.declared.opened.losses.LostLinks.{LostLinks}
 use Rattle.h5_open.specs.Opened.Objects.{tree_of}
 use Rattle.h5_open.proofs.LossesFound.{all_parted}
 use Rattle.h5_open.proofs.LostLaws.{none_lost, none_of}
-use Rattle.h5_open.proofs.LostSlots.{no_more_slots, sound_tree}
+use Rattle.h5_open.proofs.LostSlots.{no_more_slots}
 use Rattle.h5_open.proofs.LostTree.{IsGoneThrough, next_few, through_fits, through_hard, through_next, through_soft, through_there}
 use Rattle.h5_open.proofs.opened.losses.losses_of.Goals as goal
 use Rattle.h5_open.proofs.opened.losses.losses_of.Goals.{in-Some+in_ok-lose, in_default}
+use Rattle.h5_open.proofs.OpenedLaws.Sounds.{sound_tree}
 
 -- ---- the link
 
