@@ -58,6 +58,9 @@ both_fields true b c x l h = refl
 
 -- ---- a block
 
+eight : (n : ℕ) → length (little_bytes 8 n) ≡ 8
+eight n = refl
+
 module _ (sizes : List ℕ) (size : ℕ) (body : List ℕ) (l : Option Block) (was : layout_of sizes size body ≡ Some (InBlock l)) where
   of_block : ((nat_le 2 (length body) && byte_at body 0 == 3) ≡ true) × ((byte_at body 1 == 0) ≡ false) × ((byte_at body 1 == 1) ≡ true)
       × (contiguous_layout (cells sizes * size) body ≡ Some (InBlock l))
@@ -75,9 +78,6 @@ module _ (sizes : List ℕ) (size : ℕ) (body : List ℕ) (l : Option Block) (w
 
     abbrev body' : List ℕ
     body' = with_part 2 (little_bytes 8 at ++ little_bytes 8 len) body
-
-    eight : (n : ℕ) → length (little_bytes 8 n) ≡ 8
-    eight n = refl
 
     long_first : length first ≡ length body
     long_first = length-with_part 2 (little_bytes 8 at) body (omega (arith, eight at, block_room))
@@ -153,11 +153,8 @@ module _ (sizes : List ℕ) (size : ℕ) (body chunk : List ℕ) (l : Option ℕ
     abbrev named : List ℕ
     named = with_part 3 (little_bytes 8 root) body
 
-    eight_root : length (little_bytes 8 root) ≡ 8
-    eight_root = refl
-
     named_room : 3 + length (little_bytes 8 root) ≤ length body
-    named_room = omega (arith, eight_root, tree_room)
+    named_room = omega (arith, eight root, tree_room)
 
     named_long : length named ≡ length body
     named_long = length-with_part 3 (little_bytes 8 root) body named_room
@@ -166,7 +163,7 @@ module _ (sizes : List ℕ) (size : ℕ) (body chunk : List ℕ) (l : Option ℕ
     named_front k few = byte-with_part 3 (little_bytes 8 root) body k named_room (inl few)
 
     behind : (at : ℕ) → 11 ≤ at → number_at named at 4 ≡ number_at body at 4
-    behind at past = number_at-with_part_other 3 (little_bytes 8 root) body at 4 named_room (inr (omega (arith, eight_root, past)))
+    behind at past = number_at-with_part_other 3 (little_bytes 8 root) body at 4 named_room (inr (omega (arith, eight root, past)))
 
     same_numbers : short_numbers_at named 11 (length sizes) ≡ short_numbers_at body 11 (length sizes)
     same_numbers = ap (λ (f : ℕ → ℕ). map f (range_with_len 0 (length sizes))) (λ j i. behind (11 + 4 * i) (omega arith) j)

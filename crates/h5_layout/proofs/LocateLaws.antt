@@ -8,6 +8,7 @@ use Rattle.h5_model.specs.Tree.Grid.{corner_of, inner_of}
 use Rattle.h5_model.specs.Tree.Places.{cells, extent_cells, place_of, index_of, IsInside}
 use Rattle.h5_model.proofs.PlaceLaws.{inside-index, positive, place_below}
 use Rattle.h5_shape.proofs.GridBoxes.{length-index_of}
+use Rattle.h5_layout.proofs.CornerInside.{corner_inside}
 
 -- ---- products
 
@@ -84,17 +85,6 @@ inner_inside (c ∷ cs) (i ∷ is) same some =
     let here : 0 < c = some_head c cs some in
     let low : i % c < c = omega arith in
     (low, inner_inside cs is (omega arith) (some_tail c cs some))
-
--- the first index of the chunk of an index inside is inside
-pub corner_inside : (sizes chunk index : List ℕ) → length chunk ≡ length sizes → IsInside sizes index → IsInside sizes (corner_of chunk index)
-corner_inside [] [] [] same inside = tt
-corner_inside [] [] (i ∷ is) same inside = absurd inside
-corner_inside [] (c ∷ cs) index same inside = absurd (omega (arith, same))
-corner_inside (d ∷ ds) [] index same inside = absurd (omega (arith, same))
-corner_inside (d ∷ ds) (c ∷ cs) [] same inside = absurd inside
-corner_inside (d ∷ ds) (c ∷ cs) (i ∷ is) same inside =
-    let back : i / c * c + i % c ≡ i = div-add-mod' i c in
-    (omega (arith, back, inside.0), corner_inside ds cs is (omega (arith, same)) inside.1)
 
 -- ---- the dimensions from the k-th on
 
@@ -191,6 +181,9 @@ module _ (sizes chunk : List ℕ) (place : ℕ) (same : length chunk ≡ length 
   rest_here : rest ≡ place / cells (drop (k + 1) sizes)
   rest_here = rest-is ∙ ap (λ n. place / cells (drop n sizes)) back
 
+  product_here : (ds : List ℕ) (product : ℕ) → product ≡ cells (drop j ds) → product ≡ cells (drop (k + 1) ds)
+  product_here ds product is = is ∙ ap (λ n. cells (drop n ds)) back
+
   number-is : number ≡ number_in sizes chunk place k
   number-is = ap (λ n. n % get_or sizes k 0) rest_here
 
@@ -199,18 +192,15 @@ module _ (sizes chunk : List ℕ) (place : ℕ) (same : length chunk ≡ length 
 
   -- the place in the chunk
   module _ (stride inner : ℕ) (stride-is : stride ≡ cells (drop j chunk)) (inner-is : inner ≡ inner_from sizes chunk place j) where
-    stride_here : stride ≡ cells (drop (k + 1) chunk)
-    stride_here = stride-is ∙ ap (λ n. cells (drop n chunk)) back
-
     inner_here : inner ≡ inner_from sizes chunk place (k + 1)
     inner_here = inner-is ∙ ap (inner_from sizes chunk place) back
 
     pub next_stride : stride * box ≡ cells (drop k chunk)
-    next_stride = ap (λ n. n * box) stride_here ∙ stride_more sizes chunk place same some more k low
+    next_stride = ap (λ n. n * box) (product_here chunk stride stride-is) ∙ stride_more sizes chunk place same some more k low
 
     pub next_inner : inner + number % box * stride ≡ inner_from sizes chunk place k
     next_inner =
-        let product : number % box * stride ≡ number_in sizes chunk place k % box * cells (drop (k + 1) chunk) = ap₂ (λ n s. n % box * s) number-is stride_here in
+        let product : number % box * stride ≡ number_in sizes chunk place k % box * cells (drop (k + 1) chunk) = ap₂ (λ n s. n % box * s) number-is (product_here chunk stride stride-is) in
         omega (arith, product, inner_here, inner_more sizes chunk place same some more k low)
 
     module _ (small : cells chunk ≤ most_chunk_bytes) where
@@ -222,21 +212,18 @@ module _ (sizes chunk : List ℕ) (place : ℕ) (same : length chunk ≡ length 
 
   -- the place of the chunk's first cell
   module _ (step first : ℕ) (step-is : step ≡ cells (drop j sizes)) (first-is : first ≡ first_from sizes chunk place j) where
-    step_here : step ≡ cells (drop (k + 1) sizes)
-    step_here = step-is ∙ ap (λ n. cells (drop n sizes)) back
-
     first_here : first ≡ first_from sizes chunk place (k + 1)
     first_here = first-is ∙ ap (first_from sizes chunk place) back
 
     pub next_step : step * get_or sizes k 0 ≡ cells (drop k sizes)
-    next_step = ap (λ n. n * get_or sizes k 0) step_here ∙ step_more sizes chunk place same some more k low
+    next_step = ap (λ n. n * get_or sizes k 0) (product_here sizes step step-is) ∙ step_more sizes chunk place same some more k low
 
     pub next_first : first + (number - number % box) * step ≡ first_from sizes chunk place k
     next_first =
         let corner : number - number % box ≡ number / box * box = omega (arith, div-add-mod' number box) in
         let product : (number - number % box) * step ≡ number / box * box * step = ap (λ n. n * step) corner in
         let moved : number / box * box * step ≡ number_in sizes chunk place k / box * box * cells (drop (k + 1) sizes)
-        = ap₂ (λ n s. n / box * box * s) number-is step_here in
+        = ap₂ (λ n s. n / box * box * s) number-is (product_here sizes step step-is) in
         omega (arith, product, moved, first_here, first_more sizes chunk place same some more k low)
 
     module _ (few : cells sizes ≤ most_cells) where

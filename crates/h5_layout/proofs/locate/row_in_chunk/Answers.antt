@@ -11,7 +11,8 @@ use Rattle.h5_layout.specs.ChunkCells.{AreBeside, left_in_row}
 use Rattle.h5_layout.specs.FoundChunks.{IsFirstCell}
 use Rattle.h5_layout.proofs.BesideLaws.{beside_one, by_one, left_beside, some_left}
 use Rattle.h5_layout.proofs.FoundBeside.{corner_is}
-use Rattle.h5_layout.proofs.LocateLaws.{all_from, corner_inside, first_few, first_from, inner_from, inner_small, next_first, next_inner, next_rest, next_step, next_stride, some_cells, some_size, step_few, stride_small}
+use Rattle.h5_layout.proofs.CornerInside.{corner_inside}
+use Rattle.h5_layout.proofs.LocateLaws.{all_from, first_few, first_from, inner_from, inner_small, next_first, next_inner, next_rest, next_step, next_stride, some_cells, some_size, step_few, stride_small}
 use Rattle.h5_layout.proofs.NextLaws.{corner_column}
 use Rattle.h5_layout.proofs.locate.row_in_chunk.Goals as goal
 use Rattle.h5_layout.proofs.locate.row_in_chunk.Goals.{then-k-sizes, else-k-sizes}
